@@ -1,0 +1,137 @@
+-- Laws of calls that judge their causes one after the other, and of what their answers tell.
+use mathlib.Core.Path.{_≡_, refl, sym, ap, _∙_}
+use mathlib.Core.Bool.{Bool, true, false, not, _&&_, _||_, false≢true}
+use mathlib.Core.List.{List, [], _∷_, map, List·Memᴰ, List·Memᴰ·head, List·Memᴰ·tail, Memᴰ·cast}
+use Prim.Native.Nat.{ℕ, zero, suc}
+use native.Mathlib.Omega.{arith}
+use lib.ListN.{length, getD}
+use Rattle.ids.specs.Answers.{Cause, decided, accepted, refused, Outcome, outcome, _if_}
+use Rattle.ids.proofs.Answers.{outcome-refuses, outcome-passes, outcome-done}
+
+-- Causes that a call judges one after the other.
+
+abbrev pub causeAt : ℕ → List Cause → Cause
+causeAt k cs = getD cs k (0 if false)
+
+abbrev pub None : ℕ → List Cause → Type 0
+None zero cs = Unit
+None (suc k) [] = Unit
+None (suc k) (c ∷ cs) = (c .applies ≡ false) × None k cs
+
+-- the first k of them do not apply
+pub record Passed (k : ℕ) (cs : List Cause) : Type 0 where
+  pub none : None k cs
+
+pub pass-none : {cs : List Cause} → Passed 0 cs
+pass-none = record { none = tt }
+
+one-more : (k : ℕ) (cs : List Cause) → None k cs → causeAt k cs .applies ≡ false → None (suc k) cs
+one-more zero [] p e = tt
+one-more zero (c ∷ cs) p e = (e, tt)
+one-more (suc k) [] p e = tt
+one-more (suc k) (c ∷ cs) p e = (p .0, one-more k cs (p .1) e)
+
+pub pass : {k : ℕ} {cs : List Cause} → Passed k cs → causeAt k cs .applies ≡ false → Passed (suc k) cs
+pass {k} {cs} p e = record { none = one-more k cs (p .none) e }
+
+-- a call that judges causes
+pub record Judged {A S : Type 0} (o : Outcome A S) (cs : List Cause) (before after : S) (value : A) : Type 0 where
+  pub is : o ≡ outcome cs before value after
+
+module _ {A S : Type 0} (before after : S) (value : A) where
+  refused-at : (k : ℕ) (cs : List Cause) → None k cs → causeAt k cs .applies ≡ true
+      → outcome cs before value after ≡ record { answer = refused (causeAt k cs .number); left = before }
+  refused-at zero [] p e = absurd (false≢true e)
+  refused-at zero (c ∷ cs) p e = outcome-refuses before after value (c .number) (c .applies) cs e
+  refused-at (suc k) [] p e = absurd (false≢true e)
+  refused-at (suc k) (c ∷ cs) p e = outcome-passes before after value (c .number) (c .applies) cs (p .0) ∙ refused-at k cs (p .1) e
+
+  accepted-past : (cs : List Cause) → None (length cs) cs → outcome cs before value after ≡ record { answer = accepted value; left = after }
+  accepted-past [] p = outcome-done before after value
+  accepted-past (c ∷ cs) p = outcome-passes before after value (c .number) (c .applies) cs (p .0) ∙ accepted-past cs (p .1)
+
+module _ {A S : Type 0} {o : Outcome A S} {cs : List Cause} {before after : S} {value : A} (judged : Judged o cs before after value) where
+  -- the first that applies refuses
+  pub judged-refuses : {k : ℕ} → Passed k cs → causeAt k cs .applies ≡ true → record { answer = refused (causeAt k cs .number); left = before } ≡ o
+  judged-refuses {k} p e = sym (judged .is ∙ refused-at before after value k cs (p .none) e)
+
+  -- where none applies the call is accepted
+  pub judged-accepts : Passed (length cs) cs → record { answer = accepted value; left = after } ≡ o
+  judged-accepts p = sym (judged .is ∙ accepted-past before after value cs (p .none))
+
+-- Causes that are judged alike: one that joins two tests is judged as two of one number.
+pub record Alike {A S : Type 0} (before after : S) (value : A) (cs ds : List Cause) : Type 0 where
+  pub is : outcome cs before value after ≡ outcome ds before value after
+
+module _ {A S : Type 0} {before after : S} {value : A} where
+  pub alike : {cs : List Cause} → Alike before after value cs cs
+  alike = record { is = refl }
+
+  pub under : {c : Cause} {cs ds : List Cause} → Alike before after value cs ds → Alike before after value (c ∷ cs) (c ∷ ds)
+  unfolding outcome decided
+  under {c} e = record {
+    is = ap (λ (o : Outcome A S). elim (c .applies) [ true ↦ record { answer = refused (c .number); left = before } | false ↦ o ]) (e .is);
+  }
+
+  pub judges : {cs ds : List Cause} → Alike before after value cs ds → Judged (outcome cs before value after) ds before after value
+  judges e = record { is = e .is }
+
+  split-or : (n : ℕ) (a b : Bool) (cs : List Cause) → Alike before after value (n if (a || b) ∷ cs) (n if a ∷ n if b ∷ cs)
+  unfolding outcome decided
+  split-or n true b cs = record { is = refl }
+  split-or n false b cs = record { is = refl }
+
+  split-and : (n : ℕ) (a b : Bool) (cs : List Cause) → Alike before after value (n if not (a && b) ∷ cs) (n if not a ∷ n if not b ∷ cs)
+  unfolding outcome decided
+  split-and n true b cs = record { is = refl }
+  split-and n false b cs = record { is = refl }
+
+  pub one-of : {n : ℕ} {a b : Bool} {cs ds : List Cause}
+      → Alike before after value (n if b ∷ cs) ds → Alike before after value (n if (a || b) ∷ cs) (n if a ∷ ds)
+  one-of {n} {a} {b} {cs} e = record { is = split-or n a b cs .is ∙ under e .is }
+
+  pub not-both : {n : ℕ} (a b : Bool) {cs ds : List Cause}
+      → Alike before after value (n if not b ∷ cs) ds → Alike before after value (n if not (a && b) ∷ cs) (n if not a ∷ ds)
+  not-both {n} a b {cs} e = record { is = split-and n a b cs .is ∙ under e .is }
+
+-- What an answer tells of the call.
+
+either : {R : Type 0} (P : R → Type 0) (b : Bool) (x y : R) → P x → P y → P (elim b [ true ↦ x | false ↦ y ])
+either P true x y p q = p
+either P false x y p q = q
+
+not-refused : {A : Type 0} (v : A) (n : ℕ) → accepted v ≡ refused n → ⊥
+not-refused v n e = let z : _≡_ {A = ℕ} 0 1 = cc in omega arith
+
+-- the numbers of the causes
+abbrev pub numbers : List Cause → List ℕ
+numbers cs = map (λ (c : Cause). c .number) cs
+
+module _ {A S : Type 0} (before after : S) (value : A) where
+  -- what holds of the refusal by each cause and of the acceptance holds of the outcome
+  pub outcome-all : (P : Outcome A S → Type 0) (cs : List Cause)
+      → ((n : ℕ) → List·Memᴰ n (numbers cs) → P (record { answer = refused n; left = before }))
+      → P (record { answer = accepted value; left = after }) → P (outcome cs before value after)
+  unfolding outcome decided
+  outcome-all P [] f p = p
+  outcome-all P (c ∷ cs) f p =
+      either P (c .applies) _ (outcome cs before value after) (f (c .number) (List·Memᴰ·head refl))
+      (outcome-all P cs (λ n m. f n (List·Memᴰ·tail m)) p)
+
+  module _ (cs : List Cause) where
+    -- a refused call leaves all as it was
+    pub refused-left : (n : ℕ) → outcome cs before value after .answer ≡ refused n → outcome cs before value after .left ≡ before
+    refused-left n =
+        outcome-all (λ o. o .answer ≡ refused n → o .left ≡ before) cs (λ m q e. refl) (λ e. absurd (not-refused value n e))
+
+    -- the number is that of a cause
+    pub refused-number : (n : ℕ) → outcome cs before value after .answer ≡ refused n → List·Memᴰ n (numbers cs)
+    refused-number n =
+        outcome-all (λ o. o .answer ≡ refused n → List·Memᴰ n (numbers cs)) cs (λ m q e. Memᴰ·cast (cc) q)
+        (λ e. absurd (not-refused value n e))
+
+    -- an accepted call answers and leaves what the call is to do
+    pub accepted-left : (v : A) → outcome cs before value after .answer ≡ accepted v → (v ≡ value) × (outcome cs before value after .left ≡ after)
+    accepted-left v =
+        outcome-all (λ o. o .answer ≡ accepted v → (v ≡ value) × (o .left ≡ after)) cs (λ m q e. absurd (not-refused v m (sym e)))
+        (λ e. (cc, refl))

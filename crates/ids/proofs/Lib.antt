@@ -1,0 +1,11 @@
+pub mod Views
+pub mod Orders
+pub mod Shift
+pub mod Tables
+pub mod Sorted
+pub mod Rounds
+pub mod Lists
+pub mod Answers
+pub mod Judging
+pub mod Tests
+pub mod Counted

@@ -1,0 +1,53 @@
+-- Laws of lists as they are given and as they are held, and of a number's bound over a list.
+use mathlib.Core.Path.{_≡_, refl, sym, ap, _∙_}
+use mathlib.Core.Bool.{Bool, true, false}
+use mathlib.Core.List.{List, [], _∷_, map}
+use Prim.Native.Nat.{ℕ, zero, suc, _≤_, _<_}
+use native.Mathlib.Omega.{arith}
+use native.Mathlib.Nat.{not-suc-le-zero, le-of-suc-le-suc}
+use lib.ListN.{length, take, length-map}
+use lib.Dec.{ltb}
+use borrow.Author.Tests.{lt-ltb, le-ltb, ltb-false}
+use Rattle.ids.specs.Limits.{maxList}
+use Rattle.ids.specs.declared.ElIds.{ElIds}
+use Rattle.ids.specs.declared.TypeIds.{TypeIds}
+use Rattle.ids.specs.Ids.{elOf, typeOf, elsOf, typesOf, givenOf, givenEls, givenTypes, tooLong, allBelow}
+use Rattle.ids.proofs.Views.{map-take}
+
+-- a list is given with as many numbers as its length says
+pub given-length : (n : ℕ) (xs : List ℕ) → length (givenOf n xs) ≡ n
+unfolding givenOf
+given-length zero xs = refl
+given-length (suc n) [] = ap suc (given-length n [])
+given-length (suc n) (x ∷ xs) = ap suc (given-length n xs)
+
+-- where there are as many, these are the numbers that it holds
+pub given-held : (n : ℕ) (xs : List ℕ) → n ≤ length xs → givenOf n xs ≡ take n xs
+unfolding givenOf
+given-held zero xs h = refl
+given-held (suc n) [] h = absurd (not-suc-le-zero h)
+given-held (suc n) (x ∷ xs) h = ap (λ (l : List ℕ). x ∷ l) (given-held n xs (le-of-suc-le-suc h))
+
+-- a list that is given with no more entries than a list has is held as it was given
+pub held : {A : Type 0} (f : A → ℕ) (n : ℕ) (xs : List A) → length xs ≡ maxList → tooLong (givenOf n (map f xs)) ≡ false
+    → givenOf n (map f xs) ≡ map f (take n xs)
+held f n xs long h =
+    let fits : n ≤ length (map f xs) =
+    omega (arith, ltb-false maxList (length (givenOf n (map f xs))) h, given-length n (map f xs), length-map xs f) in
+    given-held n (map f xs) fits ∙ sym (map-take f n xs)
+
+pub held-els : (l : ElIds) → length (l .ids) ≡ maxList → tooLong (givenEls l) ≡ false → givenEls l ≡ elsOf l
+held-els l long h = held elOf (l .len) (l .ids) long h
+
+pub held-types : (l : TypeIds) → length (l .ids) ≡ maxList → tooLong (givenTypes l) ≡ false → givenTypes l ≡ typesOf l
+held-types l long h = held typeOf (l .len) (l .ids) long h
+
+-- a turn of a search for a number that is not below n: past one that is
+module _ {R : Bool} (n x : ℕ) (xs : List ℕ) (turn : allBelow n (x ∷ xs) ≡ R) where
+  pub below-on : x < n → allBelow n xs ≡ R
+  unfolding allBelow
+  below-on h = rw (lt-ltb x n h, allBelow) at turn
+
+  pub below-off : n ≤ x → false ≡ R
+  unfolding allBelow
+  below-off h = rw (le-ltb x n h, allBelow) at turn

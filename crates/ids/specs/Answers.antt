@@ -1,0 +1,79 @@
+-- What a call answers: a value, or the number of its refusal (01, the table of refusals).
+use Prim.Native.Nat.{ℕ}
+use mathlib.Core.Bool.{Bool, true, false}
+use mathlib.Core.List.{List, [], _∷_}
+
+-- The numbers of the table of refusals, each by its cause.
+
+-- "sheet empty, not a multiple of 32 bytes, or over 32,768"
+abbrev pub badSheet : ℕ
+badSheet = 1
+
+-- "next index not in the sheet, or not zero on the N-th record visited of N"
+abbrev pub badChain : ℕ
+badChain = 2
+
+-- "kind, count, key, A or an unused word outside the above"
+abbrev pub malformed : ℕ
+malformed = 3
+
+-- "kinds 1 to 5 after any accepted of 6 to 14"
+abbrev pub tooLate : ℕ
+tooLate = 4
+
+-- "number not declared"
+abbrev pub undeclared : ℕ
+undeclared = 5
+
+-- "Mor's model, or a type in 4 or 12, not Model; record 4's mor not a Mor of A; record 5's morphism type not Mor"
+abbrev pub wrongKind : ℕ
+wrongKind = 6
+
+-- "application of id, comp or a morphism application function"
+abbrev pub reserved : ℕ
+reserved = 7
+
+-- "model type, function in records 4 and 5, morphism pair, variable or ambient given again"
+abbrev pub givenAgain : ℕ
+givenAgain = 8
+
+-- "an entry needed, its table at its limit"
+abbrev pub noRoom : ℕ
+noRoom = 9
+
+-- "ambient lookup of a type with none"
+abbrev pub noAmbient : ℕ
+noAmbient = 10
+
+-- "the close would at some moment hold 1,025 facts"
+abbrev pub tooManyFacts : ℕ
+tooManyFacts = 11
+
+-- a value, or the number of the refusal
+pub data Answered (A : Type 0) : Type 0 where
+  accepted : A → Answered A
+  refused : ℕ → Answered A
+
+-- a number, and whether it applies
+pub record Cause : Type 0 where
+  pub number : ℕ
+  pub applies : Bool
+
+infixl 70 _if_
+abbrev pub _if_ : ℕ → Bool → Cause
+n if b = record { number = n; applies = b }
+
+-- "The lowest number that applies is given": the causes are listed in that order, and the first that applies refuses
+unfoldable pub decided : {R : Type 0} → List Cause → (ℕ → R) → R → R
+decided [] refuse done = done
+decided (c ∷ cs) refuse done = elim (c .applies) [ true ↦ refuse (c .number) | false ↦ decided cs refuse done ]
+
+-- "left as it was": an answer, and what the call leaves
+pub record Outcome (A S : Type 0) : Type 0 where
+  pub answer : Answered A
+  pub left : S
+
+-- a refused call leaves everything as it was
+unfoldable pub outcome : {A S : Type 0} → List Cause → S → A → S → Outcome A S
+outcome causes before value after =
+    decided causes (λ n. record { answer = refused n; left = before }) (record { answer = accepted value; left = after })

@@ -1,0 +1,8 @@
+pub mod Limits
+pub mod Answers
+pub mod Order
+pub mod Table
+pub mod Sorted
+pub mod Count
+pub mod Rounds
+pub mod Ids

@@ -1,0 +1,82 @@
+-- `Models::has_func` meets its contract.
+use mathlib.Core.Path.{_≡_, refl}
+use Prim.Native.Nat.{_-_}
+use lib.ListN.{drop}
+use Rattle.signature.specs.Model.{modelOf, viewModels}
+use Rattle.signature.specs.Calls.{inModels}
+use Rattle.ids.proofs.Counted.{found, passed, ended}
+use Rattle.ids.proofs.Tests.{told}
+use Rattle.signature.proofs.Laws.{by-name}
+use borrow.Author.Needs.{needs}
+use Rattle.signature.proofs.Models.has_func.Statement.{statement}
+use Rattle.signature.proofs.Models.has_func.Tie as tie
+
+abbrev Inv-loop : tie.InvT-loop
+Inv-loop func self n i₀ i = inModels (func .0) (drop i (viewModels self)) ≡ inModels (func .0) (viewModels self)
+
+abbrev μ-loop : tie.MeasureT-loop
+μ-loop func self n i₀ i = n - i
+
+size-requires : tie.Need-size-requires Inv-loop μ-loop
+size-requires c κs = search needs
+
+loop-holds : tie.Need-loop-holds Inv-loop μ-loop
+loop-holds c = refl
+
+cast-at : tie.Need-cast-at Inv-loop μ-loop
+cast-at c = search needs
+
+mul-ids : tie.Need-mul-ids Inv-loop μ-loop
+mul-ids c = search needs
+
+element-copy-out-ids : tie.Need-element-copy-out-ids Inv-loop μ-loop
+element-copy-out-ids c = search needs
+
+names-requires : tie.Need-names-requires Inv-loop μ-loop
+names-requires c κs = search needs
+
+returns : tie.Need-returns Inv-loop μ-loop
+returns c =
+    let test = c .before .before .before in
+    let sized = test .before .before in
+    let t = sized .before .args .t1 in
+    let is = told (c .before .names .ensures) (c .if1 .taken) in
+    found (by-name _) modelOf (t .len) (t .items) (sized .size .ensures) _ (test .before .loop .inv) _ (test .loop-test .taken) is
+
+add-i : tie.Need-add-i Inv-loop μ-loop
+add-i c = search needs
+
+loop-less : tie.Need-loop-less Inv-loop μ-loop
+loop-less c = search needs
+
+loop-again : tie.Need-loop-again Inv-loop μ-loop
+loop-again c =
+    let test = c .before .before .before in
+    let sized = test .before .before in
+    let t = sized .before .args .t1 in
+    let is = told (c .before .names .ensures) (c .if1 .left) in
+    passed (by-name _) modelOf (t .len) (t .items) (sized .size .ensures) _ (test .before .loop .inv) _ (test .loop-test .taken) is
+
+returns-2 : tie.Need-returns-2 Inv-loop μ-loop
+returns-2 c =
+    let sized = c .before .before in
+    let t = sized .before .args .t1 in
+    ended (by-name _) modelOf (t .len) (t .items) (sized .size .ensures) _ (c .before .loop .inv) (c .loop-test .left)
+
+pub has-func-spec : {M : Type 1} → statement M
+has-func-spec =
+    tie.close
+    (tie.spec
+    Inv-loop
+    μ-loop
+    size-requires
+    loop-holds
+    cast-at
+    mul-ids
+    element-copy-out-ids
+    names-requires
+    returns
+    add-i
+    loop-less
+    loop-again
+    returns-2)

@@ -1,0 +1,193 @@
+-- The signature (01, "Types from the signature") as the definitions speak of it, and the view of the code's tables.
+use Prim.Native.Nat.{ℕ, _≤_}
+use mathlib.Core.Path.{_≡_}
+use mathlib.Core.List.{List, [], _∷_, map}
+use lib.ListN.{take, length, getD}
+use Rattle.ids.specs.Ids.{typesOf, givenTypes}
+use Rattle.ids.specs.declared.TypeId.{TypeId}
+use Rattle.ids.specs.declared.TypeIds.{TypeIds}
+use Rattle.signature.specs.declared.TypeKind.{TypeKind}
+use Rattle.signature.specs.declared.TypeKind.the-variants.{Plain, Model, Enum, Mor}
+use Rattle.signature.specs.declared.Type as code-type
+use Rattle.signature.specs.declared.Pred.{Pred}
+use Rattle.signature.specs.declared.Func.{Func}
+use Rattle.signature.specs.declared.ModelIds.{ModelIds}
+use Rattle.signature.specs.declared.MorAppFunc.{MorAppFunc}
+use Rattle.signature.specs.declared.Types.{Types}
+use Rattle.signature.specs.declared.Preds.{Preds}
+use Rattle.signature.specs.declared.Funcs.{Funcs}
+use Rattle.signature.specs.declared.Models.{Models}
+use Rattle.signature.specs.declared.MorAppFuncs.{MorAppFuncs}
+use Rattle.signature.specs.declared.Signature.{Signature}
+
+-- "Types (at most 32)"
+abbrev pub maxTypes : ℕ
+maxTypes = 32
+
+-- "Predicates (32)"
+abbrev pub maxPreds : ℕ
+maxPreds = 32
+
+-- "Functions (64)"
+abbrev pub maxFuncs : ℕ
+maxFuncs = 64
+
+-- "Models (8)"
+abbrev pub maxModels : ℕ
+maxModels = 8
+
+-- "Up to 32 morphism application functions"
+abbrev pub maxMorApps : ℕ
+maxMorApps = 32
+
+-- "a kind, 0 Plain, 1 Model, 2 Enum, 3 Mor with its model type"
+pub data Kind : Type 0 where
+  plain : Kind
+  model : Kind
+  enum : Kind
+  mor : ℕ → Kind
+
+-- "Types (at most 32) have a kind, .. and enclosing model types, outermost first."
+pub record TypeM : Type 0 where
+  pub kind : Kind
+  pub parents : List ℕ
+
+-- "Predicates (32) have parents and arity."
+pub record PredM : Type 0 where
+  pub parents : List ℕ
+  pub arity : List ℕ
+
+-- "Functions (64) have parents, domain and codomain."
+pub record FuncM : Type 0 where
+  pub parents : List ℕ
+  pub domain : List ℕ
+  pub codomain : ℕ
+
+-- "Models (8) name type, mor, dom, cod, id, comp."
+pub record ModelM : Type 0 where
+  pub typ : ℕ
+  pub mor : ℕ
+  pub dom : ℕ
+  pub cod : ℕ
+  pub id : ℕ
+  pub comp : ℕ
+
+-- "morphism application functions have a morphism and a member type"
+pub record MorAppM : Type 0 where
+  pub func : ℕ
+  pub morphism-type : ℕ
+  pub member-type : ℕ
+
+pub record Sig : Type 0 where
+  pub types : List TypeM
+  pub preds : List PredM
+  pub funcs : List FuncM
+  pub models : List ModelM
+  pub mor-apps : List MorAppM
+
+unfoldable pub empty : Sig
+empty = record { types = []; preds = []; funcs = []; models = []; mor-apps = [] }
+
+-- each table replaced, the others as they were
+unfoldable pub with-types : Sig → List TypeM → Sig
+with-types g ts = record { types = ts; preds = g .preds; funcs = g .funcs; models = g .models; mor-apps = g .mor-apps }
+
+unfoldable pub with-preds : Sig → List PredM → Sig
+with-preds g ps = record { types = g .types; preds = ps; funcs = g .funcs; models = g .models; mor-apps = g .mor-apps }
+
+unfoldable pub with-funcs : Sig → List FuncM → Sig
+with-funcs g fs = record { types = g .types; preds = g .preds; funcs = fs; models = g .models; mor-apps = g .mor-apps }
+
+unfoldable pub with-models : Sig → List ModelM → Sig
+with-models g ms = record { types = g .types; preds = g .preds; funcs = g .funcs; models = ms; mor-apps = g .mor-apps }
+
+unfoldable pub with-mor-apps : Sig → List MorAppM → Sig
+with-mor-apps g ms = record { types = g .types; preds = g .preds; funcs = g .funcs; models = g .models; mor-apps = ms }
+
+-- what stands for a type, a predicate or a function that is not declared
+abbrev pub noType : TypeM
+noType = record { kind = plain; parents = [] }
+
+abbrev pub noPred : PredM
+noPred = record { parents = []; arity = [] }
+
+abbrev pub noFunc : FuncM
+noFunc = record { parents = []; domain = []; codomain = 0 }
+
+abbrev pub typeAt : Sig → ℕ → TypeM
+typeAt g t = getD (g .types) t noType
+
+abbrev pub predAt : Sig → ℕ → PredM
+predAt g p = getD (g .preds) p noPred
+
+abbrev pub funcAt : Sig → ℕ → FuncM
+funcAt g f = getD (g .funcs) f noFunc
+
+-- The view of the code's tables.
+
+abbrev pub kindOf : TypeKind → Kind
+kindOf Plain = plain
+kindOf Model = model
+kindOf Enum = enum
+kindOf (Mor t) = mor (t .0)
+
+abbrev pub typeOf : code-type.Type → TypeM
+typeOf t = record { kind = kindOf (t .kind); parents = typesOf (t .parents) }
+
+abbrev pub predOf : Pred → PredM
+predOf p = record { parents = typesOf (p .parents); arity = typesOf (p .arity) }
+
+abbrev pub funcOf : Func → FuncM
+funcOf f = record { parents = typesOf (f .parents); domain = typesOf (f .domain); codomain = f .codomain .0 }
+
+abbrev pub modelOf : ModelIds → ModelM
+modelOf m = record {
+  typ = m .«type_» .0;
+  mor = m .mor .0;
+  dom = m .dom .0;
+  cod = m .cod .0;
+  id = m .id .0;
+  comp = m .comp .0;
+}
+
+abbrev pub morAppOf : MorAppFunc → MorAppM
+morAppOf m = record {
+  func = m .func .0;
+  morphism-type = m .types .«morphism_type» .0;
+  member-type = m .types .«member_type» .0;
+}
+
+abbrev pub viewTypes : Types → List TypeM
+viewTypes t = map typeOf (take (t .len) (t .items))
+
+abbrev pub viewPreds : Preds → List PredM
+viewPreds t = map predOf (take (t .len) (t .items))
+
+abbrev pub viewFuncs : Funcs → List FuncM
+viewFuncs t = map funcOf (take (t .len) (t .items))
+
+abbrev pub viewModels : Models → List ModelM
+viewModels t = map modelOf (take (t .len) (t .items))
+
+abbrev pub viewMorApps : MorAppFuncs → List MorAppM
+viewMorApps t = map morAppOf (take (t .len) (t .items))
+
+abbrev pub sigOf : Signature → Sig
+sigOf s = record {
+  types = viewTypes (s .types);
+  preds = viewPreds (s .preds);
+  funcs = viewFuncs (s .funcs);
+  models = viewModels (s .models);
+  mor-apps = viewMorApps (s .«mor_app_funcs»);
+}
+
+-- A type, a predicate and a function as they are given to a call: a list of over four entries is seen as such.
+
+abbrev pub givenType : code-type.Type → TypeM
+givenType t = record { kind = kindOf (t .kind); parents = givenTypes (t .parents) }
+
+abbrev pub givenPred : Pred → PredM
+givenPred p = record { parents = givenTypes (p .parents); arity = givenTypes (p .arity) }
+
+abbrev pub givenFunc : Func → FuncM
+givenFunc f = record { parents = givenTypes (f .parents); domain = givenTypes (f .domain); codomain = f .codomain .0 }

@@ -1,0 +1,5 @@
+pub mod Numbers
+pub mod Laws
+pub mod Arrays
+pub mod Theorems
+pub mod Examples

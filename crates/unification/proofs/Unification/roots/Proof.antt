@@ -1,0 +1,91 @@
+-- `Unification::roots` meets its contract.
+use mathlib.Core.Path.{_≡_, refl, ap, _∙_}
+use mathlib.Core.List.{map}
+use Prim.Native.Nat.{_-_, _≤_}
+use native.Mathlib.Omega.{arith}
+use lib.ListN.{length, take, length-set}
+use Rattle.ids.specs.Limits.{maxList}
+use Rattle.ids.specs.Ids.{elOf}
+use Rattle.ids.proofs.Views.{long, filled-more, filled-all}
+use Rattle.unification.specs.Roots.{linksOf, rootOf, findOf, FindM}
+use borrow.Author.Needs.{needs}
+use Rattle.unification.proofs.Unification.roots.Statement.{statement}
+use Rattle.unification.proofs.Unification.roots.Tie as tie
+
+abbrev Inv-loop : tie.InvT-loop
+Inv-loop self els out₀ n i₀ out i =
+    (i ≤ n) × (out .len ≡ els .len) × (length (out .ids) ≡ length (els .ids))
+    × (map elOf (take i (out .ids)) ≡ map (rootOf (linksOf self)) (map elOf (take i (els .ids))))
+
+abbrev μ-loop : tie.MeasureT-loop
+μ-loop self els out₀ n i₀ out i = n - i
+
+size-requires : tie.Need-size-requires Inv-loop μ-loop
+size-requires c κs = search needs
+
+loop-holds : tie.Need-loop-holds Inv-loop μ-loop
+loop-holds c = (omega arith, refl, refl, refl)
+
+mul-el : tie.Need-mul-el Inv-loop μ-loop
+mul-el c = search needs
+
+element-copy-out-el : tie.Need-element-copy-out-el Inv-loop μ-loop
+element-copy-out-el c = search needs
+
+find-requires : tie.Need-find-requires Inv-loop μ-loop
+find-requires c κs = search needs
+
+mul-root : tie.Need-mul-root Inv-loop μ-loop
+mul-root c = search needs
+
+element-set-from-root : tie.Need-element-set-from-root Inv-loop μ-loop
+element-set-from-root c = search needs
+
+add-i : tie.Need-add-i Inv-loop μ-loop
+add-i c = search needs
+
+loop-less : tie.Need-loop-less Inv-loop μ-loop
+loop-less c = search needs
+
+loop-again : tie.Need-loop-again Inv-loop μ-loop
+unfolding findOf
+loop-again c =
+    let turn = c .before .before .before in
+    let l = turn .before .loop in
+    let a = turn .before .before .before .args in
+    let four : length (a .t2 .ids) ≡ maxList = search (needs, long) in
+    let n = turn .before .before .size .ensures in
+    let found = ap (λ (f : FindM). f .root) (c .before .find .ensures) in (
+      omega arith,
+      l .inv .1,
+      simp length-set (l .inv .2),
+      filled-more elOf (rootOf (linksOf (a .self))) (a .t2 .ids) (l .out .ids) (l .i) (record { 0 = 0 }) _ (l .inv .3)
+          (omega (arith, n .most)) (omega (arith, n .most, l .inv .2)) found,
+    )
+
+returns : tie.Need-returns Inv-loop μ-loop
+returns c =
+    let l = c .before .loop in
+    let a = c .before .before .before .args in
+    let n = c .before .before .size in
+    let all : l .i ≡ n .result = omega (arith) in
+    rw (l .inv .1) (filled-all elOf (rootOf (linksOf (a .self))) (a .t2 .ids) (l .out .ids) (a .t2 .len) (l .i)
+    (all ∙ n .ensures .is) (l .inv .2) (l .inv .3))
+
+pub roots-spec : {M : Type 1} → statement M
+roots-spec =
+    tie.close
+    (tie.spec
+    Inv-loop
+    μ-loop
+    size-requires
+    loop-holds
+    mul-el
+    element-copy-out-el
+    find-requires
+    mul-root
+    element-set-from-root
+    add-i
+    loop-less
+    loop-again
+    returns)

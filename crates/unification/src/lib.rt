@@ -1,0 +1,217 @@
+// The link table of the elements (unification.rs): roots, and the classes that merges make.
+// `root_const` and `root` are the public finds; the other functions serve our own crates.
+use ids::ElId;
+use ids::ElIds;
+use ids::Refusal;
+ghost use mathlib.Core.Path.{_≡_};
+ghost use mathlib.Core.List.{map};
+ghost use lib.ListN.{set};
+ghost use Rattle.ids.specs.Ids.{elsOf};
+ghost use Rattle.ids.specs.Table.{Sized};
+ghost use Rattle.unification.specs.Roots.{maxEls, linksOf, rootOf, fresh, findOf, found, shortenedOf, shortened, mergedOf, addedOf, rootConst, answered, root, rooted};
+
+// Element e links to links[e]; the first `len` are there.
+pub struct Unification {
+    pub links: [u16; Unification::MAX_ELS],
+    pub len: u16,
+}
+
+// A root, and the number of links followed to it.
+pub struct Find {
+    pub root: ElId,
+    pub count: u16,
+}
+
+// The answer of a public find.
+pub enum Finding {
+    Found(Find),
+    Refused(u16),
+}
+
+// A find, and the table that it leaves.
+pub struct Shortened {
+    pub find: Find,
+    pub unification: Unification,
+}
+
+// The answer of a public find, and the table that it leaves.
+pub struct Rooted {
+    pub find: Finding,
+    pub unification: Unification,
+}
+
+impl Unification {
+    pub const MAX_ELS: usize = 256;
+
+    // The table of no elements, with every entry numbered.
+    pub fn new() -> Self
+        ensures { λ r. ⌜ r ≡ fresh ⌝ }
+    {
+        let mut links = [0; Unification::MAX_ELS];
+        let mut i: u16 = 0;
+        while (i as usize) < Unification::MAX_ELS {
+            let at = i as usize;
+            links[at] = i;
+            i += 1;
+        }
+        Unification { links, len: 0 }
+    }
+
+    // How many elements are there: a length over the limit counts as the limit.
+    pub fn size(self) -> usize
+        ensures { λ r. ⌜ Sized (linksOf self) maxEls r ⌝ }
+    {
+        let n = self.len as usize;
+        if n < Unification::MAX_ELS {
+            n
+        } else {
+            Unification::MAX_ELS
+        }
+    }
+
+    // The root of `el`, with no link altered. A number that is no element is its own root.
+    pub fn find(self, el: ElId) -> Find
+        ensures { λ r. ⌜ found r ≡ findOf (linksOf self) (el .0) ⌝ }
+    {
+        let mut x = el.0;
+        let mut count: u16 = 0;
+        let at = x as usize;
+        if self.size() <= at {
+            return Find { root: el, count };
+        }
+        let mut to = self.links[at];
+        while to < x {
+            x = to;
+            count += 1;
+            let next = to as usize;
+            to = self.links[next];
+        }
+        let root = ElId(x);
+        Find { root, count }
+    }
+
+    // The roots of a list of elements.
+    pub fn roots(self, els: ElIds) -> ElIds
+        ensures { λ r. ⌜ elsOf r ≡ map (rootOf (linksOf self)) (elsOf els) ⌝ }
+    {
+        let mut out = els;
+        let n = els.size();
+        for i in 0..n {
+            let el = els.ids[i];
+            let found = self.find(el);
+            let root = found.root;
+            out.ids[i] = root;
+        }
+        out
+    }
+
+    // The root of `el`. Each element passed then links to what its former link linked to.
+    pub fn shorten(self, el: ElId) -> Shortened
+        ensures { λ r. ⌜ shortened r ≡ shortenedOf (linksOf self) (el .0) ⌝ }
+    {
+        let mut u = self;
+        let mut x = el.0;
+        let mut passed: u16 = 0;
+        let at = x as usize;
+        if self.size() <= at {
+            return Shortened {
+                find: Find {
+                    root: el,
+                    count: passed,
+                },
+                unification: u,
+            };
+        }
+        let mut parent = u.links[at];
+        while parent < x {
+            let here = x as usize;
+            let next = parent as usize;
+            let after = u.links[next];
+            u.links[here] = after;
+            x = parent;
+            passed += 1;
+            parent = after;
+        }
+        Shortened {
+            find: Find {
+                root: ElId(x),
+                count: passed,
+            },
+            unification: u,
+        }
+    }
+
+    // Links the element `from`, where it is there, to `to`.
+    fn relink(self, from: u16, to: u16) -> Unification
+        ensures { λ r. ⌜ linksOf r ≡ set (linksOf self) from to ⌝ }
+    {
+        let mut u = self;
+        let at = from as usize;
+        if self.size() <= at {
+            return u;
+        }
+        u.links[at] = to;
+        u
+    }
+
+    // Links the larger of two roots to the smaller.
+    pub fn union_roots(self, a: ElId, b: ElId) -> Unification
+        ensures { λ r. ⌜ linksOf r ≡ mergedOf (linksOf self) (a .0) (b .0) ⌝ }
+    {
+        let x = a.0;
+        let y = b.0;
+        if x < y {
+            return self.relink(y, x);
+        }
+        if y < x {
+            return self.relink(x, y);
+        }
+        self
+    }
+
+    // One element more, linked to itself, where there is room.
+    pub fn increase_size(self) -> Unification
+        ensures { λ r. ⌜ linksOf r ≡ addedOf (linksOf self) ⌝ }
+    {
+        let mut u = self;
+        let at = self.size();
+        if Unification::MAX_ELS <= at {
+            return u;
+        }
+        let el = at as u16;
+        u.links[at] = el;
+        u.len = el + 1;
+        u
+    }
+
+    // The public find that alters no link.
+    pub fn root_const(self, el: ElId) -> Finding
+        ensures { λ r. ⌜ record { answer = answered r; left = linksOf self } ≡ rootConst (linksOf self) (el .0) ⌝ }
+    {
+        let at = el.0 as usize;
+        if self.size() <= at {
+            return Finding::Refused(Refusal::UNDECLARED);
+        }
+        Finding::Found(self.find(el))
+    }
+
+    // The public find that shortens the path.
+    pub fn root(self, el: ElId) -> Rooted
+        ensures { λ r. ⌜ rooted r ≡ root (linksOf self) (el .0) ⌝ }
+    {
+        let at = el.0 as usize;
+        if self.size() <= at {
+            return Rooted {
+                find: Finding::Refused(Refusal::UNDECLARED),
+                unification: self,
+            };
+        }
+        let s = self.shorten(el);
+        let find = s.find;
+        let unification = s.unification;
+        Rooted {
+            find: Finding::Found(find),
+            unification,
+        }
+    }
+}
