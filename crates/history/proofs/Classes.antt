@@ -1,0 +1,126 @@
+-- The classes of a book that is tied to a structure in which nothing is left to join: they are those of the roots.
+use mathlib.Core.Path.{_≡_, refl, sym, subst, ap, _∙_}
+use mathlib.Core.Logic.{_≢_, _⊎_, inl, inr}
+use mathlib.Core.Bool.{Bool, true, false}
+use mathlib.Core.List.{List, [], List·Memᴰ, Memᴰ·cast}
+use Prim.Native.Nat.{ℕ, _<_}
+use native.Mathlib.Omega.{arith}
+use lib.Dec.{T, eqb}
+use borrow.Author.Tests.{eqb-true, eq-eqb}
+use Rattle.ids.proofs.Sorted.{All, all-at, all-from, Sorted}
+use Rattle.ids.specs.Count.{count}
+use Rattle.unification.specs.Roots.{rootOf}
+use Rattle.unification.proofs.Numbers.{same-or}
+use Rattle.unification.proofs.Laws.{root-le, root-root}
+use Rattle.semantics.specs.Structure.{FuncApp, compareFuncApp, canonicalFuncApp}
+use Rattle.semantics.specs.Types.{Core}
+use Rattle.history.specs.Book.{Book, elements, Partition, FitsBook, SharedBy, Shared, Classes}
+use Rattle.history.proofs.Relation.{OneRoot, one-root, one-rooted, Like, like-self, like-respects}
+use Rattle.semantics.proofs.Counts.{roots, isRoot, count-alike}
+use Rattle.history.proofs.Drain.{Even}
+use Rattle.history.proofs.Functionality.{Canon, settled-agree, meet-images}
+use Rattle.history.proofs.Passes.{Fair}
+use Rattle.history.proofs.Calls.{Told, Tied}
+
+-- an application of the book, or of a table
+abbrev In : List FuncApp → FuncApp → Type 0
+In l x = List·Memᴰ x l
+
+-- an application is the image, under the roots, of one in a list
+pub record ImageOf (ls : List ℕ) (l : List FuncApp) (x : FuncApp) : Type 0 where
+  pub of : FuncApp
+  pub among : List·Memᴰ of l
+  pub is : canonicalFuncApp ls of ≡ x
+
+-- two applications that are alike by their roots have one image
+like-image : (ls : List ℕ) (l : List FuncApp) (x : FuncApp) (k : Like (OneRoot ls) (In l) x) → canonicalFuncApp ls (k .of) ≡ canonicalFuncApp ls x
+unfolding canonicalFuncApp
+like-image ls l x k =
+    let m = meet-images ls (k .of) x (k .meet) in
+    λ i. record { func = m .func i; parents = m .parents i; args = m .args i; result = k .result i }
+
+module _ (b : Book) (w : Core) (xs : List FuncApp) (g : Tied b w xs) where
+  abbrev ls : List ℕ
+  ls = w .links
+
+  -- a partition that fits the book agrees with the structure
+  fits-fair : (R : ℕ → ℕ → Type 0) → Partition R → FitsBook b R → Fair R (Like R (In (b .apps))) w xs
+  fits-fair R q f =
+      g .on R (Like R (In (b .apps))) q (like-respects R q (In (b .apps)) (f .functional))
+      (all-from (Even R) (b .equalities) (f .equal), all-from (Like R (In (b .apps))) (b .apps) (like-self R q (In (b .apps))))
+
+  pub shared-if : (x y : ℕ) → OneRoot ls x y → Shared b x y
+  unfolding SharedBy
+  shared-if x y e R q f =
+      let r = fits-fair R q f .rooted in q .trans (q .flip (r x)) (subst (λ z. R z y) (sym e) (r y))
+
+  module _ (none : w .pairs ≡ []) (sorted : Sorted compareFuncApp xs) (canon : All (Canon ls) xs) where
+    root-told : Told (OneRoot ls) (Like (OneRoot ls) (In xs)) b
+    root-told =
+        g .back (OneRoot ls) (Like (OneRoot ls) (In xs)) (one-root ls)
+        (like-respects (OneRoot ls) (one-root ls) (In xs) (settled-agree ls xs sorted canon))
+        (record {
+          rooted = one-rooted ls;
+          pairs = subst (All (Even (OneRoot ls))) (sym none) tt;
+          apps = all-from (Like (OneRoot ls) (In xs)) xs (like-self (OneRoot ls) (one-root ls) (In xs));
+        })
+
+    -- the partition by roots fits
+    root-fits : FitsBook b (OneRoot ls)
+    root-fits = record {
+      equal = all-at (Even (OneRoot ls)) (b .equalities) (root-told .0);
+      functional = λ x y mx my m.
+          like-respects (OneRoot ls) (one-root ls) (In xs) (settled-agree ls xs sorted canon) .agree x y m
+          (all-at (Like (OneRoot ls) (In xs)) (b .apps) (root-told .1) x mx) (all-at (Like (OneRoot ls) (In xs)) (b .apps) (root-told .1) y my);
+    }
+
+    pub only-shared : (x y : ℕ) → Shared b x y → OneRoot ls x y
+    unfolding SharedBy
+    only-shared x y h = h (OneRoot ls) (one-root ls) root-fits
+
+    -- there are as many classes as roots
+    pub root-classes : Classes b (roots ls)
+    unfolding roots isRoot
+    root-classes = record {
+      lowest = isRoot ls;
+      is = λ e h. (λ t d l z. only e t d l (only-shared d e z), λ f. first e f (same-or (rootOf ls e) e));
+      many = ap (count (isRoot ls)) (sym (g .ready .kept .long));
+    }
+      where
+        passes : (t : Bool) → T t → t ≡ true
+        passes true h = refl
+        passes false h = absurd h
+
+        only : (e : ℕ) → T (eqb (rootOf ls e) e) → (d : ℕ) → d < e → rootOf ls d ≡ rootOf ls e → ⊥
+        only e t d l z = omega (arith, root-le ls d, eqb-true (rootOf ls e) e (passes (eqb (rootOf ls e) e) t))
+
+        first : (e : ℕ) → ((d : ℕ) → d < e → Shared b d e → ⊥) → (rootOf ls e ≡ e) ⊎ (rootOf ls e ≢ e) → T (eqb (rootOf ls e) e)
+        first e f (inl q) = rw (eq-eqb (rootOf ls e) e q) tt
+        first e f (inr q) = absurd (f (rootOf ls e) (omega (arith, root-le ls e)) (shared-if (rootOf ls e) e (root-root ls e)))
+
+    -- each stored application is the root image of one in the book
+    pub stored-image : (x : FuncApp) → List·Memᴰ x xs → ImageOf ls (b .apps) x
+    stored-image x m =
+        let k = all-at (Like (OneRoot ls) (In (b .apps))) xs (fits-fair (OneRoot ls) (one-root ls) root-fits .apps) x m in
+        record { of = k .of; among = k .has; is = like-image ls (b .apps) x k ∙ all-at (Canon ls) xs canon x m }
+
+    -- and conversely
+    pub image-stored : (x : FuncApp) → List·Memᴰ x (b .apps) → List·Memᴰ (canonicalFuncApp ls x) xs
+    image-stored x m =
+        let k = all-at (Like (OneRoot ls) (In xs)) (b .apps) (root-told .1) x m in
+        Memᴰ·cast (sym (like-image ls xs x k) ∙ all-at (Canon ls) xs canon (k .of) (k .has)) (k .has)
+
+-- The number of classes is one number.
+
+same-test : (p q : Bool) → (T p → T q) → (T q → T p) → p ≡ q
+same-test true true f g = refl
+same-test true false f g = absurd (f tt)
+same-test false true f g = absurd (g tt)
+same-test false false f g = refl
+
+pub classes-unique : (b : Book) (j k : ℕ) → Classes b j → Classes b k → j ≡ k
+classes-unique b j k x y =
+    sym (x .many)
+    ∙ count-alike (x .lowest) (y .lowest) (elements b)
+    (λ e h. same-test (x .lowest e) (y .lowest e) (λ t. y .is e h .1 (x .is e h .0 t)) (λ t. x .is e h .1 (y .is e h .0 t)))
+    ∙ y .many

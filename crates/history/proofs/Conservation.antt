@@ -1,0 +1,41 @@
+-- The conservation rule (demand 3).
+use mathlib.Core.Path.{_≡_, sym, ap, _∙_}
+use mathlib.Core.List.{List, [], _∷_, _++_, append-assoc}
+use native.Mathlib.Omega.{arith}
+use Rattle.unification.specs.Roots.{rootOf}
+use Rattle.unification.proofs.Laws.{root-le, root-root}
+use Rattle.semantics.specs.Close.{Closed, coreOf}
+use Rattle.semantics.specs.Calls.{Call, close}
+use Rattle.history.specs.Book.{History, run, history, Conserved, Conservation}
+use Rattle.history.proofs.Classes.{shared-if, only-shared, root-classes}
+use Rattle.history.proofs.Histories.{Returned, returned, history-goes-on}
+
+-- where a close has returned, the classes are those of the roots
+returned-conserves : (h : History) (c : Closed) → Returned h c → Conserved (h .book) (h .machine .structure .links) c
+unfolding coreOf
+returned-conserves h c r =
+    let b = h .book in
+    let v = h .machine .structure in
+    let w = coreOf v in
+    let only = only-shared b w (v .func-apps) (r .tied) (r .pairs) (r .sorted) (r .canon) in
+    let shared = shared-if b w (v .func-apps) (r .tied) in
+    record {
+      classes = _;
+      counted = root-classes b w (v .func-apps) (r .tied) (r .pairs) (r .sorted) (r .canon);
+      sum = sym (r .tied .sum);
+      one-root = λ x y hx hy. (shared x y, only x y);
+      of-class = λ x hx. (omega (arith, root-le (v .links) x), shared x (rootOf (v .links) x) (sym (root-root (v .links) x)));
+      lowest = λ x y hx hy z. omega (arith, root-le (v .links) y, only x y z);
+      few = r .few;
+    }
+
+-- For every list of calls and every accepted close in it with no element marked up to then: the elements added are the classes and all merges
+-- that the accepted closes so far reported; two elements have one root exactly when they share a class; the root is the class's lowest number;
+-- and that close's rounds are at most its merges and two.
+pub conservation : Conservation
+unfolding Conservation
+conservation before c accepted unmarked = returned-conserves (history (before ++ (close ∷ []))) c (returned before c accepted unmarked)
+
+-- A list that goes on after that close has come through there.
+pub goes-through : (before after : List Call) → history (before ++ (close ∷ after)) ≡ run after (history (before ++ (close ∷ [])))
+goes-through before after = ap history (sym (append-assoc before (close ∷ []) after)) ∙ history-goes-on (before ++ (close ∷ [])) after

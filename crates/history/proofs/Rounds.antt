@@ -1,0 +1,109 @@
+-- The rounds of a close, where no element is marked: they settle, and they are few.
+use mathlib.Core.Path.{_≡_, refl, sym, subst, ap, _∙_}
+use mathlib.Core.Bool.{Bool, true, false, _&&_, and-true}
+use mathlib.Core.List.{List, [], _∷_}
+use mathlib.Core.Option.{Option, none, some}
+use Prim.Native.Nat.{ℕ, zero, suc, _+_, _≤_, _<_}
+use native.Mathlib.Omega.{arith}
+use Rattle.ids.proofs.Sorted.{All, Sorted, no-test}
+use Rattle.signature.specs.Model.{Sig}
+use Rattle.semantics.specs.Structure.{FuncApp, PredApp, Pair, compareFuncApp}
+use Rattle.semantics.specs.Types.{Core}
+use Rattle.semantics.specs.Close.{Turn, round, Rounds, isNone, lastRound, oneMore, roundsFrom, rounds, fuel}
+use Rattle.semantics.proofs.Cases.{and-second}
+use Rattle.history.proofs.Drain.{Apart}
+use Rattle.history.proofs.Functionality.{Canon}
+use Rattle.history.proofs.Passes.{Ready, Passed, Turned, passed-none, passed-then, round-turned, round-passed, round-merges, round-rests}
+
+-- what rounds leave that began with w and its applications: so many merges were made before
+pub record Settled (n total before : ℕ) (w : Core) (xs : List FuncApp) (r : Rounds) : Type 1 where
+  pub passed : Passed n total w xs (r .core) (r .apps)
+  pub sorted : Sorted compareFuncApp (r .apps)
+  pub canon : All (Canon (r .core .links)) (r .apps)
+  pub pairs : r .core .met ≡ none → r .core .pairs ≡ []
+  pub few : r .count + before ≤ r .core .merges + 2
+
+-- of the rounds from the one that left t on
+abbrev SettledFrom : ℕ → ℕ → Turn → Rounds → Type 1
+SettledFrom n total t r = Settled n total (t .core .merges) (t .core) (t .apps) r
+
+pub isNone-none : (o : Option ℕ) → isNone o ≡ true → o ≡ none
+unfolding isNone
+isNone-none none e = refl
+isNone-none (some n) e = no-test e refl
+
+pub none-isNone : (o : Option ℕ) → o ≡ none → isNone o ≡ true
+unfolding isNone
+none-isNone o e = ap isNone e
+
+-- a round that reports nothing is the last
+pub stop : (g : Sig) (preds : List PredApp) (k : ℕ) (t : Turn) → t .worked ≡ false → roundsFrom k g preds t ≡ lastRound t
+unfolding roundsFrom
+stop g preds zero t e = refl
+stop g preds (suc k) t e = rw e
+
+module _ (n total : ℕ) (g : Sig) (preds : List PredApp) where
+  last : (t : Turn) → Turned n total g preds t → (t .core .met ≡ none → t .core .pairs ≡ []) → SettledFrom n total t (lastRound t)
+  unfolding lastRound
+  last t a e = record {
+    passed = passed-none n total (t .core) (t .apps) (a .ready);
+    sorted = a .left .sorted;
+    canon = a .left .canon;
+    pairs = e;
+    few = omega arith;
+  }
+
+  -- a round that worked is followed by one that rests, or by one that merges
+  from-law : (k : ℕ) (t : Turn) → Turned n total g preds t → total < k + t .core .merges → SettledFrom n total t (roundsFrom k g preds t)
+  unfolding roundsFrom oneMore
+  from-law zero t a h = absurd (omega (arith, a .ready .kept .sum))
+  from-law (suc k) t a h = go (t .worked && isNone (t .core .met)) refl (λ l. from-law k u turned (omega arith))
+    where
+      u : Turn
+      u = round g preds (t .apps) (t .core)
+
+      turned : Turned n total g preds u
+      turned = round-turned n total g preds (t .apps) (t .core) (a .ready)
+
+      more : (r : Rounds) → SettledFrom n total u r → r .count + t .core .merges ≤ r .core .merges + 1 → SettledFrom n total t (oneMore r)
+      more r s few = (unfold oneMore in record {
+        passed = passed-then (round-passed n total g preds (t .apps) (t .core) (a .ready)) (s .passed);
+        sorted = s .sorted;
+        canon = s .canon;
+        pairs = s .pairs;
+        few = omega arith;
+      })
+
+      Later : Type 1
+      Later = t .core .merges < u .core .merges → SettledFrom n total u (roundsFrom k g preds u)
+
+      next : (ps : List Pair) → t .core .pairs ≡ ps → t .core .met ≡ none → Later → SettledFrom n total t (oneMore (roundsFrom k g preds u))
+      next [] e m f =
+          let z = round-rests n total g preds t a m e in
+          subst (λ r. SettledFrom n total t (oneMore r)) (sym (stop g preds k u (ap (λ (x : Turn). x .worked) z)))
+          (more (lastRound u) (last u turned (λ _. ap (λ (x : Turn). x .core .pairs) z ∙ e))
+          (unfold lastRound in omega (arith, ap (λ (x : Turn). x .core .merges) z)))
+      next (p ∷ ps) e m f =
+          let l = round-merges n total g preds (t .apps) (t .core) (a .ready) p ps e (subst (All (Apart (t .core .links))) e (a .left .apart) .0) in
+          more (roundsFrom k g preds u) (f l) (omega (arith, f l .few))
+
+      go : (b : Bool) → (t .worked && isNone (t .core .met)) ≡ b → Later
+          → SettledFrom n total t (elim b [ true ↦ oneMore (roundsFrom k g preds u) | false ↦ lastRound t ])
+      go true e f = next (t .core .pairs) refl (isNone-none (t .core .met) (and-second (t .worked) _ e)) f
+      go false e f =
+          last t a (λ m. a .left .idle (sym (and-true (t .worked)) ∙ ap (λ (b : Bool). t .worked && b) (sym (none-isNone (t .core .met) m)) ∙ e))
+
+  -- all the rounds, of a close: it begins with no merge, and its fuel is enough
+  pub rounds-law : (apps : List FuncApp) (w : Core) → Ready n total w apps → w .merges ≡ 0 → total < fuel
+      → Settled n total 0 w apps (rounds g preds apps w)
+  unfolding rounds
+  rounds-law apps w r z h =
+      let t = round g preds apps w in
+      let s = from-law fuel t (round-turned n total g preds apps w r) (omega arith) in
+      record {
+        passed = passed-then (round-passed n total g preds apps w r) (s .passed);
+        sorted = s .sorted;
+        canon = s .canon;
+        pairs = s .pairs;
+        few = omega (arith, s .few);
+      }

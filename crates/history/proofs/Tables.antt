@@ -1,0 +1,38 @@
+-- Laws of tables that `ids` has not: of any list, sorted or not.
+use mathlib.Core.Path.{_≡_, refl, sym, _∙_}
+use mathlib.Core.Bool.{Bool, true, false}
+use mathlib.Core.List.{List, [], _∷_}
+use mathlib.Core.Option.{none}
+use Rattle.ids.specs.declared.Ordering.{Ordering}
+use Rattle.ids.specs.declared.Ordering.the-variants.{Less, Equal, Greater}
+use Rattle.ids.specs.Table.{present, placed, lookupOf}
+use Rattle.ids.proofs.Sorted.{All, Ordered, no-test, less-swap, alike-right}
+
+-- what holds of everything
+pub all-of : {A : Type 0} {P : A → Type 0} → ((x : A) → P x) → (l : List A) → All P l
+all-of f [] = tt
+all-of f (x ∷ xs) = (f x, all-of f xs)
+
+-- what is present stays so where another entry is placed
+module _ {A : Type 0} {cmp : A → A → Ordering} (o : Ordered cmp) (x y : A) where
+  pub present-stays : (l : List A) → present cmp y l ≡ true → present cmp y (placed cmp x l) ≡ true
+  unfolding present placed
+  present-stays [] e = no-test e refl
+  present-stays (z ∷ zs) e = go (cmp z x) (cmp z y) refl refl (present-stays zs) e
+    where
+      go : (s t : Ordering) → cmp z x ≡ s → cmp z y ≡ t → (present cmp y zs ≡ true → present cmp y (placed cmp x zs) ≡ true)
+          → _≡_ {A = Bool} (elim t [ Less ↦ present cmp y zs | Equal ↦ true | Greater ↦ false ]) true
+          → present cmp y (elim s [ Less ↦ z ∷ placed cmp x zs | Equal ↦ z ∷ zs | Greater ↦ x ∷ z ∷ zs ]) ≡ true
+      go Less Less p q f h = rw (q, present) (f h)
+      go Less Equal p q f h = rw (q, present)
+      go Less Greater p q f h = no-test h refl
+      go Equal t p q f h = e
+      go Greater Less p q f h = rw (o .trans x z y (less-swap o x z p) q, present) e
+      go Greater Equal p q f h = rw (sym (alike-right o z y x q) ∙ less-swap o x z p, present) e
+      go Greater Greater p q f h = no-test h refl
+
+-- where all entries are smaller, nothing is found
+pub lookup-past : {A : Type 0} (cmp : A → A → Ordering) (x : A) (l : List A) → All (λ y. cmp y x ≡ Less) l → lookupOf cmp x l ≡ none
+unfolding lookupOf
+lookup-past cmp x [] h = refl
+lookup-past cmp x (y ∷ ys) h = rw (h .0, lookupOf) (lookup-past cmp x ys (h .1))

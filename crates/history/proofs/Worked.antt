@@ -1,0 +1,106 @@
+-- A list of calls for which each hypothesis of the rule holds, computed: P3 of 01 with a refused call, a find and a second close.
+use mathlib.Core.Path.{_≡_, refl}
+use mathlib.Core.Bool.{true, false}
+use mathlib.Core.List.{List, [], _∷_, _++_}
+use Prim.Native.Nat.{ℕ}
+use native.Mathlib.Omega.{arith}
+use Rattle.ids.specs.Answers as answers
+use Rattle.ids.specs.Ids as ids
+use Rattle.ids.specs.Table as tables
+use Rattle.unification.specs.Roots as links
+use Rattle.unification.specs.Roots.{rootOf}
+use Rattle.signature.specs.Model as model
+use Rattle.signature.specs.Model.{plain}
+use Rattle.signature.specs.Calls as signature
+use Rattle.semantics.specs.Structure as structure
+use Rattle.semantics.specs.Types as types
+use Rattle.semantics.specs.Close as closing
+use Rattle.semantics.specs.Close.{Closed}
+use Rattle.semantics.specs.Calls as calls
+use Rattle.semantics.specs.Calls.{Call, push-type, push-func, push-el, equate-els, apply-func, close, root, closed, step}
+use Rattle.history.specs.Book.{blank, elements, taken, fed, isAccepted, mergesOf, noted, next, run, begin, History, history, Shared, Classes, someMark, Conserved, Conservation}
+use Rattle.history.proofs.Conservation.{conservation}
+
+-- the definitions that a list computes with
+computed : ℕ
+unfolding answers.decided answers.outcome ids.allBelow tables.present tables.lookupOf tables.placed tables.pushOf tables.rewriteInto links.follow links.rootOf links.depthOf links.shortOf links.mergedOf links.addedOf links.findOf links.root model.empty model.with-types model.with-funcs signature.pushType signature.pushFunc signature.inMorApps signature.concreteTypeAt structure.compareFact structure.compareFuncApp structure.comparePredApp structure.canonicalFact structure.canonicalFuncApp structure.canonicalPredApp structure.canonicalVar structure.empty types.mergedMarks types.movedFacts types.merge types.joinRoots types.join types.drainPairs types.drain types.factsAt types.concreteTypesOf types.refineRoots types.refine types.refineParents types.refineAll types.insertFact types.insertCanonical types.impose types.grew types.imposeAll closing.enterAt closing.enter closing.enterAll closing.demanded closing.demandedAt closing.demandedArgs closing.funcArgs closing.predArgs closing.funcResults closing.demands closing.drained closing.drainPass closing.rewrote closing.functionalityPass closing.typed closing.typingPass closing.passes closing.runPasses closing.round closing.isNone closing.lastRound closing.oneMore closing.roundsFrom closing.fuel closing.rounds closing.coreOf closing.canonicaliseRefs closing.withCore closing.answerOf closing.leftBy closing.closeWith closing.closeImposed closing.closeAfter closing.close calls.pushEl calls.equate calls.equateEls calls.isIdOrComp calls.isReserved calls.appliedEqual calls.applyAt calls.insertFuncAppOrEquate calls.applyWith calls.applyFunc calls.start calls.answerOf calls.step blank taken fed isAccepted mergesOf noted next run begin history someMark
+computed = 0
+
+-- f of 0 is 2 and f of 1 is 3; 0 and 9 are refused, since there is no 9; 0 and 1 are one
+worked : List Call
+worked =
+    push-type (record { kind = plain; parents = [] })
+    ∷ push-func (record { parents = []; domain = 0 ∷ []; codomain = 0 })
+    ∷ push-el false
+    ∷ push-el false
+    ∷ push-el false
+    ∷ push-el false
+    ∷ apply-func (record { func = 0; parents = []; args = 0 ∷ []; result = 2 })
+    ∷ apply-func (record { func = 0; parents = []; args = 1 ∷ []; result = 3 })
+    ∷ equate-els 0 9
+    ∷ equate-els 0 1
+    ∷ root 3
+    ∷ []
+
+-- "close 1 2 3"
+answered : Closed
+answered = record { changed = true; merges = 2; rounds = 3 }
+
+is-accepted : step close (history worked .machine) .answer ≡ closed answered
+unfolding computed worked answered
+is-accepted = refl
+
+-- where the list has come to when that close returns
+after : History
+after = history (worked ++ (close ∷ []))
+
+is-unmarked : someMark (after .book .marks) ≡ false
+unfolding computed worked after
+is-unmarked = refl
+
+-- so the rule says of it what it says
+rule : Conserved (after .book) (after .machine .structure .links) answered
+rule = (unfold Conservation after in conservation worked answered is-accepted is-unmarked)
+
+-- the book, computed: four elements, one equality, since the other was refused, and two merges
+four : elements (after .book) ≡ 4
+unfolding computed worked after
+four = refl
+
+one-equality : after .book .equalities ≡ record { left = 0; right = 1 } ∷ []
+unfolding computed worked after
+one-equality = refl
+
+two-merges : after .book .merges ≡ 2
+unfolding computed worked after
+two-merges = refl
+
+-- there are two classes
+two-classes : Classes (after .book) 2
+two-classes = rw two at (rule .counted)
+  where
+    two : rule .classes ≡ 2
+    two = omega (arith, rule .sum, four, two-merges)
+
+-- 2 and 3 share one, by the two applications
+two-three : Shared (after .book) 2 3
+two-three = rule .one-root 2 3 (omega (arith, four)) (omega (arith, four)) .0 same
+  where
+    same : rootOf (after .machine .structure .links) 2 ≡ rootOf (after .machine .structure .links) 3
+    same = (unfold computed worked after in refl)
+
+-- the second close reports no change
+second : step close (after .machine) .answer ≡ closed (record { changed = false; merges = 0; rounds = 1 })
+unfolding computed worked after
+second = refl
+
+-- The round limit is met: a close that merges nothing and types two elements takes two rounds.
+typing-alone : step close (history (
+    push-type (record { kind = plain; parents = [] })
+    ∷ push-func (record { parents = []; domain = 0 ∷ []; codomain = 0 })
+    ∷ push-el false
+    ∷ push-el false
+    ∷ apply-func (record { func = 0; parents = []; args = 0 ∷ []; result = 1 })
+    ∷ []) .machine) .answer ≡ closed (record { changed = true; merges = 0; rounds = 2 })
+unfolding computed
+typing-alone = refl

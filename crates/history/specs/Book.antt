@@ -1,0 +1,181 @@
+-- The conservation rule (01, "The conservation rule (demand 3)"): the book, the classes and the claim.
+use mathlib.Core.Path.{_≡_}
+use mathlib.Core.Logic.{_↔_}
+use mathlib.Core.Bool.{Bool, true, false, _||_}
+use mathlib.Core.List.{List, [], _∷_, _++_, List·Memᴰ}
+use Prim.Native.Nat.{ℕ, _+_, _≤_, _<_}
+use lib.ListN.{length}
+use lib.Dec.{T}
+use Rattle.ids.specs.Count.{count}
+use Rattle.unification.specs.Roots.{rootOf}
+use Rattle.semantics.specs.Structure.{Pair, FuncApp}
+use Rattle.semantics.specs.Close.{Closed}
+use Rattle.semantics.specs.Calls.{Call, push-type, push-pred, push-func, push-model, push-mor-app, push-el, equate-els, impose-type, apply-func, apply-pred, bind-var, bind-ambient, close, type-conflicts, root, root-const, lookup-type, ambient-parents, Answer, number, says, done, closed, conflicting, found, typed, els, refuse, Machine, Step, start, step}
+
+-- The book: "it reads no structure".
+
+pub record Book : Type 0 where
+  -- "of kind 6 the next element and its mark": entry e is the mark of element e
+  pub marks : List Bool
+  -- "of 7 the equality"
+  pub equalities : List Pair
+  -- "of 9 the application as given"
+  pub apps : List FuncApp
+  -- "the merges of an accepted 13", summed
+  pub merges : ℕ
+
+-- "Empty at first"
+unfoldable pub blank : Book
+blank = record { marks = []; equalities = []; apps = []; merges = 0 }
+
+-- the book's elements are the numbers below this
+abbrev pub elements : Book → ℕ
+elements b = length (b .marks)
+
+-- "it takes from an accepted call": of a close that merged n, the merges
+unfoldable pub taken : Call → ℕ → Book → Book
+taken (push-type t) n b = b
+taken (push-pred p) n b = b
+taken (push-func f) n b = b
+taken (push-model x) n b = b
+taken (push-mor-app x) n b = b
+taken (push-el mark) n b = record { marks = b .marks ++ (mark ∷ []); equalities = b .equalities; apps = b .apps; merges = b .merges }
+taken (equate-els x y) n b =
+    record { marks = b .marks; equalities = record { left = x; right = y } ∷ b .equalities; apps = b .apps; merges = b .merges }
+taken (impose-type f) n b = b
+taken (apply-func x) n b = record { marks = b .marks; equalities = b .equalities; apps = x ∷ b .apps; merges = b .merges }
+taken (apply-pred x) n b = b
+taken (bind-var v) n b = b
+taken (bind-ambient a) n b = b
+taken close n b = record { marks = b .marks; equalities = b .equalities; apps = b .apps; merges = n + b .merges }
+taken type-conflicts n b = b
+taken (root e) n b = b
+taken (root-const e) n b = b
+taken (lookup-type t ps) n b = b
+taken (ambient-parents ts) n b = b
+
+-- "A book is fed each call's arguments, whether it was accepted, and a close's merges"; "Every other call, and every refused one, leaves the book as it was."
+unfoldable pub fed : Call → Bool → ℕ → Book → Book
+fed k accepted n b = elim accepted [ true ↦ taken k n b | false ↦ b ]
+
+-- "whether it was accepted"
+unfoldable pub isAccepted : Answer → Bool
+isAccepted (number n) = true
+isAccepted (says b) = true
+isAccepted done = true
+isAccepted (closed c) = true
+isAccepted (conflicting l) = true
+isAccepted (found f) = true
+isAccepted (typed t) = true
+isAccepted (els l) = true
+isAccepted (refuse n) = false
+
+-- "a close's merges"
+unfoldable pub mergesOf : Answer → ℕ
+mergesOf (number n) = 0
+mergesOf (says b) = 0
+mergesOf done = 0
+mergesOf (closed c) = c .merges
+mergesOf (conflicting l) = 0
+mergesOf (found f) = 0
+mergesOf (typed t) = 0
+mergesOf (els l) = 0
+mergesOf (refuse n) = 0
+
+-- The lists of calls.
+
+-- where a list has come to: what its calls left, with the book beside it
+pub record History : Type 0 where
+  pub machine : Machine
+  pub book : Book
+
+-- what a call leaves, and the book fed with the call and its answer
+unfoldable pub noted : Call → Step → Book → History
+noted k s b = record { machine = s .after; book = fed k (isAccepted (s .answer)) (mergesOf (s .answer)) b }
+
+-- "each call gets both, or the one it takes, as the calls before it returned or left them"
+unfoldable pub next : Call → History → History
+next k h = noted k (step k (h .machine)) (h .book)
+
+-- the calls of a list, one after the other: "nothing else writes them meanwhile"
+unfoldable pub run : List Call → History → History
+run [] h = h
+run (k ∷ ks) h = run ks (next k h)
+
+-- "A list begins at the empty signature and structure"
+unfoldable pub begin : History
+begin = record { machine = start; book = blank }
+
+-- a list from its beginning
+unfoldable pub history : List Call → History
+history ks = run ks begin
+
+-- The classes.
+
+-- "A partition": R x y says that x and y are together. Of numbers that are no elements nothing is asked, so that they may stand alone.
+pub record Partition (R : ℕ → ℕ → Type 0) : Type 0 where
+  pub same : (x : ℕ) → R x x
+  pub flip : {x y : ℕ} → R x y → R y x
+  pub trans : {x y z : ℕ} → R x y → R y z → R x z
+
+-- "equally many and together place by place"
+pub data Together (R : ℕ → ℕ → Type 0) : List ℕ → List ℕ → Type 0 where
+  none : Together R [] []
+  more : {x y : ℕ} {xs ys : List ℕ} → R x y → Together R xs ys → Together R (x ∷ xs) (y ∷ ys)
+
+-- "applications of one function whose parents, and whose arguments, are equally many and together place by place"
+pub record Meet (R : ℕ → ℕ → Type 0) (x y : FuncApp) : Type 0 where
+  pub func : x .func ≡ y .func
+  pub parents : Together R (x .parents) (y .parents)
+  pub args : Together R (x .args) (y .args)
+
+-- "fits when it puts together the two elements of each equality, and the results of any two applications ..", for any equalities and applications
+pub record Fits (Equal : Pair → Type 0) (App : FuncApp → Type 0) (R : ℕ → ℕ → Type 0) : Type 0 where
+  pub equal : (p : Pair) → Equal p → R (p .left) (p .right)
+  pub functional : (x y : FuncApp) → App x → App y → Meet R x y → R (x .result) (y .result)
+
+-- "two elements share a class exactly when every fitting partition puts them together", for any equalities and applications
+unfoldable pub SharedBy : (Pair → Type 0) → (FuncApp → Type 0) → ℕ → ℕ → Type 1
+SharedBy Equal App x y = (R : ℕ → ℕ → Type 0) → Partition R → Fits Equal App R → R x y
+
+-- the equalities and the applications are the book's
+abbrev pub FitsBook : Book → (ℕ → ℕ → Type 0) → Type 0
+FitsBook b R = Fits (λ p. List·Memᴰ p (b .equalities)) (λ x. List·Memᴰ x (b .apps)) R
+
+abbrev pub Shared : Book → ℕ → ℕ → Type 1
+Shared b x y = SharedBy (λ p. List·Memᴰ p (b .equalities)) (λ x. List·Memᴰ x (b .apps)) x y
+
+-- the number of classes is k: each class has one lowest element, and k elements are the lowest of theirs
+pub record Classes (b : Book) (k : ℕ) : Type 1 where
+  pub lowest : ℕ → Bool
+  pub is : (e : ℕ) → e < elements b → T (lowest e) ↔ ((d : ℕ) → d < e → Shared b d e → ⊥)
+  pub many : count lowest (elements b) ≡ k
+
+-- The claim.
+
+-- an element was added with a mark
+unfoldable pub someMark : List Bool → Bool
+someMark [] = false
+someMark (m ∷ ms) = m || someMark ms
+
+-- what holds at the return of an accepted close that answered c, of the book and the links that it leaves
+pub record Conserved (b : Book) (links : List ℕ) (c : Closed) : Type 1 where
+  pub classes : ℕ
+  pub counted : Classes b classes
+  -- elements added are classes and merges
+  pub sum : elements b ≡ classes + b .merges
+  -- two elements have one root exactly when they share a class
+  pub one-root : (x y : ℕ) → x < elements b → y < elements b → (rootOf links x ≡ rootOf links y) ↔ Shared b x y
+  -- the root is the class's lowest number
+  pub of-class : (x : ℕ) → x < elements b → (rootOf links x < elements b) × Shared b x (rootOf links x)
+  pub lowest : (x y : ℕ) → x < elements b → y < elements b → Shared b x y → rootOf links x ≤ y
+  -- the round limit
+  pub few : c .rounds ≤ c .merges + 2
+
+-- "This is a single claim about the list": after any calls and then a close that is accepted, with no element marked up to then.
+-- The calls are any, so this is said of every accepted close of every list, whatever follows.
+unfoldable pub Conservation : Type 1
+Conservation =
+    (before : List Call) (c : Closed) → step close (history before .machine) .answer ≡ closed c
+    → someMark (history (before ++ (close ∷ [])) .book .marks) ≡ false
+    → Conserved (history (before ++ (close ∷ [])) .book) (history (before ++ (close ∷ [])) .machine .structure .links) c

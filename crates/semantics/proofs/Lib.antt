@@ -1,0 +1,11 @@
+pub mod Orders
+pub mod Equating
+pub mod Cases
+pub mod Counts
+pub mod Links
+pub mod Outcomes
+pub mod Queues
+pub mod Parts
+pub mod Pairs
+pub mod Computes
+pub mod ProvedCases

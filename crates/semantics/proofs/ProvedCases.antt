@@ -1,0 +1,470 @@
+-- The proved cases (01, "Proved sheets"): P1 to P10 and a few more as one table of rows, and one theorem: every row of the table holds.
+-- A row is data: what it runs, what that answers or prints, and claims about the machine that it leaves.
+use mathlib.Core.Path.{_≡_, refl}
+use mathlib.Core.Bool.{Bool, true, false}
+use mathlib.Core.List.{List, [], _∷_, _++_, map, List·Memᴰ, List·Memᴰ·head, List·Memᴰ·tail}
+use mathlib.Core.Option.{Option, none, some}
+use Prim.Native.Nat.{ℕ, _/_, _%_}
+use Prim.Native.Char.{code}
+use Prim.Native.String.{String, [] as no-text, _∷_ as _∷ᵗ_}
+use lib.ListN.{length, take, getD}
+use Rattle.ids.specs.Table.{lookupOf}
+use Rattle.signature.specs.Model.{Kind, plain, model}
+use Rattle.semantics.specs.Structure.{Fact, FuncApp, compareFuncApp}
+use Rattle.semantics.specs.Types.{factsAt}
+use Rattle.semantics.specs.Conflicts.{Conflict}
+use Rattle.semantics.specs.Calls.{Call, push-type, push-func, push-pred, push-el, equate-els, impose-type, apply-func, apply-pred, bind-ambient}
+use Rattle.semantics.specs.Calls.{close, type-conflicts, lookup-type, ambient-parents}
+use Rattle.semantics.specs.Calls.{Answer, number, says, done, closed, conflicting, found, typed, els, refuse, Machine, start, step}
+use Rattle.semantics.specs.Sheet.{bit, newline, runSheet}
+use Rattle.semantics.proofs.Computes.{everything}
+
+-- What a row is.
+
+-- calls from the empty signature and structure, or the bytes of a sheet
+pub data Source : Type 0 where
+  calls : List Call → Source
+  sheet : List ℕ → Source
+
+-- an answer that a row states
+pub data Told : Type 0 where
+  -- changed (1 or 0), merges, rounds
+  closes : ℕ → ℕ → ℕ → Told
+  conflicts : List Conflict → Told
+  -- the type with its leading parents, or none
+  types : Option Fact → Told
+  refuses : ℕ → Told
+
+-- the stated answers of the calls, or the bytes that the sheet prints
+pub data Output : Type 0 where
+  tells : List Told → Output
+  prints : List ℕ → Output
+
+-- what may be asked of a machine
+pub data Question : Type 0 where
+  -- the link of an element
+  link : ℕ → Question
+  -- the mark of an element
+  mark : ℕ → Question
+  -- the facts that are stored at an element
+  facts : ℕ → Question
+  -- the result that is stored for a function, parents and arguments
+  key : ℕ → List ℕ → List ℕ → Question
+  -- the impositions that are queued
+  impositions : Question
+  settled : Question
+  -- the answer of one more call
+  answer : Call → Question
+  -- all of it
+  machine : Question
+
+-- what is seen
+pub data Seen : Type 0 where
+  el : ℕ → Seen
+  flag : Bool → Seen
+  fact-list : List Fact → Seen
+  result : Option ℕ → Seen
+  said : Answer → Seen
+  whole : Machine → Seen
+
+pub record Claim : Type 0 where
+  pub question : Question
+  pub seen : Seen
+
+infixl 70 _is_
+abbrev pub _is_ : Question → Seen → Claim
+q is s = record { question = q; seen = s }
+
+pub record Row : Type 0 where
+  pub source : Source
+  pub output : Output
+  pub claims : List Claim
+
+-- How a row is run.
+
+-- what a row states of a call's answer; what the other accepted calls answer it leaves out
+unfoldable pub told : Answer → List Told → List Told
+told (closed c) rest = closes (bit (c .changed)) (c .merges) (c .rounds) ∷ rest
+told (conflicting cs) rest = conflicts cs ∷ rest
+told (typed t) rest = types t ∷ rest
+told (refuse n) rest = refuses n ∷ rest
+told (number n) rest = rest
+told (says b) rest = rest
+told done rest = rest
+told (found f) rest = rest
+told (els es) rest = rest
+
+unfoldable pub toldBy : List Call → Machine → List Told
+toldBy [] m = []
+toldBy (c ∷ cs) m = told (step c m .answer) (toldBy cs (step c m .after))
+
+unfoldable pub leftBy : List Call → Machine → Machine
+leftBy [] m = m
+leftBy (c ∷ cs) m = leftBy cs (step c m .after)
+
+unfoldable pub outputOf : Source → Output
+outputOf (calls cs) = tells (toldBy cs start)
+outputOf (sheet bytes) = prints (runSheet bytes .printed)
+
+unfoldable pub machineOf : Source → Machine
+machineOf (calls cs) = leftBy cs start
+machineOf (sheet bytes) = runSheet bytes .machine
+
+unfoldable pub resultOf : Option FuncApp → Option ℕ
+resultOf none = none
+resultOf (some x) = some (x .result)
+
+unfoldable pub look : Machine → Question → Seen
+look m (link e) = el (getD (m .structure .links) e e)
+look m (mark e) = flag (getD (m .structure .marks) e false)
+look m (facts e) = fact-list (factsAt e (m .structure .facts))
+look m (key f ps xs) =
+    result (resultOf (lookupOf compareFuncApp (record { func = f; parents = ps; args = xs; result = 0 }) (m .structure .func-apps)))
+look m impositions = fact-list (m .structure .impositions)
+look m settled = flag (m .structure .settled)
+look m (answer c) = said (step c m .answer)
+look m machine = whole m
+
+-- A row holds when its source answers or prints what it states, and each claim's question shows what it claims.
+
+pub record Shown : Type 0 where
+  pub output : Output
+  pub seen : List Seen
+
+unfoldable pub shownBy : Row → Shown
+shownBy r = record { output = outputOf (r .source); seen = map (λ c. look (machineOf (r .source)) (c .question)) (r .claims) }
+
+unfoldable pub statedBy : Row → Shown
+statedBy r = record { output = r .output; seen = map (λ c. c .seen) (r .claims) }
+
+abbrev pub Holds : Row → Type 0
+Holds r = shownBy r ≡ statedBy r
+
+-- How rows are written.
+
+-- the bytes of a text in ASCII
+unfoldable pub bytesOf : String → List ℕ
+bytesOf no-text = []
+bytesOf (c ∷ᵗ s) = code c ∷ bytesOf s
+
+unfoldable pub lines : List String → List ℕ
+lines [] = []
+lines (s ∷ ss) = bytesOf s ++ (newline ∷ lines ss)
+
+-- "each 16 unsigned little-endian 16-bit words"
+unfoldable pub littleEndian : List ℕ → List ℕ
+littleEndian [] = []
+littleEndian (w ∷ ws) = w % 256 ∷ w / 256 ∷ littleEndian ws
+
+-- the four words of a list
+abbrev pub slots : List ℕ → List ℕ
+slots xs = take 4 (xs ++ (0 ∷ 0 ∷ 0 ∷ 0 ∷ []))
+
+-- a record: next index, kind, A, B, parents, arguments
+unfoldable pub entry : ℕ → ℕ → ℕ → ℕ → List ℕ → List ℕ → List ℕ
+entry next kind a b ps xs =
+    littleEndian (next ∷ kind ∷ a ∷ b ∷ length ps ∷ length xs ∷ (slots ps ++ (slots xs ++ (0 ∷ 0 ∷ []))))
+
+abbrev pub typ : Kind → List ℕ → Call
+typ k ps = push-type (record { kind = k; parents = ps })
+
+abbrev pub func : List ℕ → List ℕ → ℕ → Call
+func ps ds c = push-func (record { parents = ps; domain = ds; codomain = c })
+
+abbrev pub pred : List ℕ → List ℕ → Call
+pred ps ds = push-pred (record { parents = ps; arity = ds })
+
+abbrev pub plainEl : Call
+plainEl = push-el false
+
+abbrev pub markedEl : Call
+markedEl = push-el true
+
+abbrev pub fact : ℕ → ℕ → List ℕ → Fact
+fact e t ps = record { el = e; typ = t; parents = ps }
+
+abbrev pub impose : ℕ → ℕ → List ℕ → Call
+impose e t ps = impose-type (fact e t ps)
+
+abbrev pub app : ℕ → List ℕ → List ℕ → ℕ → Call
+app f ps xs r = apply-func (record { func = f; parents = ps; args = xs; result = r })
+
+abbrev pub predicate : ℕ → List ℕ → List ℕ → Call
+predicate p ps xs = apply-pred (record { pred = p; parents = ps; args = xs })
+
+abbrev pub conflict : ℕ → Fact → Fact → Conflict
+conflict e f g = record { el = e; a = f; b = g }
+
+-- P2's types, "Model type; Plain type (parents 0)", and with its function "(parents 0, codomain 1)" its signature
+abbrev pub types2 : List Call
+types2 = typ model [] ∷ typ plain (0 ∷ []) ∷ []
+
+abbrev pub signature2 : List Call
+signature2 = types2 ++ (func (0 ∷ []) [] 1 ∷ [])
+
+-- P4: "P2's types, elements 0 to 2; imposed on 2: type 1 with parent 1"
+abbrev pub imposed4 : List Call
+imposed4 = types2 ++ (plainEl ∷ plainEl ∷ plainEl ∷ impose 2 1 (1 ∷ []) ∷ [])
+
+-- P5: "P2's signature and applications, no equality, element 1 marked, a fifth element 4 imposed type 1 with parent 0, then with parent 1"
+abbrev pub imposed5 : List Call
+imposed5 =
+    signature2
+    ++ (plainEl ∷ markedEl ∷ plainEl ∷ plainEl ∷ plainEl
+    ∷ app 0 (0 ∷ []) [] 2 ∷ app 0 (1 ∷ []) [] 3 ∷ impose 4 1 (0 ∷ []) ∷ impose 4 1 (1 ∷ []) ∷ [])
+
+-- The table.
+
+unfoldable pub table : List Row
+table =
+    -- P1: "fresh, close"
+    record { source = calls (close ∷ []); output = tells (closes 0 0 1 ∷ []); claims = settled is flag true ∷ [] }
+    -- P1 as a sheet
+    ∷ record { source = sheet (entry 0 13 0 0 [] []); output = prints (lines ("close 0 0 1" ∷ "end 1" ∷ [])); claims = [] }
+    -- P2: "whole, chained 0 to 11": two types, the function, four elements, two applications, the equality, close, conflicts
+    ∷ record {
+      source = sheet
+          (entry 1 1 1 0 [] []
+          ++ entry 2 1 0 0 (0 ∷ []) []
+          ++ entry 3 3 0 1 (0 ∷ []) []
+          ++ entry 4 6 0 0 [] []
+          ++ entry 5 6 0 0 [] []
+          ++ entry 6 6 0 0 [] []
+          ++ entry 7 6 0 0 [] []
+          ++ entry 8 9 0 2 (0 ∷ []) []
+          ++ entry 9 9 0 3 (1 ∷ []) []
+          ++ entry 10 7 2 3 [] []
+          ++ entry 11 13 0 0 [] []
+          ++ entry 0 14 0 0 [] []);
+      output = prints (lines ("close 1 1 2" ∷ "conflict 2 1 0 / 1 1" ∷ "conflicts 1" ∷ "end 12" ∷ []));
+      claims = link 3 is el 2 ∷ facts 2 is fact-list (fact 2 1 (0 ∷ []) ∷ fact 2 1 (1 ∷ []) ∷ []) ∷ [];
+    }
+    -- P2 as calls
+    ∷ record {
+      source = calls
+          (signature2
+          ++ (plainEl ∷ plainEl ∷ plainEl ∷ plainEl
+          ∷ app 0 (0 ∷ []) [] 2 ∷ app 0 (1 ∷ []) [] 3 ∷ equate-els 2 3 ∷ close ∷ type-conflicts ∷ []));
+      output = tells (closes 1 1 2 ∷ conflicts (conflict 2 (fact 2 1 (0 ∷ [])) (fact 2 1 (1 ∷ [])) ∷ []) ∷ []);
+      claims = [];
+    }
+    -- P3: "one-argument function, 0 to 2, 1 to 3, equality 0, 1"; its domain and codomain are one Plain type
+    ∷ record {
+      source = calls
+          (typ plain [] ∷ func [] (0 ∷ []) 0 ∷ plainEl ∷ plainEl ∷ plainEl ∷ plainEl
+          ∷ app 0 [] (0 ∷ []) 2 ∷ app 0 [] (1 ∷ []) 3 ∷ equate-els 0 1 ∷ close ∷ []);
+      output = tells (closes 1 2 3 ∷ []);
+      claims = link 1 is el 0 ∷ link 3 is el 2 ∷ key 0 [] (0 ∷ []) is result (some 2) ∷ key 0 [] (1 ∷ []) is result none ∷ [];
+    }
+    -- P4: "Close `1 0 1`."
+    ∷ record {
+      source = calls (imposed4 ++ (close ∷ []));
+      output = tells (closes 1 0 1 ∷ []);
+      claims = facts 2 is fact-list (fact 2 1 (1 ∷ []) ∷ []) ∷ settled is flag false ∷ [];
+    }
+    -- P4: "Equality 0, 1: close `1 1 2`"; "2 has one fact"
+    ∷ record {
+      source = calls (imposed4 ++ (close ∷ equate-els 0 1 ∷ close ∷ []));
+      output = tells (closes 1 0 1 ∷ closes 1 1 2 ∷ []);
+      claims = facts 2 is fact-list (fact 2 1 (0 ∷ []) ∷ []) ∷ settled is flag false ∷ [];
+    }
+    -- P4: "then `0 0 1`; 2 has one fact"
+    ∷ record {
+      source = calls (imposed4 ++ (close ∷ equate-els 0 1 ∷ close ∷ close ∷ []));
+      output = tells (closes 1 0 1 ∷ closes 1 1 2 ∷ closes 0 0 1 ∷ []);
+      claims = facts 2 is fact-list (fact 2 1 (0 ∷ []) ∷ []) ∷ settled is flag true ∷ [];
+    }
+    -- P5: "`1 1 2`, parent 1 stale in a key"
+    ∷ record {
+      source = calls (imposed5 ++ (close ∷ []));
+      output = tells (closes 1 1 2 ∷ []);
+      claims =
+          link 1 is el 0 ∷ key 0 (0 ∷ []) [] is result (some 2) ∷ key 0 (1 ∷ []) [] is result (some 3)
+          ∷ facts 4 is fact-list (fact 4 1 (0 ∷ []) ∷ []) ∷ [];
+    }
+    -- P5: "then `1 1 3`": no key has parent 1 any more
+    ∷ record {
+      source = calls (imposed5 ++ (close ∷ close ∷ []));
+      output = tells (closes 1 1 2 ∷ closes 1 1 3 ∷ []);
+      claims = link 3 is el 2 ∷ key 0 (0 ∷ []) [] is result (some 2) ∷ key 0 (1 ∷ []) [] is result none ∷ [];
+    }
+    -- P5: "then `0 0 1`"
+    ∷ record {
+      source = calls (imposed5 ++ (close ∷ close ∷ close ∷ []));
+      output = tells (closes 1 1 2 ∷ closes 1 1 3 ∷ closes 0 0 1 ∷ []);
+      claims = settled is flag true ∷ [];
+    }
+    -- P6: "a type with two parents, given 7: absent; given 7, 8, 9: parents 7, 8"; the element of the fact says nothing
+    ∷ record {
+      source = calls
+          (typ model [] ∷ typ model [] ∷ typ plain (0 ∷ 1 ∷ []) ∷ lookup-type 2 (7 ∷ []) ∷ lookup-type 2 (7 ∷ 8 ∷ 9 ∷ []) ∷ []);
+      output = tells (types none ∷ types (some (fact 0 2 (7 ∷ 8 ∷ []))) ∷ []);
+      claims = [];
+    }
+    -- P7: "one type imposed on one element with parents 1 and with 1, 2: no conflict"
+    ∷ record {
+      source = calls
+          (typ plain [] ∷ plainEl ∷ plainEl ∷ plainEl
+          ∷ impose 0 0 (1 ∷ []) ∷ impose 0 0 (1 ∷ 2 ∷ []) ∷ close ∷ type-conflicts ∷ []);
+      output = tells (closes 1 0 1 ∷ conflicts [] ∷ []);
+      claims = facts 0 is fact-list (fact 0 0 (1 ∷ []) ∷ fact 0 0 (1 ∷ 2 ∷ []) ∷ []) ∷ [];
+    }
+    -- P8: "equalities (1, 2), (0, 2): 1 and 2 link to 0"
+    ∷ record {
+      source = calls (plainEl ∷ plainEl ∷ plainEl ∷ equate-els 1 2 ∷ equate-els 0 2 ∷ close ∷ []);
+      output = tells (closes 1 2 2 ∷ []);
+      claims = link 1 is el 0 ∷ link 2 is el 0 ∷ [];
+    }
+    -- P9: "both marked, merged: marked"
+    ∷ record {
+      source = calls (markedEl ∷ markedEl ∷ equate-els 0 1 ∷ close ∷ []);
+      output = tells (closes 1 1 2 ∷ []);
+      claims = link 1 is el 0 ∷ mark 0 is flag true ∷ mark 1 is flag false ∷ [];
+    }
+    -- P9: "One marked: unmarked", of the root that stays
+    ∷ record {
+      source = calls (markedEl ∷ plainEl ∷ equate-els 0 1 ∷ close ∷ []);
+      output = tells (closes 1 1 2 ∷ []);
+      claims = link 1 is el 0 ∷ mark 0 is flag false ∷ mark 1 is flag false ∷ [];
+    }
+    -- P9: "One marked: unmarked", of the root that is linked
+    ∷ record {
+      source = calls (plainEl ∷ markedEl ∷ equate-els 0 1 ∷ close ∷ []);
+      output = tells (closes 1 1 2 ∷ []);
+      claims = link 1 is el 0 ∷ mark 0 is flag false ∷ mark 1 is flag false ∷ [];
+    }
+    -- P10: "equality 0, 0: `close 0 0 1`"
+    ∷ record { source = calls (plainEl ∷ equate-els 0 0 ∷ close ∷ []); output = tells (closes 0 0 1 ∷ []); claims = link 0 is el 0 ∷ [] }
+    -- "a structure counts as settled when its latest accepted close reported no change; a fresh one does not"
+    ∷ record { source = calls []; output = tells []; claims = settled is flag false ∷ [] }
+    ∷ record { source = calls (close ∷ plainEl ∷ []); output = tells (closes 0 0 1 ∷ []); claims = settled is flag true ∷ [] }
+    -- "Impositions stay queued", with parents as roots, and the same one is not queued again
+    ∷ record {
+      source = calls (imposed4 ++ (equate-els 0 1 ∷ close ∷ []));
+      output = tells (closes 1 1 2 ∷ []);
+      claims = impositions is fact-list (fact 2 1 (0 ∷ []) ∷ []) ∷ answer (impose 2 1 (1 ∷ [])) is said (says false) ∷ [];
+    }
+    -- "`canonicalise_refs` rewrites predicate applications, .. ; .. ambient elements it leaves untouched"
+    ∷ record {
+      source = calls
+          (typ model [] ∷ pred [] (0 ∷ []) ∷ plainEl ∷ plainEl
+          ∷ predicate 0 [] (1 ∷ []) ∷ bind-ambient (record { typ = 0; el = 1 }) ∷ equate-els 0 1 ∷ close ∷ []);
+      output = tells (closes 1 1 2 ∷ []);
+      claims =
+          answer (predicate 0 [] (0 ∷ [])) is said (says false) ∷ answer (predicate 0 [] (1 ∷ [])) is said (says true)
+          ∷ answer (ambient-parents (0 ∷ [])) is said (els (1 ∷ [])) ∷ [];
+    }
+    -- "the first later fact that disagrees is reported and the search moves on to the next class": three facts, then two of another class
+    ∷ record {
+      source = calls
+          (typ plain [] ∷ typ plain [] ∷ plainEl ∷ plainEl ∷ plainEl
+          ∷ impose 0 0 (0 ∷ []) ∷ impose 0 0 (1 ∷ []) ∷ impose 0 0 (2 ∷ []) ∷ impose 1 0 [] ∷ impose 1 1 [] ∷ close ∷ type-conflicts ∷ []);
+      output = tells
+          (closes 1 0 1
+          ∷ conflicts (conflict 0 (fact 0 0 (0 ∷ [])) (fact 0 0 (1 ∷ [])) ∷ conflict 1 (fact 1 0 []) (fact 1 1 []) ∷ [])
+          ∷ []);
+      claims = [];
+    }
+    -- `canonicalise_refs` rewrites facts at the end of a close only: the typing of round 1 stores type 1 with parent 1 at element 3, then merges
+    -- 1 into 0; in round 2 it stores the same fact with parent 0, so that a third round runs
+    ∷ record {
+      source = calls
+          (signature2
+          ++ (func (0 ∷ []) [] 1 ∷ plainEl ∷ markedEl ∷ plainEl ∷ plainEl
+          ∷ app 0 (1 ∷ []) [] 3 ∷ app 1 (0 ∷ []) [] 2 ∷ app 1 (1 ∷ []) [] 2 ∷ close ∷ []));
+      output = tells (closes 1 1 3 ∷ []);
+      claims = link 1 is el 0 ∷ facts 3 is fact-list (fact 3 1 (0 ∷ []) ∷ []) ∷ [];
+    }
+    -- "`typing` does function arguments, predicate arguments, ..": element 3 has type 1 with parent 2 as an argument of a function, then with
+    -- the marked 0 and with 1 as an argument of a predicate, so that 0 merges with 2
+    ∷ record {
+      source = calls
+          (types2
+          ++ (func (0 ∷ []) (1 ∷ []) 0 ∷ pred (0 ∷ []) (1 ∷ []) ∷ markedEl ∷ plainEl ∷ plainEl ∷ plainEl ∷ plainEl
+          ∷ app 0 (2 ∷ []) (3 ∷ []) 4 ∷ predicate 0 (0 ∷ []) (3 ∷ []) ∷ predicate 0 (1 ∷ []) (3 ∷ []) ∷ close ∷ []));
+      output = tells (closes 1 1 2 ∷ []);
+      claims = link 1 is el 1 ∷ link 2 is el 0 ∷ [];
+    }
+    -- ".. predicate arguments, function results": element 3 has type 1 with parent 2 as an argument of a predicate, then with the marked 0 and
+    -- with 1 as a result
+    ∷ record {
+      source = calls
+          (signature2
+          ++ (pred (0 ∷ []) (1 ∷ []) ∷ markedEl ∷ plainEl ∷ plainEl ∷ plainEl
+          ∷ predicate 0 (2 ∷ []) (3 ∷ []) ∷ app 0 (0 ∷ []) [] 3 ∷ app 0 (1 ∷ []) [] 3 ∷ close ∷ []));
+      output = tells (closes 1 1 2 ∷ []);
+      claims = link 1 is el 1 ∷ link 2 is el 0 ∷ [];
+    }
+    -- number 4, "kinds 1 to 5 after any accepted of 6 to 14", and a refused call leaves the machine as it was
+    ∷ record {
+      source = calls (plainEl ∷ typ plain [] ∷ []);
+      output = tells (refuses 4 ∷ []);
+      claims = machine is whole (leftBy (plainEl ∷ []) start) ∷ [];
+    }
+    -- numbers 3, 4 and 5 leave the machine as it was
+    ∷ record {
+      source = calls
+          (imposed5 ++ (impose 0 0 (0 ∷ 0 ∷ 0 ∷ 0 ∷ 0 ∷ []) ∷ func [] [] 0 ∷ equate-els 0 9 ∷ app 1 [] [] 0 ∷ lookup-type 2 [] ∷ []));
+      output = tells (refuses 3 ∷ refuses 4 ∷ refuses 5 ∷ refuses 5 ∷ refuses 5 ∷ []);
+      claims = machine is whole (leftBy imposed5 start) ∷ [];
+    }
+    -- "Record 0 comes first; next index 0 ends the chain": records 0, 2, 1, and record 3 is not visited
+    ∷ record {
+      source = sheet (entry 2 6 0 0 [] [] ++ entry 0 14 0 0 [] [] ++ entry 1 13 0 0 [] [] ++ entry 0 15 0 0 [] []);
+      output = prints (lines ("close 0 0 1" ∷ "conflicts 0" ∷ "end 3" ∷ []));
+      claims = [];
+    }
+    -- "A refusal prints `refused N at I` (record index, ..) and stops"
+    ∷ record {
+      source = sheet (entry 1 13 0 0 [] [] ++ entry 2 7 0 0 [] [] ++ entry 0 13 0 0 [] []);
+      output = prints (lines ("close 0 0 1" ∷ "refused 5 at 1" ∷ []));
+      claims = machine is whole (leftBy (close ∷ []) start) ∷ [];
+    }
+    -- number 1: "sheet empty, not a multiple of 32 bytes"
+    ∷ record { source = sheet []; output = prints (lines ("refused 1 at 0" ∷ [])); claims = machine is whole start ∷ [] }
+    ∷ record {
+      source = sheet (take 31 (entry 0 13 0 0 [] []));
+      output = prints (lines ("refused 1 at 0" ∷ []));
+      claims = machine is whole start ∷ [];
+    }
+    -- number 2: "next index not in the sheet"
+    ∷ record {
+      source = sheet (entry 1 13 0 0 [] []);
+      output = prints (lines ("refused 2 at 0" ∷ []));
+      claims = machine is whole start ∷ [];
+    }
+    -- number 2: "not zero on the N-th record visited of N"; "all that earlier records made" is left
+    ∷ record {
+      source = sheet (entry 1 6 0 0 [] [] ++ entry 1 13 0 0 [] []);
+      output = prints (lines ("refused 2 at 1" ∷ []));
+      claims = machine is whole (leftBy (plainEl ∷ []) start) ∷ [];
+    }
+    -- number 3: "kind .. outside the above"
+    ∷ record {
+      source = sheet (entry 0 15 0 0 [] []);
+      output = prints (lines ("refused 3 at 0" ∷ []));
+      claims = machine is whole start ∷ [];
+    }
+    -- number 3: ".. or an unused word outside the above": B of a close
+    ∷ record {
+      source = sheet (entry 0 13 0 1 [] []);
+      output = prints (lines ("refused 3 at 0" ∷ []));
+      claims = machine is whole start ∷ [];
+    }
+    ∷ []
+
+-- The theorem.
+
+-- all rows at once, by computing
+rowsShow : map shownBy table ≡ map statedBy table
+unfolding everything told toldBy leftBy outputOf machineOf resultOf look shownBy statedBy bytesOf lines littleEndian entry table
+rowsShow = refl
+
+-- two functions that agree on a list agree at each of its entries
+agree : {A B : Type 0} (f g : A → B) (l : List A) → map f l ≡ map g l → (a : A) → List·Memᴰ a l → f a ≡ g a
+agree f g (x ∷ xs) e a (List·Memᴰ·head p) = cc
+agree f g (x ∷ xs) e a (List·Memᴰ·tail m) = agree f g xs (cc) a m
+
+-- every row of the table holds
+pub everyRowHolds : (r : Row) → List·Memᴰ r table → Holds r
+everyRowHolds r m = agree shownBy statedBy table rowsShow r m

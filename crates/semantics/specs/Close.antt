@@ -1,0 +1,197 @@
+-- The close (01, "The close line").
+use Prim.Native.Nat.{ℕ, zero, suc, _+_, _*_}
+use mathlib.Core.Bool.{Bool, true, false, not, _&&_, _||_}
+use mathlib.Core.List.{List, [], _∷_, _++_, map}
+use mathlib.Core.Option.{Option, none, some}
+use lib.ListN.{length, take}
+use lib.Dec.{eqb, ltb}
+use Rattle.ids.specs.Answers.{Outcome, accepted, refused}
+use Rattle.ids.specs.Table.{lookupOf, placed, rewriteInto}
+use Rattle.unification.specs.Roots.{maxEls}
+use Rattle.signature.specs.Model.{Sig, predAt, funcAt}
+use Rattle.signature.specs.Calls.{TypedM, at, absent, concreteTypeAt}
+use Rattle.semantics.specs.Structure.{Fact, FuncApp, PredApp, Pair, Structure, maxFacts, compareFact, compareFuncApp, comparePredApp, canonicalFact, canonicalFuncApp, canonicalPredApp, canonicalVar, with-links, with-marks, with-facts, with-func-apps, with-pred-apps, with-vars, with-pairs, with-impositions, accept}
+use Rattle.semantics.specs.Types as types
+use Rattle.semantics.specs.Types.{Core, drain, impose, imposeAll, grew}
+
+-- `functionality`: "rewrites keys and results in order of function, parents, arguments; the first result stays, a different one is queued".
+
+-- the table as it is rewritten, the pairs, and whether one was queued
+pub record Rewritten : Type 0 where
+  pub apps : List FuncApp
+  pub pairs : List Pair
+  pub queued : Bool
+
+-- an application, already rewritten, meets the entry with its key
+unfoldable pub enterAt : Option FuncApp → FuncApp → Rewritten → Rewritten
+enterAt none x t = record { apps = placed compareFuncApp x (t .apps); pairs = t .pairs; queued = t .queued }
+enterAt (some y) x t =
+    elim (eqb (y .result) (x .result)) [
+      | true ↦ t
+      | false ↦ record { apps = t .apps; pairs = record { left = y .result; right = x .result } ∷ t .pairs; queued = true }
+    ]
+
+unfoldable pub enter : FuncApp → Rewritten → Rewritten
+enter x t = enterAt (lookupOf compareFuncApp x (t .apps)) x t
+
+unfoldable pub enterAll : List ℕ → List FuncApp → Rewritten → Rewritten
+enterAll ls [] t = t
+enterAll ls (x ∷ xs) t = enterAll ls xs (enter (canonicalFuncApp ls x) t)
+
+-- `typing`: "does function arguments, predicate arguments, function results".
+
+-- the fact that a type demands at an element, for the parents that are given; "absent" demands none
+unfoldable pub demanded : TypedM → List ℕ → ℕ → List Fact
+demanded absent ps e = []
+demanded (at t n) ps e = record { el = e; typ = t; parents = take n ps } ∷ []
+
+unfoldable pub demandedAt : Sig → ℕ → List ℕ → ℕ → List Fact
+demandedAt g t ps e = demanded (concreteTypeAt (g .types) t (length ps)) ps e
+
+-- "An argument past the domain or arity gets no type."
+unfoldable pub demandedArgs : Sig → List ℕ → List ℕ → List ℕ → List Fact
+demandedArgs g [] ps xs = []
+demandedArgs g (t ∷ ts) ps [] = []
+demandedArgs g (t ∷ ts) ps (x ∷ xs) = demandedAt g t ps x ++ demandedArgs g ts ps xs
+
+unfoldable pub funcArgs : Sig → List FuncApp → List Fact
+funcArgs g [] = []
+funcArgs g (x ∷ xs) = demandedArgs g (funcAt g (x .func) .domain) (x .parents) (x .args) ++ funcArgs g xs
+
+unfoldable pub predArgs : Sig → List PredApp → List Fact
+predArgs g [] = []
+predArgs g (x ∷ xs) = demandedArgs g (predAt g (x .pred) .arity) (x .parents) (x .args) ++ predArgs g xs
+
+unfoldable pub funcResults : Sig → List FuncApp → List Fact
+funcResults g [] = []
+funcResults g (x ∷ xs) = demandedAt g (funcAt g (x .func) .codomain) (x .parents) (x .result) ++ funcResults g xs
+
+unfoldable pub demands : Sig → List FuncApp → List PredApp → List Fact
+demands g apps preds = funcArgs g apps ++ (predArgs g preds ++ funcResults g apps)
+
+-- A round: "drain (last pair first), `functionality`, `typing`".
+
+-- what the passes of a round work on, and whether one of them reported work
+pub record Turn : Type 0 where
+  pub core : Core
+  pub apps : List FuncApp
+  pub worked : Bool
+
+abbrev pub reports : Core → List FuncApp → Bool → Turn → Turn
+reports w apps work t = record { core = w; apps = apps; worked = t .worked || work }
+
+-- a drain reports a merge
+unfoldable pub drained : Core → Turn → Turn
+drained w t = reports w (t .apps) (ltb (t .core .merges) (w .merges)) t
+
+unfoldable pub drainPass : Sig → List PredApp → Turn → Turn
+drainPass g preds t = drained (drain (t .core)) t
+
+-- `functionality` reports a pair that it queued
+unfoldable pub rewrote : Rewritten → Turn → Turn
+rewrote r t = reports (types.with-pairs (r .pairs) (t .core)) (r .apps) (r .queued) t
+
+unfoldable pub functionalityPass : Sig → List PredApp → Turn → Turn
+functionalityPass g preds t =
+    rewrote (enterAll (t .core .links) (t .apps) (record { apps = []; pairs = t .core .pairs; queued = false })) t
+
+-- `typing` reports a fact that was answered with yes
+unfoldable pub typed : Core → Turn → Turn
+typed w t = reports w (t .apps) (grew (t .core) w) t
+
+unfoldable pub typingPass : Sig → List PredApp → Turn → Turn
+typingPass g preds t = typed (imposeAll (demands g (t .apps) preds) (t .core)) t
+
+abbrev pub Pass : Type 0
+Pass = Sig → List PredApp → Turn → Turn
+
+unfoldable pub passes : List Pass
+passes = drainPass ∷ functionalityPass ∷ typingPass ∷ []
+
+unfoldable pub runPasses : List Pass → Sig → List PredApp → Turn → Turn
+runPasses [] g preds t = t
+runPasses (p ∷ ps) g preds t = runPasses ps g preds (p g preds t)
+
+unfoldable pub round : Sig → List PredApp → List FuncApp → Core → Turn
+round g preds apps w = runPasses passes g preds (record { core = w; apps = apps; worked = false })
+
+-- "Rounds repeat until one in which none reports work"; a number that is met ends them too.
+
+-- what the rounds leave, and how many ran: "all that ran, the idle last included"
+pub record Rounds : Type 0 where
+  pub core : Core
+  pub apps : List FuncApp
+  pub count : ℕ
+
+unfoldable pub isNone : Option ℕ → Bool
+isNone none = true
+isNone (some n) = false
+
+unfoldable pub lastRound : Turn → Rounds
+lastRound t = record { core = t .core; apps = t .apps; count = 1 }
+
+unfoldable pub oneMore : Rounds → Rounds
+oneMore r = record { core = r .core; apps = r .apps; count = suc (r .count) }
+
+-- from a round that left t on, at most so many more
+unfoldable pub roundsFrom : ℕ → Sig → List PredApp → Turn → Rounds
+roundsFrom zero g preds t = lastRound t
+roundsFrom (suc k) g preds t =
+    elim (t .worked && isNone (t .core .met)) [ true ↦ oneMore (roundsFrom k g preds (round g preds (t .apps) (t .core))) | false ↦ lastRound t ]
+
+-- more rounds than a close of a valid structure can take
+unfoldable pub fuel : ℕ
+fuel = 2 * ((maxFacts + 2) * (maxEls + 1))
+
+unfoldable pub rounds : Sig → List PredApp → List FuncApp → Core → Rounds
+rounds g preds apps w = roundsFrom fuel g preds (round g preds apps w)
+
+-- The close.
+
+-- "The answer is changed (the Rust's), merges (queued pairs whose roots differed when drained) and rounds"
+pub record Closed : Type 0 where
+  pub changed : Bool
+  pub merges : ℕ
+  pub rounds : ℕ
+
+unfoldable pub coreOf : Structure → Core
+coreOf s = record { links = s .links; marks = s .marks; facts = s .facts; pairs = s .pairs; merges = 0; added = 0; met = none }
+
+-- "`canonicalise_refs` rewrites predicate applications, variables, facts and impositions; function applications and ambient elements it leaves untouched."
+unfoldable pub canonicaliseRefs : List ℕ → Structure → Structure
+canonicaliseRefs ls s =
+    with-pred-apps (rewriteInto comparePredApp (canonicalPredApp ls) (s .pred-apps) [])
+    (with-vars (map (canonicalVar ls) (s .vars))
+    (with-facts (rewriteInto compareFact (canonicalFact ls) (s .facts) [])
+    (with-impositions (map (canonicalFact ls) (s .impositions)) s)))
+
+-- the structure with what the close worked on
+unfoldable pub withCore : Core → List FuncApp → Structure → Structure
+withCore w apps s = with-links (w .links) (with-marks (w .marks) (with-facts (w .facts) (with-pairs (w .pairs) (with-func-apps apps s))))
+
+-- "changed (the Rust's)": a round before the last worked, or an imposition did
+unfoldable pub answerOf : Rounds → Core → Closed
+answerOf r w = record {
+  changed = ltb 1 (r .count) || grew (r .core) w;
+  merges = w .merges;
+  rounds = r .count;
+}
+
+-- the structure that an accepted close leaves: "settled when its latest accepted close reported no change"
+unfoldable pub leftBy : Rounds → Core → Structure → Structure
+leftBy r w s = accept (not (answerOf r w .changed)) (canonicaliseRefs (w .links) (withCore w (r .apps) s))
+
+-- a number that was met refuses: "structure before the close"
+unfoldable pub closeWith : Option ℕ → Rounds → Core → Structure → Outcome Closed Structure
+closeWith (some n) r w s = record { answer = refused n; left = s }
+closeWith none r w s = record { answer = accepted (answerOf r w); left = leftBy r w s }
+
+-- "Then each imposition is imposed in queue order, then `canonicalise_refs`. Impositions stay queued."
+unfoldable pub closeImposed : Rounds → Core → Structure → Outcome Closed Structure
+closeImposed r w s = closeWith (w .met) r w s
+
+unfoldable pub closeAfter : Rounds → Structure → Outcome Closed Structure
+closeAfter r s = closeImposed r (imposeAll (s .impositions) (r .core)) s
+
+unfoldable pub close : Sig → Structure → Outcome Closed Structure
+close g s = closeAfter (rounds g (s .pred-apps) (s .func-apps) (coreOf s)) s

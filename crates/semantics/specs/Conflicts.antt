@@ -1,0 +1,50 @@
+-- The conflicts (01, "The conflict line").
+use Prim.Native.Nat.{ℕ, zero, suc}
+use mathlib.Core.Bool.{Bool, true, false, not, _&&_, _||_}
+use mathlib.Core.List.{List, [], _∷_, _++_}
+use lib.ListN.{length}
+use lib.Dec.{eqb, ltb}
+use Rattle.unification.specs.Roots.{rootOf}
+use Rattle.semantics.specs.Structure.{Fact, Structure}
+use Rattle.semantics.specs.Types.{factsAt, concreteTypesOf}
+
+-- `TypeConflict`: an element, and two facts of its class that disagree
+pub record Conflict : Type 0 where
+  pub el : ℕ
+  pub a : Fact
+  pub b : Fact
+
+-- "differing roots up to the shorter length"
+unfoldable pub parentsMatch : List ℕ → List ℕ → List ℕ → Bool
+parentsMatch ls [] qs = true
+parentsMatch ls (p ∷ ps) [] = true
+parentsMatch ls (p ∷ ps) (q ∷ qs) = eqb (rootOf ls p) (rootOf ls q) && parentsMatch ls ps qs
+
+-- "Disagree means other type, or differing roots up to the shorter length."
+unfoldable pub disagree : List ℕ → Fact → Fact → Bool
+disagree ls f g = not (eqb (f .typ) (g .typ)) || not (parentsMatch ls (f .parents) (g .parents))
+
+-- "the first later fact that disagrees is reported and the search moves on to the next class"
+unfoldable pub firstConflict : List ℕ → ℕ → Fact → List Fact → List Conflict
+firstConflict ls e f [] = []
+firstConflict ls e f (g ∷ gs) = elim (disagree ls f g) [ true ↦ record { el = e; a = f; b = g } ∷ [] | false ↦ firstConflict ls e f gs ]
+
+unfoldable pub conflictAmong : List ℕ → ℕ → List Fact → List Conflict
+conflictAmong ls e [] = []
+conflictAmong ls e (f ∷ fs) = firstConflict ls e f fs
+
+-- "A class with two stored facts or more is ordered"
+unfoldable pub conflictAt : Structure → ℕ → List Conflict
+conflictAt s e =
+    elim (eqb (rootOf (s .links) e) e && ltb 1 (length (factsAt e (s .facts)))) [
+      | true ↦ conflictAmong (s .links) e (concreteTypesOf (s .links) (s .facts) e)
+      | false ↦ []
+    ]
+
+-- "Classes in root order": of the elements below n
+unfoldable pub conflictsBelow : Structure → ℕ → List Conflict
+conflictsBelow s zero = []
+conflictsBelow s (suc e) = conflictsBelow s e ++ conflictAt s e
+
+unfoldable pub typeConflicts : Structure → List Conflict
+typeConflicts s = conflictsBelow s (length (s .links))

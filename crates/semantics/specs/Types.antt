@@ -1,0 +1,135 @@
+-- Merges, and facts imposed (01, "Element types").
+use Prim.Native.Nat.{ℕ, suc, _+_, min, max}
+use mathlib.Core.Bool.{Bool, true, false, not, _&&_, _||_}
+use mathlib.Core.List.{List, [], _∷_}
+use mathlib.Core.Option.{Option, none, some}
+use lib.ListN.{length, getD, set}
+use lib.Dec.{eqb, ltb}
+use Rattle.ids.specs.Answers.{tooManyFacts}
+use Rattle.ids.specs.Table.{present, placed, rewriteInto}
+use Rattle.unification.specs.Roots.{rootOf, mergedOf}
+use Rattle.semantics.specs.Structure.{Fact, Pair, compareFact, factAt, canonicalFact, maxFacts}
+
+-- The part of the structure that merges and imposed facts alter, with what a close counts in it.
+pub record Core : Type 0 where
+  pub links : List ℕ
+  pub marks : List Bool
+  pub facts : List Fact
+  pub pairs : List Pair
+  -- "merges (queued pairs whose roots differed when drained)"
+  pub merges : ℕ
+  -- the insertions that enlarged a set
+  pub added : ℕ
+  -- the number first met, which refuses the close
+  pub met : Option ℕ
+
+abbrev pub with-pairs : List Pair → Core → Core
+with-pairs x w = record { links = w .links; marks = w .marks; facts = w .facts; pairs = x; merges = w .merges; added = w .added; met = w .met }
+
+-- another link table, other marks and other facts, by one merge more
+abbrev pub with-merge : List ℕ → List Bool → List Fact → Core → Core
+with-merge ls ms fs w = record { links = ls; marks = ms; facts = fs; pairs = w .pairs; merges = suc (w .merges); added = w .added; met = w .met }
+
+-- other facts, by one insertion more
+abbrev pub with-added : List Fact → Core → Core
+with-added fs w = record { links = w .links; marks = w .marks; facts = fs; pairs = w .pairs; merges = w .merges; added = suc (w .added); met = w .met }
+
+-- a number is met: the first stays
+abbrev pub with-met : ℕ → Core → Core
+with-met n w = record {
+  links = w .links;
+  marks = w .marks;
+  facts = w .facts;
+  pairs = w .pairs;
+  merges = w .merges;
+  added = w .added;
+  met = elim (w .met) [ none ↦ some n | some m ↦ some m ];
+}
+
+abbrev pub marked : List Bool → ℕ → Bool
+marked ms e = getD ms e false
+
+-- "After a merge the mark remains only if both roots had it."
+unfoldable pub mergedMarks : List Bool → ℕ → ℕ → List Bool
+mergedMarks ms keep drop = set (set ms keep (marked ms keep && marked ms drop)) drop false
+
+-- the facts of the element `drop` go to `keep`
+unfoldable pub movedFacts : ℕ → ℕ → List Fact → List Fact
+movedFacts keep drop fs = rewriteInto compareFact (λ f. elim (eqb (f .el) drop) [ true ↦ factAt keep f | false ↦ f ]) fs []
+
+-- "A merge links the larger root to the smaller": `drop` to `keep`
+unfoldable pub merge : ℕ → ℕ → Core → Core
+merge keep drop w = with-merge (mergedOf (w .links) keep drop) (mergedMarks (w .marks) keep drop) (movedFacts keep drop (w .facts)) w
+
+-- a pair drained: where its two roots differ they are merged
+unfoldable pub joinRoots : ℕ → ℕ → Core → Core
+joinRoots a b w = elim (eqb a b) [ true ↦ w | false ↦ merge (min a b) (max a b) w ]
+
+unfoldable pub join : Pair → Core → Core
+join p w = joinRoots (rootOf (w .links) (p .left)) (rootOf (w .links) (p .right)) w
+
+-- "drain (last pair first)"
+unfoldable pub drainPairs : List Pair → Core → Core
+drainPairs [] w = w
+drainPairs (p ∷ ps) w = drainPairs ps (join p w)
+
+unfoldable pub drain : Core → Core
+drain w = drainPairs (w .pairs) (with-pairs [] w)
+
+-- the facts that are stored at an element
+unfoldable pub factsAt : ℕ → List Fact → List Fact
+factsAt e [] = []
+factsAt e (f ∷ fs) = elim (eqb (f .el) e) [ true ↦ f ∷ factsAt e fs | false ↦ factsAt e fs ]
+
+-- "`concrete_types_of` gives them with parents as roots, duplicates dropped."
+unfoldable pub concreteTypesOf : List ℕ → List Fact → ℕ → List Fact
+concreteTypesOf ls fs e = rewriteInto compareFact (canonicalFact ls) (factsAt (rootOf ls e) fs) []
+
+-- To impose a fact.
+
+-- "Where two roots differ and either is marked, `equate` them and drain the whole queue at once." Both are roots, so that no path shortens.
+unfoldable pub refineRoots : ℕ → ℕ → Core → Core
+refineRoots a b w =
+    elim (not (eqb a b) && (marked (w .marks) a || marked (w .marks) b)) [
+      | true ↦ drain (with-pairs (record { left = a; right = b } ∷ w .pairs) w)
+      | false ↦ w
+    ]
+
+unfoldable pub refine : ℕ → ℕ → Core → Core
+refine a b w = refineRoots (rootOf (w .links) a) (rootOf (w .links) b) w
+
+-- "pair parents up to the shorter length"
+unfoldable pub refineParents : List ℕ → List ℕ → Core → Core
+refineParents [] qs w = w
+refineParents (p ∷ ps) [] w = w
+refineParents (p ∷ ps) (q ∷ qs) w = refineParents ps qs (refine p q w)
+
+-- "For each of the same type"
+unfoldable pub refineAll : List Fact → Fact → Core → Core
+refineAll [] f w = w
+refineAll (g ∷ gs) f w =
+    refineAll gs f (elim (eqb (g .typ) (f .typ)) [ true ↦ refineParents (g .parents) (f .parents) w | false ↦ w ])
+
+-- "Then insert the fact": number 11 is judged here, after the merges
+unfoldable pub insertFact : Fact → Core → Core
+insertFact f w =
+    elim (present compareFact f (w .facts)) [
+      | true ↦ w
+      | false ↦ elim (ltb (length (w .facts)) maxFacts) [ true ↦ with-added (placed compareFact f (w .facts)) w | false ↦ with-met tooManyFacts w ]
+    ]
+
+-- "parents as roots, at the root"
+unfoldable pub insertCanonical : Fact → Core → Core
+insertCanonical f w = insertFact (canonicalFact (w .links) f) w
+
+-- "To impose a fact: take `concrete_types_of` once. .."
+unfoldable pub impose : Fact → Core → Core
+impose f w = insertCanonical f (refineAll (concreteTypesOf (w .links) (w .facts) (f .el)) f w)
+
+-- "The answer is yes if a merge happened or the set grew."
+unfoldable pub grew : Core → Core → Bool
+grew before after = ltb (before .merges + before .added) (after .merges + after .added)
+
+unfoldable pub imposeAll : List Fact → Core → Core
+imposeAll [] w = w
+imposeAll (f ∷ fs) w = imposeAll fs (impose f w)

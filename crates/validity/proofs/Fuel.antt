@@ -1,0 +1,172 @@
+-- The rounds of a close of a valid structure, marks or not, end with one in which no pass reports work or number 11 was met: fuel never ends them.
+use mathlib.Core.Path.{_≡_, refl, sym, ap, _∙_}
+use mathlib.Core.Logic.{inl, inr}
+use mathlib.Core.Bool.{Bool, true, false, _&&_}
+use mathlib.Core.List.{List}
+use Prim.Native.Nat.{ℕ, zero, suc, _+_, _≤_, _<_}
+use native.Mathlib.Omega.{arith}
+use Rattle.ids.proofs.Sorted.{All}
+use Rattle.unification.specs.Roots.{maxEls}
+use Rattle.signature.specs.Model.{Sig}
+use Rattle.semantics.specs.Structure.{FuncApp, PredApp, compareFuncApp, maxFuncApps}
+use Rattle.semantics.specs.Types.{Core}
+use Rattle.semantics.specs.Close.{Turn, Rounds, rounds, round, isNone, lastRound, oneMore, roundsFrom, fuel}
+use Rattle.semantics.specs.Valid.{countsAt, FuncAppValid, PredAppValid, Table, ValidSig}
+use Rattle.semantics.proofs.Cases.{test, and-first}
+use Rattle.validity.proofs.Drain.{Whole}
+use Rattle.validity.proofs.Turns.{Turned, measure, measure-fuel, measure-falls, round-turned}
+
+-- another round follows
+abbrev pub goesOn : Turn → Bool
+goesOn t = t .worked && isNone (t .core .met)
+
+-- the last of the rounds of `roundsFrom`, with its report
+unfoldable pub lastFrom : ℕ → Sig → List PredApp → Turn → Turn
+lastFrom zero g preds t = t
+lastFrom (suc k) g preds t = elim (goesOn t) [ true ↦ lastFrom k g preds (round g preds (t .apps) (t .core)) | false ↦ t ]
+
+module _ (g : Sig) (preds : List PredApp) where
+  next : Turn → Turn
+  next t = round g preds (t .apps) (t .core)
+
+  -- Where no round follows.
+
+  pub rounds-stop : (k : ℕ) (t : Turn) → goesOn t ≡ false → roundsFrom k g preds t ≡ lastRound t
+  unfolding roundsFrom
+  rounds-stop zero t e = refl
+  rounds-stop (suc k) t e = rw (e, roundsFrom)
+
+  last-stop : (k : ℕ) (t : Turn) → goesOn t ≡ false → lastFrom k g preds t ≡ t
+  unfolding lastFrom
+  last-stop zero t e = refl
+  last-stop (suc k) t e = rw (e, lastFrom)
+
+  -- Where one does.
+
+  pub rounds-on : (k : ℕ) (t : Turn) → goesOn t ≡ true
+      → roundsFrom (suc k) g preds t ≡ oneMore (roundsFrom k g preds (round g preds (t .apps) (t .core)))
+  unfolding roundsFrom
+  rounds-on k t e = rw (e, roundsFrom)
+
+  last-on : (k : ℕ) (t : Turn) → goesOn t ≡ true → lastFrom (suc k) g preds t ≡ lastFrom k g preds (next t)
+  unfolding lastFrom next
+  last-on k t e = rw (e, lastFrom)
+
+  -- the rounds leave what the last of them leaves
+  pub rounds-last : (k : ℕ) (t : Turn)
+      → (roundsFrom k g preds t .core ≡ lastFrom k g preds t .core) × (roundsFrom k g preds t .apps ≡ lastFrom k g preds t .apps)
+  unfolding next oneMore lastRound
+  rounds-last zero t = (unfold roundsFrom lastFrom in (refl, refl))
+  rounds-last (suc k) t = elim (test (goesOn t)) [
+    | inl e ↦
+        let r = rounds-last k (round g preds (t .apps) (t .core)) in
+        rw (rounds-on k t e, last-on k t e) r
+    | inr e ↦ rw (rounds-stop (suc k) t e, last-stop (suc k) t e) (refl, refl)
+  ]
+
+-- the last round of some, with its report: it is a round, and no round follows
+pub record Last (g : Sig) (preds : List PredApp) (r : Rounds) : Type 0 where
+  pub before : List FuncApp × Core
+  pub turn : Turn
+  pub is : turn ≡ round g preds (before .0) (before .1)
+  pub core : r .core ≡ turn .core
+  pub apps : r .apps ≡ turn .apps
+  -- "none reports work", or a number was met
+  pub ends : goesOn turn ≡ false
+
+module _ (g : Sig) (v : ValidSig g) (n : ℕ) (preds : List PredApp) (pv : All (PredAppValid (countsAt g n)) preds) where
+  on : (t : Turn) → Turned (countsAt g n) t → Turned (countsAt g n) (round g preds (t .apps) (t .core))
+  on t h = round-turned g v n preds pv (t .core) (t .apps) (h .whole) (h .apps)
+
+  less : (k : ℕ) (t : Turn) → Turned (countsAt g n) t → measure t < suc k
+      → goesOn (round g preds (t .apps) (t .core)) ≡ true → measure (round g preds (t .apps) (t .core)) < k
+  less k t h l e =
+      let u = round g preds (t .apps) (t .core) in
+      omega (arith, measure-falls g v n preds pv t h (and-first (u .worked) (isNone (u .core .met)) e))
+
+  -- any fuel above the measure of a round will do
+  pub rounds-enough : (k j : ℕ) (t : Turn) → Turned (countsAt g n) t → (goesOn t ≡ true → measure t < k) → (goesOn t ≡ true → measure t < j)
+      → roundsFrom k g preds t ≡ roundsFrom j g preds t
+  rounds-enough zero j t h p q = elim (test (goesOn t)) [
+    | inl e ↦ absurd (omega (arith, p e))
+    | inr e ↦ rounds-stop g preds zero t e ∙ sym (rounds-stop g preds j t e)
+  ]
+  rounds-enough (suc k) zero t h p q = elim (test (goesOn t)) [
+    | inl e ↦ absurd (omega (arith, q e))
+    | inr e ↦ rounds-stop g preds (suc k) t e ∙ sym (rounds-stop g preds zero t e)
+  ]
+  rounds-enough (suc k) (suc j) t h p q = elim (test (goesOn t)) [
+    | inl e ↦
+        rounds-on g preds k t e
+        ∙ ap oneMore (rounds-enough k j (round g preds (t .apps) (t .core)) (on t h) (less k t h (p e)) (less j t h (q e)))
+        ∙ sym (rounds-on g preds j t e)
+    | inr e ↦ rounds-stop g preds (suc k) t e ∙ sym (rounds-stop g preds (suc j) t e)
+  ]
+
+  -- after the last round none follows
+  pub last-ends : (k : ℕ) (t : Turn) → Turned (countsAt g n) t → (goesOn t ≡ true → measure t < k) → goesOn (lastFrom k g preds t) ≡ false
+  unfolding next
+  last-ends zero t h p = elim (test (goesOn t)) [ inl e ↦ absurd (omega (arith, p e)) | inr e ↦ rw (last-stop g preds zero t e) e ]
+  last-ends (suc k) t h p = elim (test (goesOn t)) [
+    | inl e ↦ rw (last-on g preds k t e) (last-ends k (round g preds (t .apps) (t .core)) (on t h) (less k t h (p e)))
+    | inr e ↦ rw (last-stop g preds (suc k) t e) e
+  ]
+
+  pub last-turned : (k : ℕ) (t : Turn) → Turned (countsAt g n) t → Turned (countsAt g n) (lastFrom k g preds t)
+  unfolding next
+  last-turned zero t h = (unfold lastFrom in h)
+  last-turned (suc k) t h = elim (test (goesOn t)) [
+    | inl e ↦ rw (last-on g preds k t e) (last-turned k (round g preds (t .apps) (t .core)) (on t h))
+    | inr e ↦ rw (last-stop g preds (suc k) t e) h
+  ]
+
+  -- it is a round
+  last-round : (k : ℕ) (t : Turn) → (b : List FuncApp × Core) × (t ≡ round g preds (b .0) (b .1))
+      → (b : List FuncApp × Core) × (lastFrom k g preds t ≡ round g preds (b .0) (b .1))
+  unfolding next
+  last-round zero t r = (unfold lastFrom in r)
+  last-round (suc k) t r = elim (test (goesOn t)) [
+    | inl e ↦ rw (last-on g preds k t e) (last-round k (round g preds (t .apps) (t .core)) ((t .apps, t .core), refl))
+    | inr e ↦ rw (last-stop g preds (suc k) t e) r
+  ]
+
+  -- The rounds of a close.
+
+  module _ (few : n ≤ maxEls) (w : Core) (xs : List FuncApp) (h : Whole (countsAt g n) w)
+      (a : Table (FuncAppValid (countsAt g n)) compareFuncApp maxFuncApps xs) where
+    begin : Turned (countsAt g n) (round g preds xs w)
+    begin = round-turned g v n preds pv w xs h a
+
+    -- more fuel changes nothing
+    pub more-fuel : (j : ℕ) → roundsFrom (fuel + j) g preds (round g preds xs w) ≡ roundsFrom fuel g preds (round g preds xs w)
+    more-fuel j =
+        let l = measure-fuel (countsAt g n) (round g preds xs w) few begin in
+        rounds-enough (fuel + j) fuel (round g preds xs w) begin (λ e. omega (arith, l)) (λ e. l)
+
+    -- the last round reports no work, or a number was met
+    pub rounds-end : Last g preds (rounds g preds xs w)
+    unfolding rounds
+    rounds-end =
+        let t = round g preds xs w in
+        let b = last-round fuel t ((xs, w), refl) in
+        let r = rounds-last g preds fuel t in
+        record {
+          before = b .0;
+          turn = lastFrom fuel g preds t;
+          is = b .1;
+          core = r .0;
+          apps = r .1;
+          ends = last-ends fuel t begin (λ e. measure-fuel (countsAt g n) t few begin);
+        }
+
+    pub rounds-turned : Turned (countsAt g n) (rounds-end .turn)
+    unfolding rounds-end
+    rounds-turned = last-turned fuel (round g preds xs w) begin
+
+  -- the rounds from a round on, as a loop runs them: with the same fuel after each
+  pub rounds-next : n ≤ maxEls → (t : Turn) → Turned (countsAt g n) t
+      → roundsFrom fuel g preds t
+      ≡ elim (goesOn t) [ true ↦ oneMore (roundsFrom fuel g preds (round g preds (t .apps) (t .core))) | false ↦ lastRound t ]
+  rounds-next few t h =
+      let l = measure-fuel (countsAt g n) t few h in
+      rounds-enough fuel (suc fuel) t h (λ e. l) (λ e. omega (arith, l)) ∙ (unfold roundsFrom in refl)

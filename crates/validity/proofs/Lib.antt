@@ -1,0 +1,11 @@
+pub mod Drain
+pub mod Imposing
+pub mod Entering
+pub mod Demands
+pub mod Turns
+pub mod Fuel
+pub mod Closing
+pub mod Growing
+pub mod Signatures
+pub mod Replacing
+pub mod Calls

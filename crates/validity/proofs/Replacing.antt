@@ -1,0 +1,141 @@
+-- A valid structure with one table replaced.
+use mathlib.Core.Path.{_≡_, _∙_}
+use mathlib.Core.List.{List}
+use Prim.Native.Nat.{ℕ}
+use lib.ListN.{length}
+use mathlib.Core.Bool.{Bool}
+use Rattle.ids.proofs.Sorted.{all-map}
+use Rattle.unification.specs.Roots.{rootOf, Formed}
+use Rattle.semantics.specs.Structure.{Fact, FuncApp, PredApp, Pair, Var, Ambient, Structure, maxPairs, maxImpositions, maxFuncApps, maxPredApps, maxVars, compareFuncApp, comparePredApp, compareVar, compareAmbient, with-links, with-func-apps, with-pred-apps, with-vars, with-ambients, with-pairs, with-impositions, accept}
+use Rattle.semantics.specs.Valid.{Counts, PairValid, FactValid, FuncAppValid, PredAppValid, VarValid, AmbientValid, OnRoot, Queue, Table, ValidStructure}
+
+module _ (c : Counts) (s : Structure) (v : ValidStructure c s) where
+  pub accept-valid : (b : Bool) → ValidStructure c (accept b s)
+  accept-valid b = record {
+    els = v .els;
+    els-most = v .els-most;
+    links = v .links;
+    marks = v .marks;
+    facts = v .facts;
+    facts-rooted = v .facts-rooted;
+    func-apps = v .func-apps;
+    pred-apps = v .pred-apps;
+    vars = v .vars;
+    ambients = v .ambients;
+    pairs = v .pairs;
+    impositions = v .impositions;
+  }
+
+  -- other links, with the same roots
+  pub links-valid : (ks : List ℕ) → Formed ks → length ks ≡ length (s .links) → ((e : ℕ) → rootOf ks e ≡ rootOf (s .links) e)
+      → ValidStructure c (with-links ks s)
+  links-valid ks f l same = record {
+    els = l ∙ v .els;
+    els-most = v .els-most;
+    links = f;
+    marks = v .marks;
+    facts = v .facts;
+    facts-rooted = all-map (λ (x : Fact) (k : OnRoot (s .links) x). same (x .el) ∙ k) (s .facts) (v .facts-rooted);
+    func-apps = v .func-apps;
+    pred-apps = v .pred-apps;
+    vars = v .vars;
+    ambients = v .ambients;
+    pairs = v .pairs;
+    impositions = v .impositions;
+  }
+
+  pub pairs-valid : (ps : List Pair) → Queue (PairValid c) maxPairs ps → ValidStructure c (with-pairs ps s)
+  pairs-valid ps q = record {
+    els = v .els;
+    els-most = v .els-most;
+    links = v .links;
+    marks = v .marks;
+    facts = v .facts;
+    facts-rooted = v .facts-rooted;
+    func-apps = v .func-apps;
+    pred-apps = v .pred-apps;
+    vars = v .vars;
+    ambients = v .ambients;
+    pairs = q;
+    impositions = v .impositions;
+  }
+
+  pub impositions-valid : (fs : List Fact) → Queue (FactValid c) maxImpositions fs → ValidStructure c (with-impositions fs s)
+  impositions-valid fs q = record {
+    els = v .els;
+    els-most = v .els-most;
+    links = v .links;
+    marks = v .marks;
+    facts = v .facts;
+    facts-rooted = v .facts-rooted;
+    func-apps = v .func-apps;
+    pred-apps = v .pred-apps;
+    vars = v .vars;
+    ambients = v .ambients;
+    pairs = v .pairs;
+    impositions = q;
+  }
+
+  pub func-apps-valid : (xs : List FuncApp) → Table (FuncAppValid c) compareFuncApp maxFuncApps xs → ValidStructure c (with-func-apps xs s)
+  func-apps-valid xs t = record {
+    els = v .els;
+    els-most = v .els-most;
+    links = v .links;
+    marks = v .marks;
+    facts = v .facts;
+    facts-rooted = v .facts-rooted;
+    func-apps = t;
+    pred-apps = v .pred-apps;
+    vars = v .vars;
+    ambients = v .ambients;
+    pairs = v .pairs;
+    impositions = v .impositions;
+  }
+
+  pub pred-apps-valid : (xs : List PredApp) → Table (PredAppValid c) comparePredApp maxPredApps xs → ValidStructure c (with-pred-apps xs s)
+  pred-apps-valid xs t = record {
+    els = v .els;
+    els-most = v .els-most;
+    links = v .links;
+    marks = v .marks;
+    facts = v .facts;
+    facts-rooted = v .facts-rooted;
+    func-apps = v .func-apps;
+    pred-apps = t;
+    vars = v .vars;
+    ambients = v .ambients;
+    pairs = v .pairs;
+    impositions = v .impositions;
+  }
+
+  pub vars-valid : (xs : List Var) → Table (VarValid c) compareVar maxVars xs → ValidStructure c (with-vars xs s)
+  vars-valid xs t = record {
+    els = v .els;
+    els-most = v .els-most;
+    links = v .links;
+    marks = v .marks;
+    facts = v .facts;
+    facts-rooted = v .facts-rooted;
+    func-apps = v .func-apps;
+    pred-apps = v .pred-apps;
+    vars = t;
+    ambients = v .ambients;
+    pairs = v .pairs;
+    impositions = v .impositions;
+  }
+
+  pub ambients-valid : (xs : List Ambient) → Table (AmbientValid c) compareAmbient (c .types) xs → ValidStructure c (with-ambients xs s)
+  ambients-valid xs t = record {
+    els = v .els;
+    els-most = v .els-most;
+    links = v .links;
+    marks = v .marks;
+    facts = v .facts;
+    facts-rooted = v .facts-rooted;
+    func-apps = v .func-apps;
+    pred-apps = v .pred-apps;
+    vars = v .vars;
+    ambients = t;
+    pairs = v .pairs;
+    impositions = v .impositions;
+  }
