@@ -1,0 +1,207 @@
+//! The commands around the oracle; README.md lists them.
+
+mod compare;
+mod edges;
+mod history;
+mod mutants;
+mod proved;
+mod random;
+mod rng;
+mod shrink;
+#[cfg(test)]
+mod tests;
+
+use std::collections::BTreeMap;
+use std::io::{self, Read, Write};
+use std::path::Path;
+use std::process::ExitCode;
+use std::time::Instant;
+use std::{env, fs};
+
+use compare::{first_difference, report, stream_of, Subject};
+use oracle::stream::{self, Entry};
+use standin::{Fault, FAULTS};
+
+const USAGE: &str = "\
+driver answer                         the oracle's answers to the stream on standard input
+driver standin [FAULT]                the stand-in's answers, right or with a numbered fault
+driver show                           the stream on standard input as text
+driver run N SEED [COMMAND [ARG]...]  the fixed histories and N random ones through all sides
+driver mutants N SEED                 which wrong versions these histories tell apart
+driver sample DIRECTORY               writes sample.in and sample.out there";
+
+/// Histories that are answered at a time.
+const BATCH: u64 = 1000;
+
+/// Random histories of the sample, and their seed.
+const SAMPLE: (u64, u64) = (200, 1);
+
+fn main() -> ExitCode {
+    let words: Vec<String> = env::args().skip(1).collect();
+    let words: Vec<&str> = words.iter().map(String::as_str).collect();
+    let done = match words[..] {
+        ["answer"] => put(stream::answer(&input()).as_bytes()),
+        ["standin"] => put(&Subject::StandIn(None).answer(&input())),
+        ["standin", fault] => match fault_numbered(fault) {
+            Some(fault) => put(&Subject::StandIn(Some(fault)).answer(&input())),
+            None => usage(),
+        },
+        ["show"] => {
+            let shown = stream::entries(&input()).iter().map(compare::describe).collect::<String>();
+            put(shown.as_bytes())
+        }
+        ["run", n, seed, ref command @ ..] => match (n.parse(), seed.parse()) {
+            (Ok(n), Ok(seed)) => run(n, seed, command),
+            _ => usage(),
+        },
+        ["mutants", n, seed] => match (n.parse(), seed.parse()) {
+            (Ok(n), Ok(seed)) => mutants::judge(&histories(n, seed)) == 0,
+            _ => usage(),
+        },
+        ["sample", directory] => write_sample(Path::new(directory)),
+        _ => usage(),
+    };
+    if done {
+        ExitCode::SUCCESS
+    } else {
+        ExitCode::FAILURE
+    }
+}
+
+fn usage() -> bool {
+    eprintln!("{USAGE}");
+    false
+}
+
+fn input() -> Vec<u8> {
+    let mut bytes = Vec::new();
+    io::stdin().read_to_end(&mut bytes).expect("standard input can be read");
+    bytes
+}
+
+fn put(bytes: &[u8]) -> bool {
+    io::stdout().write_all(bytes).is_ok()
+}
+
+fn fault_numbered(text: &str) -> Option<Fault> {
+    let number: usize = text.parse().ok()?;
+    FAULTS.get(number.checked_sub(1)?).map(|(fault, _)| *fault)
+}
+
+/// The fixed histories and then `n` random ones.
+fn histories(n: u64, seed: u64) -> Vec<Entry> {
+    let random = (0..n).map(|number| random::entry(seed, number));
+    edges::all().into_iter().chain(random).collect()
+}
+
+/// Runs the histories through the oracle, the stand-in and the command, and
+/// prints the first difference as the smallest history that shows it.
+fn run(n: u64, seed: u64, command: &[&str]) -> bool {
+    let begun = Instant::now();
+    let mut subjects = vec![("the stand-in", Subject::StandIn(None))];
+    if !command.is_empty() {
+        let words = command.iter().map(|word| word.to_string()).collect();
+        subjects.push((command[0], Subject::Command(words)));
+    }
+    let mut tally = Tally::default();
+    for first in (0..n.max(1)).step_by(BATCH as usize) {
+        let numbers = first..n.min(first + BATCH);
+        let mut batch: Vec<Entry> = numbers.map(|number| random::entry(seed, number)).collect();
+        if first == 0 {
+            batch.splice(0..0, edges::all());
+        }
+        let stream = stream_of(&batch);
+        let answers = stream::answer(&stream);
+        tally.add(&batch, &answers);
+        for (name, subject) in &subjects {
+            let given = subject.answer(&stream);
+            if let Some(index) = first_difference(answers.as_bytes(), &given) {
+                println!("{name} differs, first in {}", name_of(first, index));
+                print_smallest(subject, &batch[index]);
+                return false;
+            }
+        }
+    }
+    println!("{tally}, in {:.1} s", begun.elapsed().as_secs_f64());
+    let names: Vec<&str> = subjects.iter().map(|(name, _)| *name).collect();
+    println!("The oracle's assertions held. 0 differences from {}.", names.join(" and "));
+    if command.is_empty() {
+        println!("No command was given: ONLY THE ORACLE AND ITS STAND-IN RAN.");
+    }
+    true
+}
+
+/// What a history is called: the first batch begins with the fixed ones.
+fn name_of(first: u64, index: usize) -> String {
+    let fixed = if first == 0 { edges::all().len() } else { 0 };
+    match index.checked_sub(fixed) {
+        None => format!("fixed history {index}"),
+        Some(random) => format!("random history {}", first + random as u64),
+    }
+}
+
+fn print_smallest(subject: &Subject, entry: &Entry) {
+    if !subject.differs_on(entry) {
+        println!("It does not differ when it is alone in a stream:");
+        println!("{}", report(subject, entry));
+        return;
+    }
+    let smallest = shrink::shrink(entry, &|candidate| subject.differs_on(candidate));
+    println!("{}", report(subject, &smallest));
+}
+
+/// What the histories of a run came to.
+#[derive(Default)]
+struct Tally {
+    histories: usize,
+    bytes: usize,
+    closes: usize,
+    merges: usize,
+    conflicts: usize,
+    refusals: BTreeMap<u16, usize>,
+}
+
+impl Tally {
+    fn add(&mut self, entries: &[Entry], answers: &str) {
+        self.histories += entries.len();
+        self.bytes += entries.iter().map(|entry| entry.bytes.len()).sum::<usize>();
+        for line in answers.lines() {
+            let mut words = line.split(' ');
+            let word = words.next().unwrap_or_default();
+            let mut number = || words.next().and_then(|word| word.parse::<usize>().ok());
+            match word {
+                "close" => {
+                    self.closes += 1;
+                    let _changed = number();
+                    self.merges += number().unwrap_or_default();
+                }
+                "conflicts" => self.conflicts += number().unwrap_or_default(),
+                "refused" => {
+                    let cause = number().unwrap_or_default() as u16;
+                    *self.refusals.entry(cause).or_default() += 1;
+                }
+                _ => {}
+            }
+        }
+    }
+}
+
+impl std::fmt::Display for Tally {
+    fn fmt(&self, f: &mut std::fmt::Formatter) -> std::fmt::Result {
+        write!(f, "{} histories, {} bytes: ", self.histories, self.bytes)?;
+        write!(
+            f,
+            "{} closes, {} merges, {} conflicts, refusals",
+            self.closes, self.merges, self.conflicts
+        )?;
+        self.refusals.iter().try_for_each(|(number, count)| write!(f, " {number}:{count}"))
+    }
+}
+
+fn write_sample(directory: &Path) -> bool {
+    let stream = stream_of(&histories(SAMPLE.0, SAMPLE.1));
+    let answers = stream::answer(&stream);
+    println!("sample.in {} bytes, sample.out {} bytes", stream.len(), answers.len());
+    fs::write(directory.join("sample.in"), stream).is_ok()
+        && fs::write(directory.join("sample.out"), answers).is_ok()
+}

@@ -1,0 +1,388 @@
+//! Random histories: most of them valid, some damaged.
+
+use oracle::stream::Entry;
+
+use crate::history::{bytes, chained, record, History, Words};
+use crate::rng::Rng;
+
+/// The history with this number under this seed.
+pub fn entry(seed: u64, number: u64) -> Entry {
+    let mut rng = Rng::new(seed, number);
+    let sheet = rng.percent(50);
+    let maker = Maker::new(&mut rng, !sheet);
+    let mut history = maker.history();
+    if rng.percent(25) {
+        damage_records(&mut rng, &mut history.records);
+    }
+    // The structure after every record of a long history would be too much.
+    let dumps = history.records.len() <= 60 && rng.percent(60);
+    match (sheet, dumps) {
+        (false, false) => history.list(),
+        (false, true) => history.list_with_dumps(),
+        (true, _) => {
+            history.records.truncate(1024);
+            let bytes = sheet_bytes(&mut rng, &history);
+            let plain = if dumps { history.sheet_with_dumps() } else { history.sheet() };
+            Entry { bytes, ..plain }
+        }
+    }
+}
+
+/// Makes a valid history; it keeps count of what was declared.
+struct Maker<'a> {
+    rng: &'a mut Rng,
+    history: History,
+    /// Whether the history may hold finds and lookups.
+    is_list: bool,
+    /// The parent count and the kind of each type.
+    types: Vec<(usize, u16)>,
+    /// The parents and arguments of each predicate, function, and the functions
+    /// that may not be applied.
+    preds: Vec<(usize, usize)>,
+    funcs: Vec<(usize, usize)>,
+    barred: Vec<u16>,
+    els: usize,
+    /// How many elements in a hundred are marked.
+    marks: usize,
+    /// Elements are mostly taken from the first so many, so that they collide.
+    near: usize,
+}
+
+impl<'a> Maker<'a> {
+    fn new(rng: &'a mut Rng, is_list: bool) -> Self {
+        let marks = rng.pick(&[0, 0, 20, 50, 100]);
+        let near = rng.between(1, 6);
+        Maker {
+            rng,
+            history: History::new(),
+            is_list,
+            types: Vec::new(),
+            preds: Vec::new(),
+            funcs: Vec::new(),
+            barred: Vec::new(),
+            els: 0,
+            marks,
+            near,
+        }
+    }
+
+    fn history(mut self) -> History {
+        let calls = match self.rng.below(300) {
+            0 => {
+                self.fill_with_facts();
+                self.rng.between(10, 60)
+            }
+            1..=3 => {
+                self.declare();
+                self.add_els(20, 256);
+                self.rng.between(50, 700)
+            }
+            _ => {
+                self.declare();
+                self.add_els(1, 9);
+                self.rng.between(2, 40)
+            }
+        };
+        for _ in 0..calls {
+            self.add_call();
+        }
+        for _ in 0..self.rng.between(0, 3) {
+            self.history.close();
+        }
+        if self.rng.percent(70) {
+            self.history.conflicts();
+        }
+        self.history
+    }
+
+    fn declare(&mut self) {
+        if self.rng.percent(30) {
+            self.declare_for_joins();
+        } else {
+            self.declare_types();
+            self.declare_relations();
+        }
+        if self.rng.percent(25) {
+            self.declare_models();
+        }
+    }
+
+    /// A structure that holds about as many facts as it can: a predicate gives
+    /// four to each of almost all elements.
+    fn fill_with_facts(&mut self) {
+        self.declare_for_joins();
+        for _ in 0..4 {
+            self.types.push((0, 0));
+            self.history.plain(&[]);
+        }
+        self.preds.push((0, 4));
+        self.history.pred(&[], &[3, 4, 5, 6]);
+        self.add_els(256, 256);
+        for el in 0..self.rng.between(254, 256) as u16 {
+            self.history.holds(2, &[], &[el, el, el, el]);
+        }
+        self.history.close();
+    }
+
+    fn add_els(&mut self, least: usize, most: usize) {
+        for _ in 0..self.rng.between(least, most) {
+            self.add_el();
+        }
+    }
+
+    fn declare_types(&mut self) {
+        for _ in 0..self.rng.between(1, 5) {
+            let models: Vec<u16> = self.types_of_kind(1);
+            let kind = match self.rng.below(10) {
+                0..=4 => 0,
+                5..=7 => 1,
+                8 if !models.is_empty() => 3,
+                _ => 2,
+            };
+            let model = if kind == 3 { self.rng.pick(&models) } else { 0 };
+            let parents = self.some_types(2);
+            self.types.push((parents.len(), kind));
+            self.history.push(record(1, kind, model, &parents, &[]));
+        }
+    }
+
+    /// Types under models and relations that give them, so that marked parents
+    /// meet in typing.
+    fn declare_for_joins(&mut self) {
+        self.marks = self.marks.max(20);
+        self.types = vec![(0, 1), (1, 0), (2, 0)];
+        self.history.model(&[]).plain(&[0]).plain(&[0, 0]);
+        self.preds = vec![(1, 1), (2, 2)];
+        self.history.pred(&[0], &[1]).pred(&[0, 0], &[1, 2]);
+        self.funcs = vec![(1, 0), (1, 1), (0, 1), (2, 1)];
+        self.history.func(&[0], &[], 1).func(&[0], &[1], 1);
+        self.history.func(&[], &[0], 0).func(&[0, 0], &[2], 2);
+    }
+
+    fn types_of_kind(&self, kind: u16) -> Vec<u16> {
+        let types = self.types.iter().enumerate();
+        let of_kind = types.filter(|(_, typ)| typ.1 == kind);
+        of_kind.map(|(number, _)| number as u16).collect()
+    }
+
+    /// A list of declared types, mostly short.
+    fn some_types(&mut self, usual: usize) -> Vec<u16> {
+        if self.types.is_empty() {
+            return Vec::new();
+        }
+        let most = if self.rng.percent(10) { 4 } else { usual };
+        let count = self.rng.between(0, most);
+        (0..count).map(|_| self.a_type()).collect()
+    }
+
+    fn a_type(&mut self) -> u16 {
+        self.rng.below(self.types.len()) as u16
+    }
+
+    fn declare_relations(&mut self) {
+        for _ in 0..self.rng.between(0, 3) {
+            let (parents, arity) = (self.some_types(2), self.some_types(2));
+            self.preds.push((parents.len(), arity.len()));
+            self.history.pred(&parents, &arity);
+        }
+        for _ in 0..self.rng.between(0, 4) {
+            let (parents, domain) = (self.some_types(2), self.some_types(2));
+            let codomain = self.a_type();
+            self.funcs.push((parents.len(), domain.len()));
+            self.history.func(&parents, &domain, codomain);
+        }
+    }
+
+    /// A model with its four functions, and sometimes a morphism application.
+    fn declare_models(&mut self) {
+        let Some(&model) = self.types_of_kind(1).last() else {
+            return;
+        };
+        let mor = self.types.len() as u16;
+        self.history.mor(model, &[]);
+        self.types.push((0, 3));
+        let first = self.funcs.len() as u16;
+        for domain in [&[mor][..], &[mor], &[model], &[mor, mor], &[mor, 0]] {
+            self.history.func(&[], domain, model);
+            self.funcs.push((0, domain.len()));
+        }
+        let funcs = [first, first + 1, first + 2, first + 3];
+        self.history.model_ids(model, mor, funcs);
+        self.barred.extend(&funcs[2..]);
+        if self.rng.percent(50) {
+            let member = self.a_type();
+            self.history.mor_app(first + 4, mor, member);
+            self.barred.push(first + 4);
+        }
+    }
+
+    fn add_el(&mut self) {
+        if self.rng.percent(self.marks) {
+            self.history.marked_el();
+        } else {
+            self.history.el();
+        }
+        self.els += 1;
+    }
+
+    fn an_el(&mut self) -> u16 {
+        let near = self.near.min(self.els);
+        let among = if self.rng.percent(50) { near } else { self.els };
+        self.rng.below(among) as u16
+    }
+
+    fn some_els(&mut self, count: usize) -> Vec<u16> {
+        (0..count).map(|_| self.an_el()).collect()
+    }
+
+    /// The declared count, or sometimes another one.
+    fn about(&mut self, count: usize) -> usize {
+        if self.rng.percent(10) {
+            self.rng.between(0, 4)
+        } else {
+            count
+        }
+    }
+
+    fn add_call(&mut self) {
+        let (a, b) = (self.an_el(), self.an_el());
+        match self.rng.below(if self.is_list { 120 } else { 100 }) {
+            0..=13 => _ = self.history.equal(a, b),
+            14..=31 => self.add_imposition(a),
+            32..=57 => self.add_application(),
+            58..=67 => self.add_predicate(),
+            68..=78 => _ = self.history.close(),
+            79..=85 => _ = self.history.conflicts(),
+            86..=89 => _ = self.history.var(self.rng.below(6) as u16, a),
+            90..=92 => _ = self.history.ambient(self.rng.below(6) as u16, a),
+            93..=95 => self.add_el(),
+            96..=99 => self.repeat_call(),
+            100..=109 => _ = self.history.root(a),
+            110..=112 => _ = self.history.root_const(a),
+            113..=116 => {
+                let parents = self.some_els(4);
+                let count = self.rng.between(0, 4);
+                let typ = self.a_type();
+                _ = self.history.type_lookup(typ, &parents[..count]);
+            }
+            _ => {
+                let types = self.some_types(3);
+                _ = self.history.ambient_lookup(&types);
+            }
+        }
+    }
+
+    fn add_imposition(&mut self, el: u16) {
+        let typ = self.a_type();
+        let declared = self.types[usize::from(typ)].0;
+        let count = self.about(declared);
+        let parents = self.some_els(count);
+        self.history.impose(el, typ, &parents);
+    }
+
+    fn add_application(&mut self) {
+        let func = self.rng.below(self.funcs.len().max(1)) as u16;
+        let is_barred = self.barred.contains(&func) && !self.rng.percent(3);
+        if self.funcs.is_empty() || is_barred {
+            return self.add_el();
+        }
+        let (parents, args) = self.funcs[usize::from(func)];
+        let (parents, args) = (self.about(parents), self.about(args));
+        let (parents, args) = (self.some_els(parents), self.some_els(args));
+        let result = self.an_el();
+        self.history.apply(func, &parents, &args, result);
+    }
+
+    fn add_predicate(&mut self) {
+        if self.preds.is_empty() {
+            return self.add_el();
+        }
+        let pred = self.rng.below(self.preds.len());
+        let (parents, args) = self.preds[pred];
+        let (parents, args) = (self.about(parents), self.about(args));
+        let (parents, args) = (self.some_els(parents), self.some_els(args));
+        self.history.holds(pred as u16, &parents, &args);
+    }
+
+    /// An earlier call once more; an application with another result.
+    fn repeat_call(&mut self) {
+        let mut words = self.rng.pick(&self.history.records);
+        if words[1] < 6 {
+            return;
+        }
+        if words[1] == 9 {
+            words[3] = self.an_el();
+        }
+        self.els += usize::from(words[1] == 6);
+        self.history.push(words);
+    }
+}
+
+/// Alters one to three records, or moves, repeats or drops one.
+fn damage_records(rng: &mut Rng, records: &mut Vec<Words>) {
+    for _ in 0..rng.between(1, 3) {
+        if records.is_empty() {
+            return;
+        }
+        let (one, other) = (rng.below(records.len()), rng.below(records.len()));
+        match rng.below(10) {
+            0 => records.swap(one, other),
+            1 => records.insert(one, records[other]),
+            2 => _ = records.remove(one),
+            _ => {
+                let word = rng.between(1, 15);
+                let old = records[one][word];
+                records[one][word] = match rng.below(7) {
+                    0 => old.wrapping_add(1),
+                    1 => old.wrapping_sub(1),
+                    2 => u16::MAX,
+                    3 => rng.below(1 << 16) as u16,
+                    _ => rng.below(16) as u16,
+                };
+            }
+        }
+    }
+}
+
+/// The bytes of a sheet: chained in order, or jumping, or damaged.
+fn sheet_bytes(rng: &mut Rng, history: &History) -> Vec<u8> {
+    let mut records = chained(&history.records);
+    match rng.below(20) {
+        0..=4 => records = scattered(rng, &history.records),
+        5 if !records.is_empty() => {
+            let at = rng.below(records.len());
+            records[at][0] = rng.below(records.len() + 2) as u16;
+        }
+        _ => {}
+    }
+    let mut bytes = bytes(&records);
+    match rng.below(60) {
+        0 => bytes.truncate(rng.below(bytes.len() + 1)),
+        1 => bytes.extend(vec![0; rng.between(1, 64)]),
+        2 if !bytes.is_empty() => {
+            let at = rng.below(bytes.len());
+            bytes[at] = rng.below(256) as u8;
+        }
+        _ => {}
+    }
+    bytes
+}
+
+/// The records at shuffled places, record 0 first, with some that no chain
+/// visits between them.
+fn scattered(rng: &mut Rng, records: &[Words]) -> Vec<Words> {
+    let spare = rng.below(4).min(1024 - records.len());
+    let size = records.len() + spare;
+    let mut places: Vec<usize> = (0..size).collect();
+    for at in 1..size {
+        let other = rng.between(1, at);
+        places.swap(at, other);
+    }
+    let mut sheet = vec![[u16::MAX; 16]; size];
+    for (at, words) in records.iter().enumerate() {
+        let mut words = *words;
+        words[0] = if at + 1 < records.len() { places[at + 1] as u16 } else { 0 };
+        sheet[places[at]] = words;
+    }
+    sheet
+}

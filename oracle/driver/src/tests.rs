@@ -1,0 +1,289 @@
+//! P1 to P10 as document 01 has them, the edges, and the tools themselves.
+
+use std::collections::BTreeSet;
+use std::fs;
+use std::path::Path;
+
+use oracle::record::{self, Record};
+use oracle::stream::{self, Entry, LIST, LIST_WITH_DUMPS};
+use standin::FAULTS;
+
+use crate::compare::{first_difference, stream_of, Subject};
+use crate::history::History;
+use crate::rng::Rng;
+use crate::{edges, histories, proved, random, shrink, SAMPLE};
+
+/// What an entry prints, without the line that begins it.
+fn answers(entry: &Entry) -> Vec<String> {
+    let text = stream::answer(&stream_of(std::slice::from_ref(entry)));
+    text.lines().skip(1).map(str::to_string).collect()
+}
+
+fn sheet(history: &History) -> Vec<String> {
+    answers(&history.sheet())
+}
+
+fn list(history: &History) -> Vec<String> {
+    answers(&history.list())
+}
+
+/// The structure after the last record of a list.
+fn structure(history: &History) -> Vec<String> {
+    let lines = answers(&history.list_with_dumps());
+    let is_dump = |line: &String| line.as_bytes()[1] == b' ';
+    let start = lines.iter().rposition(|line| !is_dump(line)).expect("it has answers");
+    lines[start + 1..].to_vec()
+}
+
+/// The structure after the first so many records.
+fn structure_after(history: &History, records: usize) -> Vec<String> {
+    structure(&History { records: history.records[..records].to_vec() })
+}
+
+fn tagged(lines: &[String], tag: &str) -> Vec<String> {
+    lines.iter().filter(|line| line.starts_with(tag)).cloned().collect()
+}
+
+#[test]
+fn p1_fresh() {
+    assert_eq!(sheet(&proved::p1()), ["close 0 0 1", "end 1"]);
+}
+
+#[test]
+fn p2_one_conflict() {
+    let lines = ["close 1 1 2", "conflict 2 1 0 / 1 1", "conflicts 1", "end 12"];
+    assert_eq!(sheet(&proved::p2()), lines);
+}
+
+#[test]
+fn p3_results_of_one_key() {
+    assert_eq!(sheet(&proved::p3()), ["close 1 2 3", "end 10"]);
+}
+
+#[test]
+fn p4_stale_parent_of_a_fact() {
+    let p = proved::p4();
+    assert_eq!(sheet(&p), ["close 1 0 1", "close 1 1 2", "close 0 0 1", "end 10"]);
+    assert_eq!(tagged(&structure(&p), "f "), ["f 2 1 0"]);
+}
+
+#[test]
+fn p5_stale_key() {
+    let p = proved::p5();
+    assert_eq!(sheet(&p), ["close 1 1 2", "close 1 1 3", "close 0 0 1", "end 15"]);
+    assert_eq!(tagged(&structure_after(&p, 13), "a "), ["a 0 0 / = 2", "a 0 1 / = 3"]);
+    assert_eq!(tagged(&structure_after(&p, 14), "a "), ["a 0 0 / = 2"]);
+    assert_eq!(tagged(&structure(&p), "i "), ["i 4 1 0", "i 4 1 0"]);
+}
+
+#[test]
+fn p6_leading_parents() {
+    assert_eq!(list(&proved::p6())[3..], ["absent", "type 2 7 8"]);
+}
+
+#[test]
+fn p7_shorter_list_agrees() {
+    let p = proved::p7();
+    assert_eq!(sheet(&p), ["close 1 0 1", "conflicts 0", "end 10"]);
+    assert_eq!(tagged(&structure(&p), "f "), ["f 0 2 1", "f 0 2 1 2"]);
+}
+
+#[test]
+fn p8_last_pair_first() {
+    let p = proved::p8();
+    assert_eq!(sheet(&p), ["close 1 2 2", "end 6"]);
+    assert_eq!(tagged(&structure(&p), "e "), ["e 0 0 0", "e 1 0 0", "e 2 0 0"]);
+}
+
+#[test]
+fn p9_marks() {
+    let marks = |marks| tagged(&structure(&proved::p9(marks)), "e ");
+    assert_eq!(marks([true, true]), ["e 0 0 1", "e 1 0 0"]);
+    assert_eq!(marks([true, false]), ["e 0 0 0", "e 1 0 0"]);
+    assert_eq!(marks([false, true]), ["e 0 0 0", "e 1 0 0"]);
+}
+
+#[test]
+fn p10_equal_to_itself() {
+    assert_eq!(sheet(&proved::p10()), ["close 0 0 1", "end 3"]);
+}
+
+/// A history that may grow by `limit` records of one kind and no more.
+fn assert_limit(start: &History, limit: u16, grow: &dyn Fn(&mut History, u16)) {
+    let mut h = start.clone();
+    for number in 0..limit {
+        grow(&mut h, number);
+    }
+    assert_eq!(sheet(&h), [format!("end {}", h.records.len())]);
+    grow(&mut h, limit);
+    assert_eq!(sheet(&h), [format!("refused 9 at {}", h.records.len() - 1)]);
+}
+
+#[test]
+fn tables_are_full_at_their_limits() {
+    let none = History::new();
+    assert_limit(&none, 32, &|h, _| _ = h.plain(&[]));
+    assert_limit(&none, 32, &|h, _| _ = h.pred(&[], &[]));
+    assert_limit(&none, 256, &|h, _| _ = h.el());
+    let mut start = History::new();
+    start.plain(&[]);
+    assert_limit(&start, 64, &|h, _| _ = h.func(&[], &[], 0));
+    start.func(&[], &[], 0).pred(&[], &[]).els(17);
+    assert_limit(&start, 256, &|h, _| _ = h.equal(0, 0));
+    assert_limit(&start, 64, &|h, n| _ = h.impose(n % 16, 0, &[n / 16]));
+    assert_limit(&start, 256, &|h, n| _ = h.apply(0, &[n % 16], &[n / 16], 0));
+    assert_limit(&start, 256, &|h, n| _ = h.holds(0, &[n % 16], &[n / 16]));
+}
+
+#[test]
+fn facts_1024_and_1025() {
+    let mut h = History::new();
+    h.plain(&[]).plain(&[]).plain(&[]).plain(&[]).plain(&[]).pred(&[], &[0, 1, 2, 3]).els(256);
+    for el in 0..256 {
+        h.holds(0, &[], &[el, el, el, el]);
+    }
+    h.close();
+    assert_eq!(sheet(&h), ["close 1 0 2", "end 519"]);
+    h.impose(0, 4, &[]).close();
+    assert_eq!(sheet(&h), ["close 1 0 2", "refused 11 at 520"]);
+}
+
+#[test]
+fn sheets_of_1024_records_and_one_more() {
+    let mut h = History::new();
+    h.els(256);
+    for _ in 0..768 {
+        h.conflicts();
+    }
+    assert_eq!(sheet(&h).last().map(String::as_str), Some("end 1024"));
+    h.conflicts();
+    assert_eq!(sheet(&h), ["refused 1 at 0"]);
+}
+
+#[test]
+fn next_index_on_the_last_record() {
+    let mut entry = proved::p10().sheet();
+    assert_eq!(answers(&entry), ["close 0 0 1", "end 3"]);
+    entry.bytes[64] = 1;
+    assert_eq!(answers(&entry), ["refused 2 at 2"]);
+    entry.bytes[64] = 3;
+    assert_eq!(answers(&entry), ["refused 2 at 2"]);
+}
+
+#[test]
+fn numbered_refusals_have_their_numbers() {
+    for (start, records) in edges::numbered_refusals() {
+        for (number, words) in records {
+            let lines = sheet(start.clone().push(words));
+            let index = start.records.len();
+            let last = match number {
+                0 => format!("end {}", index + 1),
+                _ => format!("refused {number} at {index}"),
+            };
+            assert_eq!(lines.last(), Some(&last), "{words:?}");
+        }
+    }
+}
+
+/// The kinds of calls, and the numbers that each can meet.
+const NUMBERS: [(u16, &[u16]); 18] = [
+    (1, &[3, 4, 5, 6, 9]),
+    (2, &[3, 4, 5, 9]),
+    (3, &[3, 4, 5, 9]),
+    (4, &[3, 4, 5, 6, 8, 9]),
+    (5, &[3, 4, 5, 6, 8, 9]),
+    (6, &[3, 9]),
+    (7, &[3, 5, 9]),
+    (8, &[3, 5, 9]),
+    (9, &[3, 5, 7, 9]),
+    (10, &[3, 5, 9]),
+    (11, &[3, 5, 8]),
+    (12, &[3, 5, 6, 8]),
+    (13, &[3, 11]),
+    (14, &[3]),
+    (101, &[5]),
+    (102, &[5]),
+    (103, &[3, 5]),
+    (104, &[3, 5, 10]),
+];
+
+#[test]
+fn fixed_histories_meet_every_number_of_every_kind() {
+    let mut met = BTreeSet::new();
+    for entry in
+        edges::all().iter().filter(|entry| entry.mode == LIST || entry.mode == LIST_WITH_DUMPS)
+    {
+        let lines = answers(&Entry { mode: LIST, ..entry.clone() });
+        let last_lines = lines.iter().filter(|line| !line.starts_with("conflict "));
+        for (bytes, line) in entry.bytes.chunks(record::BYTES).zip(last_lines) {
+            let number = line.strip_prefix("refused ").map_or(0, |n| n.parse().expect("a number"));
+            met.insert((Record::read(bytes).kind(), number));
+        }
+    }
+    let mut due = BTreeSet::new();
+    for (kind, numbers) in NUMBERS {
+        due.extend([0].iter().chain(numbers).map(|&number| (kind, number)));
+    }
+    met.retain(|(kind, _)| NUMBERS.iter().any(|(known, _)| known == kind));
+    assert_eq!(met, due);
+}
+
+/// A word of a random record: mostly small, so that some pass number 3.
+fn random_word(rng: &mut Rng, place: usize) -> u16 {
+    let word = match place {
+        0 => rng.below(13),
+        1 => {
+            rng.pick(&[1, 2, 3, 4, 5, 6, 6, 6, 7, 8, 9, 10, 11, 12, 13, 14, 101, 102, 103, 104, 15])
+        }
+        _ if rng.percent(70) => 0,
+        _ => rng.below(300),
+    };
+    word as u16
+}
+
+#[test]
+fn any_bytes_are_answered() {
+    for history in 0..3000 {
+        let mut rng = Rng::new(5, history);
+        let mut stream = Vec::new();
+        for _ in 0..rng.below(4) {
+            let mut bytes = Vec::new();
+            for place in 0..rng.below(16 * 24) {
+                bytes.extend(random_word(&mut rng, place % 16).to_le_bytes());
+            }
+            let mode = rng.below(5) as u32;
+            Entry { mode, bytes }.write(&mut stream);
+        }
+        stream.truncate(stream.len().saturating_sub(rng.below(3)));
+        assert_eq!(stream::answer(&stream), standin::answer(&stream, None));
+    }
+}
+
+#[test]
+fn random_histories_are_the_same_each_time() {
+    let twice = [(); 2].map(|()| stream_of(&histories(50, 3)));
+    assert_eq!(twice[0], twice[1]);
+    assert_ne!(random::entry(3, 0), random::entry(4, 0));
+}
+
+#[test]
+fn a_difference_is_found_and_made_small() {
+    let (fault, _) = FAULTS[1];
+    let subject = Subject::StandIn(Some(fault));
+    let entries = histories(200, 1);
+    let stream = stream_of(&entries);
+    let expected = stream::answer(&stream).into_bytes();
+    let index = first_difference(&expected, &subject.answer(&stream)).expect("it differs");
+    let smallest = shrink::shrink(&entries[index], &|entry| subject.differs_on(entry));
+    // Three elements, two equalities and a close show the order of draining.
+    assert_eq!(smallest.bytes.len(), 6 * 32);
+}
+
+#[test]
+fn the_sample_is_what_the_oracle_answers() {
+    let directory = Path::new(env!("CARGO_MANIFEST_DIR")).join("../sample");
+    let input = fs::read(directory.join("sample.in")).expect("the sample is there");
+    let output = fs::read_to_string(directory.join("sample.out")).expect("the sample is there");
+    assert!(input == stream_of(&histories(SAMPLE.0, SAMPLE.1)), "make the sample again");
+    assert!(output == stream::answer(&input), "make the sample again");
+}

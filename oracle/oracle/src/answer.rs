@@ -1,0 +1,68 @@
+//! What a call gives back, and the lines that say it.
+
+use std::fmt;
+
+pub enum Answer {
+    Refused(u16),
+    /// The number, or the ordinal, of what was declared (kinds 1 to 6).
+    Number(usize),
+    /// Yes or no (kinds 7 to 12).
+    Said(bool),
+    Closed {
+        changed: bool,
+        merges: usize,
+        rounds: usize,
+    },
+    /// The element and the two facts of each conflict.
+    Conflicts(Vec<(usize, Fact, Fact)>),
+    Found {
+        root: usize,
+        count: usize,
+    },
+    Typed(Option<Fact>),
+    Ambients(Numbers),
+}
+
+pub struct Fact {
+    pub typ: usize,
+    pub parents: Numbers,
+}
+
+/// Numbers of elements. Each prints with a space before it.
+pub struct Numbers(pub Vec<usize>);
+
+impl fmt::Display for Numbers {
+    fn fmt(&self, f: &mut fmt::Formatter) -> fmt::Result {
+        self.0.iter().try_for_each(|number| write!(f, " {number}"))
+    }
+}
+
+impl fmt::Display for Fact {
+    fn fmt(&self, f: &mut fmt::Formatter) -> fmt::Result {
+        write!(f, "{}{}", self.typ, self.parents)
+    }
+}
+
+/// The lines of an answer in a list of calls.
+impl fmt::Display for Answer {
+    fn fmt(&self, f: &mut fmt::Formatter) -> fmt::Result {
+        match self {
+            Answer::Refused(number) => writeln!(f, "refused {number}"),
+            Answer::Number(number) => writeln!(f, "number {number}"),
+            Answer::Said(yes) => writeln!(f, "answer {}", u8::from(*yes)),
+            Answer::Closed { changed, merges, rounds } => {
+                writeln!(f, "close {} {merges} {rounds}", u8::from(*changed))
+            }
+            Answer::Conflicts(conflicts) => {
+                for (el, a, b) in conflicts {
+                    writeln!(f, "conflict {el} {a} / {b}")?;
+                }
+                writeln!(f, "conflicts {}", conflicts.len())
+            }
+            Answer::Found { root, count } => writeln!(f, "root {root} {count}"),
+            Answer::Typed(Some(fact)) => writeln!(f, "type {fact}"),
+            Answer::Typed(None) => writeln!(f, "absent"),
+            Answer::Ambients(els) => writeln!(f, "ambients{els}"),
+        }
+    }
+}

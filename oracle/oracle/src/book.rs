@@ -1,0 +1,81 @@
+//! The book of 01's conservation rule: it is fed calls and answers, reads no
+//! structure, and says what the classes must be.
+
+use std::collections::BTreeMap;
+
+use crate::answer::Answer;
+use crate::record::Record;
+
+#[derive(Clone, Default)]
+pub struct Book {
+    els: usize,
+    has_marks: bool,
+    equalities: Vec<(u16, u16)>,
+    /// Applications as given.
+    apps: Vec<Record>,
+    merges: usize,
+}
+
+impl Book {
+    /// Takes in an accepted call.
+    pub fn enter(&mut self, record: &Record, answer: &Answer) {
+        match record.kind() {
+            6 => {
+                self.els += 1;
+                self.has_marks |= record.a() == 1;
+            }
+            7 => self.equalities.push((record.a(), record.b())),
+            9 => self.apps.push(*record),
+            _ => {}
+        }
+        if let Answer::Closed { merges, .. } = answer {
+            self.merges += merges;
+        }
+    }
+
+    /// Elements equal classes plus merges.
+    pub fn assert_conserved(&self, classes: usize) {
+        assert_eq!(self.els, classes + self.merges, "elements are classes plus merges");
+    }
+
+    /// After a close the roots are those of the smallest fitting partition.
+    /// Marked elements may be joined beyond it, so then there is nothing to say.
+    pub fn assert_smallest(&self, roots: &[usize]) {
+        if !self.has_marks {
+            assert_eq!(self.smallest_partition(), roots, "the smallest fitting partition");
+        }
+    }
+
+    /// The least element of each element's class.
+    fn smallest_partition(&self) -> Vec<usize> {
+        let mut least: Vec<usize> = (0..self.els).collect();
+        for &(a, b) in &self.equalities {
+            join(&mut least, a.into(), b.into());
+        }
+        loop {
+            let mut results: BTreeMap<_, usize> = BTreeMap::new();
+            let mut joined = false;
+            for app in &self.apps {
+                let of = |els: &[u16]| -> Vec<usize> {
+                    els.iter().map(|&el| least[usize::from(el)]).collect()
+                };
+                let key = (app.a(), of(app.parents()), of(app.args()));
+                let result = usize::from(app.b());
+                let first = *results.entry(key).or_insert(result);
+                joined |= join(&mut least, first, result);
+            }
+            if !joined {
+                return least;
+            }
+        }
+    }
+}
+
+/// Puts two elements together; says whether they were apart.
+fn join(least: &mut [usize], a: usize, b: usize) -> bool {
+    let (keep, drop) = (least[a].min(least[b]), least[a].max(least[b]));
+    for entry in least.iter_mut().filter(|entry| **entry == drop) {
+        *entry = keep;
+    }
+    keep != drop
+}

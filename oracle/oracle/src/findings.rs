@@ -1,0 +1,191 @@
+//! Where the Rust panics, each on the smallest input, and where it does what
+//! its comments do not say. FINDINGS.md tells the same in words.
+
+use super::*;
+
+const NONE: &[u16] = &[];
+
+/// A signature with types of these kinds, none under another.
+fn types(kinds: &[TypeKind]) -> Signature {
+    let mut signature = Signature::default();
+    for &kind in kinds {
+        signature.declare_type(kind, Vec::new());
+    }
+    signature
+}
+
+/// A Model 0 with its Mor 1, four functions, and its record.
+fn model() -> Signature {
+    let mor = TypeKind::Mor(TypeId::new(0));
+    let mut signature = types(&[TypeKind::Model, mor]);
+    for _ in 0..4 {
+        signature.declare_func(Vec::new(), Vec::new(), TypeId::new(0));
+    }
+    let [dom, cod, id, comp] = [0, 1, 2, 3].map(FuncId::new);
+    let (type_, mor) = (TypeId::new(0), TypeId::new(1));
+    signature.declare_model(ModelIds { type_, mor, dom, cod, id, comp });
+    signature
+}
+
+/// A structure of some elements and one application to the first ones.
+fn applied(els: usize, func: u16, args: &[u16]) -> Structure {
+    let mut structure = Structure::default();
+    for _ in 0..els {
+        structure.push_el();
+    }
+    let (func, parents, args) = (FuncId::new(func), Vec::new(), el_ids(args));
+    structure.insert_func_app_or_equate(FuncApp { func, parents, args }, ElId(0));
+    structure
+}
+
+#[test]
+#[should_panic(expected = "index out of bounds")]
+fn root_of_an_undeclared_element() {
+    Structure::default().unification.root(ElId(0));
+}
+
+#[test]
+#[should_panic(expected = "index out of bounds")]
+fn equality_of_an_undeclared_element() {
+    Structure::default().equate(ElId(0), ElId(0));
+}
+
+#[test]
+#[should_panic(expected = "index out of bounds")]
+fn imposition_on_an_undeclared_element() {
+    let ct = ConcreteType { typ: TypeId::new(0), parents: Vec::new() };
+    Structure::default().impose_type(ElId(0), ct);
+}
+
+#[test]
+#[should_panic(expected = "index out of bounds")]
+fn application_to_an_undeclared_element() {
+    applied(0, 0, NONE);
+}
+
+/// The Rust takes the application and panics in the close.
+#[test]
+#[should_panic(expected = "index out of bounds")]
+fn close_over_an_undeclared_function() {
+    applied(1, 0, NONE).close(&Signature::default());
+}
+
+#[test]
+#[should_panic(expected = "index out of bounds")]
+fn close_over_an_undeclared_predicate() {
+    let mut structure = Structure::default();
+    let (pred, parents, args) = (PredId::new(0), Vec::new(), Vec::new());
+    structure.pred_apps.insert(PredApp { pred, parents, args });
+    structure.close(&Signature::default());
+}
+
+#[test]
+#[should_panic(expected = "index out of bounds")]
+fn lookup_of_an_undeclared_type() {
+    concrete_type_at(&Signature::default(), TypeId::new(0), &[]);
+}
+
+#[test]
+#[should_panic(expected = "ambient model el missing for type")]
+fn ambient_lookup_of_a_type_with_none() {
+    Structure::default().ambient_parents(&[TypeId::new(0)]);
+}
+
+#[test]
+#[should_panic(expected = "index out of bounds")]
+fn application_of_id_without_arguments() {
+    applied(1, 2, NONE).close(&model());
+}
+
+#[test]
+#[should_panic(expected = "index out of bounds")]
+fn application_of_comp_without_arguments() {
+    applied(1, 3, NONE).close(&model());
+}
+
+#[test]
+#[should_panic(expected = "index out of bounds")]
+fn application_of_comp_to_one_argument() {
+    applied(1, 3, &[0]).close(&model());
+}
+
+#[test]
+#[should_panic(expected = "morphism application requires a morphism type")]
+fn morphism_application_over_a_plain_type() {
+    let mut signature = types(&[TypeKind::Plain]);
+    signature.declare_func(Vec::new(), Vec::new(), TypeId::new(0));
+    let (morphism_type, member_type) = (TypeId::new(0), TypeId::new(0));
+    let pair = MorphismMemberTypes { morphism_type, member_type };
+    signature.declare_mor_app(pair, FuncId::new(0));
+    applied(1, 0, NONE).close(&signature);
+}
+
+/// The comment of `close` says that it rewrites every reference to its root.
+/// After a merge in the impositions the function applications stay stale.
+#[test]
+fn a_close_can_leave_stale_applications() {
+    let mut signature = types(&[TypeKind::Plain]);
+    signature.declare_func(Vec::new(), Vec::new(), TypeId::new(0));
+    let mut structure = applied(2, 0, &[1]);
+    structure.inferred_parent_els.insert(ElId(1));
+    for parent in [0, 1] {
+        let ct = ConcreteType { typ: TypeId::new(0), parents: vec![ElId(parent)] };
+        structure.impose_type(ElId(0), ct);
+    }
+    structure.close(&signature);
+    assert_eq!(structure.root(ElId(1)), ElId(0));
+    let key = structure.func_apps.keys().next().expect("it is stored");
+    assert_eq!(key.args, [ElId(1)]);
+}
+
+/// The comment of `functionality` says that it is true if a duplicate was found.
+/// A duplicate with the same result is no work.
+#[test]
+fn a_duplicate_with_one_result_is_no_work() {
+    let mut structure = applied(3, 0, &[1]);
+    let (func, parents, args) = (FuncId::new(0), Vec::new(), vec![ElId(2)]);
+    structure.insert_func_app_or_equate(FuncApp { func, parents, args }, ElId(0));
+    structure.equate(ElId(1), ElId(2));
+    structure.drain_equalities();
+    assert!(!structure.functionality());
+    assert_eq!(structure.func_apps.len(), 1);
+}
+
+/// The comments of `typing` and of the impositions say that they are true if a
+/// fact was recorded. A merge of marked parents without a new fact is work too.
+#[test]
+fn a_merge_without_a_fact_is_work() {
+    let mut structure = applied(3, 0, NONE);
+    structure.inferred_parent_els.insert(ElId(2));
+    let fact = |parent| ConcreteType { typ: TypeId::new(0), parents: vec![ElId(parent)] };
+    assert!(structure.impose_concrete_type(ElId(0), fact(1)));
+    assert!(structure.impose_concrete_type(ElId(0), fact(2)));
+    assert_eq!(structure.els[&ElId(0)].len(), 1);
+}
+
+/// The comment of `impose_type` says that an entry is queued once. A close can
+/// make two entries equal; both stay.
+#[test]
+fn a_close_can_make_impositions_equal() {
+    let mut structure = applied(2, 0, NONE);
+    structure.func_apps.clear();
+    for parent in [0, 1] {
+        let ct = ConcreteType { typ: TypeId::new(0), parents: vec![ElId(parent)] };
+        assert!(structure.impose_type(ElId(0), ct));
+    }
+    structure.equate(ElId(0), ElId(1));
+    structure.close(&types(&[TypeKind::Plain]));
+    let queued = &structure.pending_type_impositions;
+    assert_eq!(queued.len(), 2);
+    assert_eq!(queued[0], queued[1]);
+}
+
+/// In the domain of document 01 the two morphism passes change nothing; this is
+/// the least that shows why number 7 is there: an application of id that has
+/// its argument makes the Rust add applications of dom and cod.
+#[test]
+fn an_application_of_id_adds_applications() {
+    let mut structure = applied(1, 2, &[0]);
+    structure.close(&model());
+    assert_eq!(structure.func_apps.len(), 3);
+}

@@ -1,0 +1,3 @@
+//! Stands in for source locations. There is none here.
+
+pub type Location = crate::ast::Never;

@@ -1,0 +1,477 @@
+//! A child of the structure module: the calls of document 01 over the Rust's
+//! own methods, with 01's refusals and limits around them.
+
+#![warn(dead_code, unreachable_code, unused_variables, clippy::all)]
+
+#[cfg(test)]
+mod findings;
+
+use super::{
+    concrete_type_at, func_codomain_type_at, func_domain_type_at, ConcreteType, ElId, FuncApp,
+    PredApp, Structure,
+};
+use crate::algebra::signature::{
+    FuncId, ModelIds, MorphismMemberTypes, PredId, Signature, TypeId, TypeKind,
+};
+use crate::answer::{Answer, Fact, Numbers};
+use crate::book::Book;
+use crate::record::{Record, Table, ROOT, ROOT_CONST, TYPE_LOOKUP};
+
+const MAX_TYPES: usize = 32;
+const MAX_PREDS: usize = 32;
+const MAX_FUNCS: usize = 64;
+const MAX_MODELS: usize = 8;
+const MAX_MOR_APPS: usize = 32;
+const MAX_ELS: usize = 256;
+const MAX_PAIRS: usize = 256;
+const MAX_IMPOSITIONS: usize = 64;
+const MAX_APPS: usize = 256;
+const MAX_FACTS: usize = 1024;
+
+/// A signature and a structure, as the calls so far left them.
+#[derive(Clone, Default)]
+pub struct Oracle {
+    signature: Signature,
+    structure: Structure,
+    /// Whether any call of kinds 6 to 14 was accepted (number 4).
+    begun: bool,
+    /// Whether the latest accepted close reported no change.
+    settled: bool,
+    /// What the calls said, to hold the structure against.
+    book: Book,
+}
+
+/// The close met its 1,025th fact.
+struct TooManyFacts;
+
+impl Oracle {
+    /// The calls of kinds 1 to 14. A refused one leaves everything as it was.
+    pub fn call(&mut self, record: &Record) -> Answer {
+        if let Some(number) = self.refusal(record) {
+            return Answer::Refused(number);
+        }
+        // The Rust has no limits. An entry was needed and its table at its
+        // limit exactly when the table is over its limit afterwards.
+        let mut next = self.clone();
+        let Ok(answer) = next.carry_out(record) else {
+            return Answer::Refused(11);
+        };
+        if next.is_over_a_limit() {
+            return Answer::Refused(9);
+        }
+        next.begun |= record.kind() >= 6;
+        next.book.enter(record, &answer);
+        next.assert_sound(record.kind() == 13);
+        *self = next;
+        answer
+    }
+
+    /// The finds and the lookups. `root` shortens paths; nothing else changes.
+    pub fn look_up(&mut self, record: &Record) -> Answer {
+        match record.kind() {
+            ROOT | ROOT_CONST if self.is_undeclared(Table::Els, record.a()) => Answer::Refused(5),
+            ROOT => {
+                let count = self.depth(el_id(record.a()));
+                let root = self.structure.unification.root(el_id(record.a())).0;
+                Answer::Found { root, count }
+            }
+            ROOT_CONST => {
+                let count = self.depth(el_id(record.a()));
+                let root = self.structure.unification.root_const(el_id(record.a())).0;
+                Answer::Found { root, count }
+            }
+            TYPE_LOOKUP if record.parent_count() > 4 => Answer::Refused(3),
+            TYPE_LOOKUP if self.is_undeclared(Table::Types, record.a()) => Answer::Refused(5),
+            TYPE_LOOKUP => {
+                let parents = el_ids(record.parents());
+                let typed = concrete_type_at(&self.signature, TypeId::new(record.a()), &parents);
+                Answer::Typed(typed.map(fact))
+            }
+            _ => self.look_up_ambients(record),
+        }
+    }
+
+    fn look_up_ambients(&self, record: &Record) -> Answer {
+        let types = type_ids(record.args());
+        let has_none = |typ| !self.structure.ambient_model_els.contains_key(typ);
+        if record.arg_count() > 4 {
+            Answer::Refused(3)
+        } else if record.args().iter().any(|&n| self.is_undeclared(Table::Types, n)) {
+            Answer::Refused(5)
+        } else if types.iter().any(has_none) {
+            Answer::Refused(10)
+        } else {
+            let els = self.structure.ambient_parents(&types);
+            Answer::Ambients(numbers(&els))
+        }
+    }
+
+    /// How many links lead from `el` to its root.
+    fn depth(&self, mut el: ElId) -> usize {
+        let links = &self.structure.unification;
+        let mut count = 0;
+        while links.link(el) != el {
+            el = links.link(el);
+            count += 1;
+        }
+        assert!(count < links.len());
+        count
+    }
+
+    /// The lowest of the numbers 3 to 8 that applies.
+    fn refusal(&self, record: &Record) -> Option<u16> {
+        if !record.is_well_formed() {
+            return Some(3);
+        }
+        if record.kind() <= 5 && self.begun {
+            return Some(4);
+        }
+        let mut names = record.naming_words().into_iter();
+        if names.any(|(word, table)| self.is_undeclared(table, record.words[word])) {
+            return Some(5);
+        }
+        if self.has_wrong_type(record) {
+            return Some(6);
+        }
+        if record.kind() == 9 && self.is_barred(FuncId::new(record.a())) {
+            return Some(7);
+        }
+        self.is_given_again(record).then_some(8)
+    }
+
+    fn is_undeclared(&self, table: Table, number: u16) -> bool {
+        let sizes = self.signature.sizes();
+        let size = match table {
+            Table::Types => sizes.types,
+            Table::Preds => sizes.preds,
+            Table::Funcs => sizes.funcs,
+            Table::Els => self.structure.unification.len(),
+        };
+        usize::from(number) >= size
+    }
+
+    fn kind_of(&self, typ: u16) -> TypeKind {
+        self.signature.type_(TypeId::new(typ)).kind
+    }
+
+    fn has_wrong_type(&self, record: &Record) -> bool {
+        let is_model = |typ| self.kind_of(typ) == TypeKind::Model;
+        match record.kind() {
+            1 => record.a() == 3 && !is_model(record.b()),
+            4 => {
+                let mor_of_a = TypeKind::Mor(TypeId::new(record.a()));
+                !is_model(record.a()) || self.kind_of(record.b()) != mor_of_a
+            }
+            5 => !matches!(self.kind_of(record.args()[0]), TypeKind::Mor(_)),
+            12 => !is_model(record.a()),
+            _ => false,
+        }
+    }
+
+    /// Whether `func` is id, comp or a morphism application function.
+    fn is_barred(&self, func: FuncId) -> bool {
+        let mut models = self.signature.iter_model_decls();
+        models.any(|(_, ids)| [ids.id, ids.comp].contains(&func))
+            || self.signature.types_for_mor_app_func(func).is_some()
+    }
+
+    /// Whether a record of kind 4 or 5 has named `func`.
+    fn is_taken(&self, func: FuncId) -> bool {
+        let mut models = self.signature.iter_model_decls();
+        models.any(|(_, ids)| ids.operation_name(func).is_some())
+            || self.signature.types_for_mor_app_func(func).is_some()
+    }
+
+    fn is_given_again(&self, record: &Record) -> bool {
+        match record.kind() {
+            4 => {
+                let funcs = func_ids(record.args());
+                let twice = (1..4).any(|i| funcs[..i].contains(&funcs[i]));
+                let model = self.signature.ids_for_model_type(TypeId::new(record.a()));
+                model.is_some() || twice || funcs.iter().any(|&func| self.is_taken(func))
+            }
+            5 => {
+                let func = FuncId::new(record.a());
+                let types = morphism_pair(record);
+                self.is_taken(func) || self.signature.mor_app_func(types).is_some()
+            }
+            11 => self.structure.var_els.contains_key(&var_name(record.a())),
+            12 => {
+                let typ = TypeId::new(record.a());
+                self.structure.ambient_model_els.contains_key(&typ)
+            }
+            _ => false,
+        }
+    }
+
+    fn is_over_a_limit(&self) -> bool {
+        let sizes = self.signature.sizes();
+        let structure = &self.structure;
+        sizes.types > MAX_TYPES
+            || sizes.preds > MAX_PREDS
+            || sizes.funcs > MAX_FUNCS
+            || sizes.models > MAX_MODELS
+            || sizes.mor_apps > MAX_MOR_APPS
+            || structure.unification.len() > MAX_ELS
+            || structure.pending_equalities.len() > MAX_PAIRS
+            || structure.pending_type_impositions.len() > MAX_IMPOSITIONS
+            || structure.func_apps.len() > MAX_APPS
+            || structure.pred_apps.len() > MAX_APPS
+    }
+
+    /// The effect of a record that numbers 3 to 8 let pass.
+    fn carry_out(&mut self, record: &Record) -> Result<Answer, TooManyFacts> {
+        let (a, b) = (record.a(), record.b());
+        let (parents, args) = (record.parents(), record.args());
+        let (signature, structure) = (&mut self.signature, &mut self.structure);
+        Ok(match record.kind() {
+            1 => {
+                let kind = match a {
+                    0 => TypeKind::Plain,
+                    1 => TypeKind::Model,
+                    2 => TypeKind::Enum,
+                    _ => TypeKind::Mor(TypeId::new(b)),
+                };
+                Answer::Number(signature.declare_type(kind, type_ids(parents)))
+            }
+            2 => Answer::Number(signature.declare_pred(type_ids(parents), type_ids(args))),
+            3 => {
+                let codomain = TypeId::new(b);
+                let domain = type_ids(args);
+                Answer::Number(signature.declare_func(type_ids(parents), domain, codomain))
+            }
+            4 => {
+                let funcs = func_ids(args);
+                let ids = ModelIds {
+                    type_: TypeId::new(a),
+                    mor: TypeId::new(b),
+                    dom: funcs[0],
+                    cod: funcs[1],
+                    id: funcs[2],
+                    comp: funcs[3],
+                };
+                Answer::Number(signature.declare_model(ids))
+            }
+            5 => Answer::Number(signature.declare_mor_app(morphism_pair(record), FuncId::new(a))),
+            6 => {
+                let el = structure.push_el();
+                if a == 1 {
+                    structure.inferred_parent_els.insert(el);
+                }
+                Answer::Number(el.0)
+            }
+            7 => Answer::Said(structure.equate(el_id(a), el_id(b))),
+            8 => {
+                let ct = ConcreteType { typ: TypeId::new(b), parents: el_ids(parents) };
+                Answer::Said(structure.impose_type(el_id(a), ct))
+            }
+            9 => {
+                let app =
+                    FuncApp { func: FuncId::new(a), parents: el_ids(parents), args: el_ids(args) };
+                Answer::Said(structure.insert_func_app_or_equate(app, el_id(b)))
+            }
+            10 => {
+                let app =
+                    PredApp { pred: PredId::new(a), parents: el_ids(parents), args: el_ids(args) };
+                Answer::Said(structure.pred_apps.insert(app))
+            }
+            11 => {
+                structure.var_els.insert(var_name(a), el_id(b));
+                Answer::Said(true)
+            }
+            12 => {
+                structure.ambient_model_els.insert(TypeId::new(a), el_id(b));
+                Answer::Said(true)
+            }
+            13 => self.close()?,
+            _ => self.conflicts(),
+        })
+    }
+
+    /// The Rust's close pass by pass, so that merges and rounds can be counted
+    /// and facts watched. The real close must do the same.
+    fn close(&mut self) -> Result<Answer, TooManyFacts> {
+        let mut real = self.structure.clone();
+        let classes = self.structure.els.len();
+        let mut changed = false;
+        let mut rounds = 0;
+        loop {
+            rounds += 1;
+            let drained = self.structure.drain_equalities();
+            let equated = self.structure.functionality();
+            // So a queue of `MAX_PAIRS` has room for the pair of an imposing.
+            assert!(self.structure.pending_equalities.len() < MAX_PAIRS);
+            let typed = self.type_apps()?;
+            if !drained && !equated && !typed {
+                break;
+            }
+            changed = true;
+        }
+        for (el, ct) in self.structure.pending_type_impositions.clone() {
+            changed |= self.impose(el, ct)?;
+        }
+        self.structure.canonicalise_refs();
+        assert!(self.structure.pending_equalities.is_empty());
+        // A merge takes one class away, and nothing else does.
+        let merges = classes - self.structure.els.len();
+
+        let real_changed = real.close(&self.signature);
+        assert_eq!(real_changed, changed, "the real close answers otherwise");
+        assert!(is_same(&real, &self.structure), "the real close differs");
+        self.settled = !changed;
+        Ok(Answer::Closed { changed, merges, rounds })
+    }
+
+    /// The Rust's `typing`, one imposing at a time.
+    fn type_apps(&mut self) -> Result<bool, TooManyFacts> {
+        let mut changed = false;
+        let func_apps = self.structure.func_apps.clone();
+        for app in func_apps.keys() {
+            for (index, &arg) in app.args.iter().enumerate() {
+                if let Some(ct) = func_domain_type_at(&self.signature, app, index) {
+                    changed |= self.impose(arg, ct)?;
+                }
+            }
+        }
+        for app in self.structure.pred_apps.clone() {
+            let arity = self.signature.pred(app.pred).arity.clone();
+            for (&arg, typ) in app.args.iter().zip(arity) {
+                if let Some(ct) = concrete_type_at(&self.signature, typ, &app.parents) {
+                    changed |= self.impose(arg, ct)?;
+                }
+            }
+        }
+        for (app, &result) in &func_apps {
+            if let Some(ct) = func_codomain_type_at(&self.signature, app) {
+                changed |= self.impose(result, ct)?;
+            }
+        }
+        Ok(changed)
+    }
+
+    /// One imposing. Facts grow only here, by one, after any merges.
+    fn impose(&mut self, el: ElId, ct: ConcreteType) -> Result<bool, TooManyFacts> {
+        let changed = self.structure.impose_concrete_type(el, ct);
+        if changed && self.facts() > MAX_FACTS {
+            return Err(TooManyFacts);
+        }
+        Ok(changed)
+    }
+
+    fn facts(&self) -> usize {
+        self.structure.els.values().map(|cts| cts.len()).sum()
+    }
+
+    fn conflicts(&self) -> Answer {
+        let conflicts = self.structure.type_conflicts().into_iter();
+        Answer::Conflicts(conflicts.map(|c| (c.el.0, fact(c.a), fact(c.b))).collect())
+    }
+
+    /// What holds of every structure between two calls, and after a close.
+    fn assert_sound(&self, closed: bool) {
+        let structure = &self.structure;
+        let links = &structure.unification;
+        let els = || (0..links.len()).map(ElId);
+        let is_root = |el: &ElId| links.link(*el) == *el;
+        assert!(els().all(|el| links.link(el) <= el), "links fall");
+        assert!(structure.els.keys().copied().eq(els().filter(is_root)), "facts stand on roots");
+        assert!(structure.inferred_parent_els.iter().all(is_root), "marks stand on roots");
+        let mut facts = structure.els.values().flatten();
+        assert!(facts.all(|ct| ct.parents.iter().all(is_root)), "parents of facts are roots");
+        assert!(self.facts() <= MAX_FACTS);
+        let roots: Vec<usize> = els().map(|el| links.root_const(el).0).collect();
+        self.book.assert_conserved(structure.els.len());
+        if closed {
+            self.book.assert_smallest(&roots);
+        }
+    }
+
+    /// The structure line by line; FORMAT.md says how.
+    pub fn dump(&self, out: &mut String) {
+        let structure = &self.structure;
+        for el in (0..structure.unification.len()).map(ElId) {
+            let link = structure.unification.link(el).0;
+            let mark = u8::from(structure.inferred_parent_els.contains(&el));
+            *out += &format!("e {} {link} {mark}\n", el.0);
+            for ct in structure.els.get(&el).into_iter().flatten() {
+                *out += &format!("f {} {}\n", el.0, fact(ct.clone()));
+            }
+        }
+        for (app, result) in &structure.func_apps {
+            let (parents, args) = (numbers(&app.parents), numbers(&app.args));
+            let func = app.func.as_usize();
+            *out += &format!("a {func}{parents} /{args} = {}\n", result.0);
+        }
+        for app in &structure.pred_apps {
+            let (parents, args) = (numbers(&app.parents), numbers(&app.args));
+            *out += &format!("p {}{parents} /{args}\n", app.pred.as_usize());
+        }
+        for (name, el) in &structure.var_els {
+            *out += &format!("v {} {}\n", var_key(name), el.0);
+        }
+        for (typ, el) in &structure.ambient_model_els {
+            *out += &format!("m {} {}\n", typ.as_usize(), el.0);
+        }
+        for (a, b) in &structure.pending_equalities {
+            *out += &format!("q {} {}\n", a.0, b.0);
+        }
+        for (el, ct) in &structure.pending_type_impositions {
+            *out += &format!("i {} {}\n", el.0, fact(ct.clone()));
+        }
+        *out += &format!("s {} {}\n", u8::from(self.begun), u8::from(self.settled));
+    }
+}
+
+fn el_id(number: u16) -> ElId {
+    ElId(number.into())
+}
+
+fn el_ids(numbers: &[u16]) -> Vec<ElId> {
+    numbers.iter().map(|&number| el_id(number)).collect()
+}
+
+fn type_ids(numbers: &[u16]) -> Vec<TypeId> {
+    numbers.iter().map(|&number| TypeId::new(number)).collect()
+}
+
+fn func_ids(numbers: &[u16]) -> Vec<FuncId> {
+    numbers.iter().map(|&number| FuncId::new(number)).collect()
+}
+
+/// The morphism type and the member type of a record of kind 5.
+fn morphism_pair(record: &Record) -> MorphismMemberTypes {
+    MorphismMemberTypes {
+        morphism_type: TypeId::new(record.args()[0]),
+        member_type: TypeId::new(record.args()[1]),
+    }
+}
+
+/// The Rust names variables by text. Two digits keep the order of the keys.
+fn var_name(key: u16) -> String {
+    format!("{key:02}")
+}
+
+fn var_key(name: &str) -> u16 {
+    name.parse().expect("made by var_name")
+}
+
+fn numbers(els: &[ElId]) -> Numbers {
+    Numbers(els.iter().map(|el| el.0).collect())
+}
+
+fn fact(ct: ConcreteType) -> Fact {
+    Fact { typ: ct.typ.as_usize(), parents: numbers(&ct.parents) }
+}
+
+fn is_same(a: &Structure, b: &Structure) -> bool {
+    a.els == b.els
+        && a.pred_apps == b.pred_apps
+        && a.func_apps == b.func_apps
+        && a.var_els == b.var_els
+        && a.ambient_model_els == b.ambient_model_els
+        && a.unification == b.unification
+        && a.pending_equalities == b.pending_equalities
+        && a.pending_type_impositions == b.pending_type_impositions
+        && a.allow_new_type_parents == b.allow_new_type_parents
+        && a.inferred_parent_els == b.inferred_parent_els
+}

@@ -1,0 +1,367 @@
+//! Close and its passes.
+
+use std::mem;
+
+use crate::faults::Fault;
+use crate::state::{App, Fact, State};
+
+pub struct Closed {
+    pub changed: bool,
+    pub merges: u16,
+    pub rounds: u16,
+}
+
+/// The close met its 1,025th fact.
+pub struct Full;
+
+/// A close at work.
+struct Work<'a> {
+    state: &'a mut State,
+    merges: u16,
+}
+
+/// Closes; a full one is handed back as far as it got.
+pub fn close(state: &mut State) -> Result<Closed, Full> {
+    let mut work = Work { state, merges: 0 };
+    let mut changed = false;
+    let mut rounds = 0;
+    loop {
+        rounds += 1;
+        let drained = work.drain();
+        let equated = work.functionality();
+        let typed = work.typing()?;
+        let imposed = work.is(Fault::ImposesInRounds) && work.impositions()?;
+        if !drained && !equated && !typed && !imposed {
+            break;
+        }
+        changed = true;
+        if work.is(Fault::OneRound) {
+            break;
+        }
+    }
+    let imposed = !work.is(Fault::ImposesInRounds) && work.impositions()?;
+    changed |= imposed && !work.is(Fault::ImpositionsUnreported);
+    work.canonicalise();
+    let merges = work.merges;
+    if work.is(Fault::FactsCountedAtEnd) && work.facts() > 1024 {
+        return Err(Full);
+    }
+    if state.is(Fault::IdleRoundUncounted) {
+        rounds -= 1;
+    }
+    if state.is(Fault::OnlyMergesReported) {
+        changed = merges > 0;
+    }
+    state.settled = !changed || state.is(Fault::CloseSettles);
+    Ok(Closed { changed, merges, rounds })
+}
+
+impl Work<'_> {
+    fn is(&self, fault: Fault) -> bool {
+        self.state.is(fault)
+    }
+
+    fn next_pair(&mut self) -> Option<(u16, u16)> {
+        let pairs = &mut self.state.pairs;
+        if self.state.fault == Some(Fault::FirstPairFirst) && !pairs.is_empty() {
+            return Some(pairs.remove(0));
+        }
+        pairs.pop()
+    }
+
+    /// Drains the queue; says whether a merge happened.
+    fn drain(&mut self) -> bool {
+        let mut merged = false;
+        while let Some((a, b)) = self.next_pair() {
+            merged |= self.merge(a, b);
+        }
+        if self.is(Fault::DrainRewritesFacts) {
+            self.rewrite_facts();
+        }
+        merged
+    }
+
+    fn merge(&mut self, a: u16, b: u16) -> bool {
+        let (a, b) = (self.state.root(a), self.state.root(b));
+        if a == b {
+            self.merges += u16::from(self.is(Fault::EveryPairIsAMerge));
+            return false;
+        }
+        let (mut keep, mut gone) = (a.min(b), a.max(b));
+        if self.is(Fault::LargerRootStays) {
+            mem::swap(&mut keep, &mut gone);
+        }
+        self.merges += 1;
+        self.merge_marks(keep.into(), gone.into());
+        self.state.links[usize::from(gone)] = keep;
+        let moved = mem::take(&mut self.state.facts[usize::from(gone)]);
+        let mut facts = mem::take(&mut self.state.facts[usize::from(keep)]);
+        for fact in moved {
+            self.state.insert_fact(&mut facts, fact);
+        }
+        self.state.facts[usize::from(keep)] = facts;
+        true
+    }
+
+    fn merge_marks(&mut self, keep: usize, gone: usize) {
+        let (kept, dropped) = (self.state.marks[keep], self.state.marks[gone]);
+        self.state.marks[keep] = match self.state.fault {
+            Some(Fault::MarkOfEither) => kept || dropped,
+            Some(Fault::MarkOfKept) => kept,
+            _ => kept && dropped,
+        };
+        self.state.marks[gone] = dropped && self.is(Fault::MarkOfDroppedStays);
+    }
+
+    /// Rewrites applications; the first result of a key stays, another is queued.
+    fn functionality(&mut self) -> bool {
+        let old = mem::take(&mut self.state.func_apps);
+        let mut new: Vec<(App, u16)> = Vec::new();
+        let mut worked = false;
+        for (app, result) in old {
+            let key = self.state.app_as_roots(&app);
+            worked |= self.is(Fault::KeysAreWork) && key != app;
+            let result =
+                if self.is(Fault::ResultsStayStale) { result } else { self.state.root(result) };
+            match new.binary_search_by(|(other, _)| other.cmp(&key)) {
+                Err(place) => new.insert(place, (key, result)),
+                Ok(place) if new[place].1 != result => {
+                    self.state.pairs.push((new[place].1, result));
+                    worked = true;
+                    if self.is(Fault::LastResultStays) {
+                        new[place].1 = result;
+                    }
+                    if self.is(Fault::SmallerResultStays) {
+                        new[place].1 = new[place].1.min(result);
+                    }
+                }
+                Ok(_) => {}
+            }
+        }
+        self.state.func_apps = new;
+        worked
+    }
+
+    /// Function arguments, predicate arguments, function results.
+    fn typing(&mut self) -> Result<bool, Full> {
+        let apps = self.state.func_apps.clone();
+        let mut worked = false;
+        if self.is(Fault::ResultsFirst) {
+            worked |= self.type_results(&apps)?;
+        }
+        if self.is(Fault::PredicatesFirst) {
+            worked |= self.type_predicates()?;
+        }
+        for (app, _) in &apps {
+            let domain = self.state.funcs[usize::from(app.head)].domain.clone();
+            worked |= self.type_arguments(app, &domain)?;
+        }
+        if self.is(Fault::ResultsBeforePredicates) {
+            worked |= self.type_results(&apps)?;
+        }
+        if !self.is(Fault::PredicatesFirst) {
+            worked |= self.type_predicates()?;
+        }
+        if !self.is(Fault::ResultsFirst) && !self.is(Fault::ResultsBeforePredicates) {
+            worked |= self.type_results(&apps)?;
+        }
+        if self.is(Fault::FactsCountedPerPass) && self.facts() > 1024 {
+            return Err(Full);
+        }
+        Ok(worked)
+    }
+
+    fn type_arguments(&mut self, app: &App, types: &[u16]) -> Result<bool, Full> {
+        let mut worked = false;
+        for (index, &arg) in app.args.iter().enumerate() {
+            let past = types.last().filter(|_| self.is(Fault::PastDomain));
+            let Some(&typ) = types.get(index).or(past) else {
+                break;
+            };
+            let Some(fact) = self.state.concrete_type_at(typ, &app.parents) else {
+                if self.is(Fault::ArityByDomain) {
+                    break;
+                }
+                continue;
+            };
+            worked |= self.impose(arg, &fact)?;
+        }
+        Ok(worked)
+    }
+
+    fn type_predicates(&mut self) -> Result<bool, Full> {
+        let mut worked = false;
+        for app in self.state.pred_apps.clone() {
+            let arity = self.state.preds[usize::from(app.head)].domain.clone();
+            worked |= self.type_arguments(&app, &arity)?;
+        }
+        Ok(worked)
+    }
+
+    fn type_results(&mut self, apps: &[(App, u16)]) -> Result<bool, Full> {
+        let mut worked = false;
+        for (app, result) in apps {
+            let codomain = self.state.funcs[usize::from(app.head)].codomain;
+            if let Some(fact) = self.state.concrete_type_at(codomain, &app.parents) {
+                worked |= self.impose(*result, &fact)?;
+            }
+        }
+        Ok(worked)
+    }
+
+    fn impositions(&mut self) -> Result<bool, Full> {
+        let mut queued = self.state.impositions.clone();
+        if self.is(Fault::ImpositionsReversed) {
+            queued.reverse();
+        }
+        let mut worked = false;
+        for (el, fact) in &queued {
+            worked |= self.impose(*el, fact)?;
+        }
+        if self.is(Fault::FactsCountedPerPass) && self.facts() > 1024 {
+            return Err(Full);
+        }
+        Ok(worked)
+    }
+
+    fn impose(&mut self, el: u16, fact: &Fact) -> Result<bool, Full> {
+        if self.is(Fault::FullBeforeMerges) && self.facts() == 1024 {
+            let new = self.state.fact_as_roots(fact);
+            let root = self.state.root(el);
+            if !self.state.facts[usize::from(root)].contains(&new) {
+                return Err(Full);
+            }
+        }
+        let merged = self.join_parents(el, fact);
+        let at = if self.is(Fault::FactAtElement) { el } else { self.state.root(el) };
+        let at = usize::from(at);
+        let new = if self.is(Fault::FactParentsAsGiven) {
+            fact.clone()
+        } else {
+            self.state.fact_as_roots(fact)
+        };
+        let mut facts = mem::take(&mut self.state.facts[at]);
+        let grew = self.state.insert_fact(&mut facts, new);
+        self.state.facts[at] = facts;
+        if grew && self.is_full() {
+            return Err(Full);
+        }
+        Ok(grew || (merged && !self.is(Fault::MergeSaysNo)))
+    }
+
+    /// Joins the parents of a fact to be imposed with those of its element's
+    /// facts where one is marked.
+    fn join_parents(&mut self, el: u16, fact: &Fact) -> bool {
+        let mut merged = false;
+        let mut seen = 0;
+        let mut types = self.state.types_of(el);
+        while seen < types.len() {
+            let other = types[seen].clone();
+            seen += 1;
+            if other.typ != fact.typ && !self.is(Fault::JoinsAnyType) {
+                continue;
+            }
+            let paired = if self.is(Fault::JoinsFirstParent) { 1 } else { 4 };
+            for (&p, &q) in other.parents.iter().zip(&fact.parents).take(paired) {
+                let joined = self.join(self.state.root(p), self.state.root(q));
+                merged |= joined;
+                if joined && self.is(Fault::SecondLook) {
+                    types = self.state.types_of(el);
+                }
+            }
+        }
+        merged
+    }
+
+    fn join(&mut self, p: u16, q: u16) -> bool {
+        let (p_marked, q_marked) =
+            (self.state.marks[usize::from(p)], self.state.marks[usize::from(q)]);
+        let joins = match self.state.fault {
+            Some(Fault::JoinsBothMarked) => p_marked && q_marked,
+            Some(Fault::JoinsUnmarked) => true,
+            Some(Fault::JoinsStoredMarked) => p_marked,
+            _ => p_marked || q_marked,
+        };
+        if p == q || !joins {
+            return false;
+        }
+        if self.is(Fault::JoinsOwnPair) {
+            return self.merge(p, q);
+        }
+        self.state.pairs.push((p, q));
+        !self.is(Fault::JoinsLater) && self.drain()
+    }
+
+    fn is_full(&self) -> bool {
+        match self.state.fault {
+            Some(Fault::FullAt1023) => self.facts() > 1023,
+            Some(Fault::FullAt1025) => self.facts() > 1025,
+            Some(Fault::FactsCountedPerPass | Fault::FactsCountedAtEnd) => false,
+            Some(Fault::StaleCopiesUncounted) => {
+                let els = 0..self.state.links.len() as u16;
+                els.filter(|&el| self.state.link(el) == el)
+                    .map(|el| self.state.types_of(el).len())
+                    .sum::<usize>()
+                    > 1024
+            }
+            _ => self.facts() > 1024,
+        }
+    }
+
+    fn facts(&self) -> usize {
+        self.state.facts.iter().map(Vec::len).sum()
+    }
+
+    fn rewrite_facts(&mut self) {
+        for el in 0..self.state.facts.len() {
+            let mut facts = Vec::new();
+            for fact in mem::take(&mut self.state.facts[el]) {
+                let fact = self.state.fact_as_roots(&fact);
+                self.state.insert_fact(&mut facts, fact);
+            }
+            self.state.facts[el] = facts;
+        }
+    }
+
+    fn canonicalise(&mut self) {
+        if !self.is(Fault::PredicatesStayStale) {
+            let old = mem::take(&mut self.state.pred_apps);
+            let mut apps: Vec<App> = old.iter().map(|app| self.state.app_as_roots(app)).collect();
+            apps.sort();
+            apps.dedup();
+            self.state.pred_apps = apps;
+        }
+        if !self.is(Fault::VariablesStayStale) {
+            self.state.vars = self.state.vars.map(|var| var.map(|el| self.state.root(el)));
+        }
+        if self.is(Fault::CloseRewritesAmbients) {
+            let ambients = self.state.ambients;
+            self.state.ambients = ambients.map(|var| var.map(|el| self.state.root(el)));
+        }
+        if !self.is(Fault::FactsStayStale) {
+            self.rewrite_facts();
+        }
+        if !self.is(Fault::ImpositionsStayStale) {
+            let old = mem::take(&mut self.state.impositions);
+            let rewritten = old.iter().map(|(el, fact)| {
+                let el = self.state.root(*el);
+                (el, self.state.fact_as_roots(fact))
+            });
+            let mut impositions = Vec::new();
+            for entry in rewritten {
+                if !self.is(Fault::EqualImpositionsDropped) || !impositions.contains(&entry) {
+                    impositions.push(entry);
+                }
+            }
+            self.state.impositions = impositions;
+        }
+        if self.is(Fault::SpentImpositionsDropped) {
+            self.state.impositions.clear();
+        }
+        if self.is(Fault::CloseRewritesApplications) {
+            let pairs = self.state.pairs.clone();
+            self.functionality();
+            self.state.pairs = pairs;
+        }
+    }
+}

@@ -1,0 +1,15 @@
+//! A second implementation, after document 01 as README.md reads it. It shares no
+//! code with the oracle and stands in for the port: it reads the same streams and
+//! must print what the oracle prints.
+//! With a fault it is one of the wrong versions that the streams must tell
+//! apart; `is` marks the one place where each departs.
+
+mod calls;
+mod close;
+mod faults;
+mod print;
+mod sheet;
+mod state;
+
+pub use faults::{Fault, FAULTS};
+pub use sheet::answer;

@@ -1,0 +1,101 @@
+//! The lines of answers, and of the structure.
+
+use crate::calls::Answer;
+use crate::faults::Fault;
+use crate::state::{App, Fact, State};
+
+fn put(out: &mut String, numbers: &[u16]) {
+    for number in numbers {
+        *out += &format!(" {number}");
+    }
+}
+
+impl State {
+    fn put_fact(&self, out: &mut String, fact: &Fact) {
+        put(out, &[fact.typ]);
+        put(out, &fact.parents);
+        if fact.parents.is_empty() && self.is(Fault::EmptyListHasSpace) {
+            out.push(' ');
+        }
+    }
+
+    /// The lines of an answer in a list; a sheet prints only some of them.
+    pub fn put_answer(&self, out: &mut String, answer: &Answer) {
+        match answer {
+            Answer::Refused(number) => *out += &format!("refused {number}"),
+            Answer::Number(number) => *out += &format!("number {number}"),
+            Answer::Said(yes) => *out += &format!("answer {}", u16::from(*yes)),
+            Answer::Closed(closed) => {
+                *out += "close";
+                put(out, &[closed.changed.into(), closed.merges, closed.rounds]);
+            }
+            Answer::Conflicts(conflicts) => {
+                for (el, a, b) in conflicts {
+                    *out += &format!("conflict {el}");
+                    self.put_fact(out, a);
+                    *out += " /";
+                    self.put_fact(out, b);
+                    out.push('\n');
+                }
+                *out += &format!("conflicts {}", conflicts.len());
+            }
+            Answer::Found(find) => *out += &format!("root {} {}", find.root, find.count),
+            Answer::Typed(None) => *out += "absent",
+            Answer::Typed(Some(fact)) => {
+                *out += "type";
+                self.put_fact(out, fact);
+            }
+            Answer::Ambients(els) => {
+                *out += "ambients";
+                put(out, els);
+            }
+        }
+        out.push('\n');
+    }
+
+    pub fn put_dump(&self, out: &mut String) {
+        for el in 0..self.links.len() {
+            let mark = u16::from(self.marks[el]);
+            *out += &format!("e {el} {} {mark}\n", self.links[el]);
+            for fact in &self.facts[el] {
+                *out += &format!("f {el}");
+                put(out, &[fact.typ]);
+                put(out, &fact.parents);
+                out.push('\n');
+            }
+        }
+        for (app, result) in &self.func_apps {
+            put_app(out, "a", app);
+            *out += &format!(" = {result}\n");
+        }
+        for app in &self.pred_apps {
+            put_app(out, "p", app);
+            out.push('\n');
+        }
+        for (tag, els) in [("v", &self.vars[..]), ("m", &self.ambients[..])] {
+            for (key, el) in els.iter().enumerate() {
+                if let Some(el) = el {
+                    *out += &format!("{tag} {key} {el}\n");
+                }
+            }
+        }
+        for (a, b) in &self.pairs {
+            *out += &format!("q {a} {b}\n");
+        }
+        for (el, fact) in &self.impositions {
+            *out += &format!("i {el}");
+            put(out, &[fact.typ]);
+            put(out, &fact.parents);
+            out.push('\n');
+        }
+        *out += &format!("s {} {}\n", u16::from(self.begun), u16::from(self.settled));
+    }
+}
+
+fn put_app(out: &mut String, tag: &str, app: &App) {
+    *out += tag;
+    put(out, &[app.head]);
+    put(out, &app.parents);
+    *out += " /";
+    put(out, &app.args);
+}
