@@ -1,0 +1,88 @@
+-- `FuncApp::compare` meets its contract.
+use mathlib.Core.Path.{_≡_, sym, _∙_}
+use Rattle.ids.specs.declared.Ordering.the-variants.{Equal}
+use Rattle.ids.specs.Order.{orderOf}
+use Rattle.ids.proofs.Orders.{then-less, then-greater, then-equal}
+use Rattle.semantics.specs.Structure.{compareFuncApp}
+use borrow.Author.Needs.{needs}
+use Rattle.apps.proofs.FuncApp.compare.Statement.{statement}
+use Rattle.apps.proofs.FuncApp.compare.Tie as tie
+
+compare-numbers-requires : tie.Need-compare-numbers-requires
+compare-numbers-requires c κs = search needs
+
+enum-told : tie.Need-enum-told
+enum-told c = search needs
+
+enum-told-2 : tie.Need-enum-told-2
+enum-told-2 c = search needs
+
+enum-told-3 : tie.Need-enum-told-3
+enum-told-3 c = search needs
+
+compare-requires : tie.Need-compare-requires
+compare-requires c κs = search needs
+
+enum-told-4 : tie.Need-enum-told-4
+enum-told-4 c = search needs
+
+enum-told-5 : tie.Need-enum-told-5
+enum-told-5 c = search needs
+
+enum-told-6 : tie.Need-enum-told-6
+enum-told-6 c = search needs
+
+compare-requires-2 : tie.Need-compare-requires-2
+compare-requires-2 c κs = search needs
+
+returns : tie.Need-returns
+unfolding compareFuncApp
+returns c = sym (then-less _ _ (sym (c .before .before .compare-numbers .ensures) ∙ c .enum-told .given .1))
+
+returns-2 : tie.Need-returns-2
+unfolding compareFuncApp
+returns-2 c = sym (then-greater _ _ (sym (c .before .before .compare-numbers .ensures) ∙ c .enum-told2 .given .1))
+
+-- where the numbers are equal, the lists decide
+equal-head : (c : tie.After-enum-told3)
+    → orderOf (c .before .before .before .args .self .func .0) (c .before .before .before .args .other .func .0) ≡ Equal
+equal-head c = sym (c .before .before .compare-numbers .ensures) ∙ c .enum-told3 .given .1
+
+returns-3 : tie.Need-returns-3
+unfolding compareFuncApp
+returns-3 c =
+    sym (then-equal _ _ (equal-head (c .before .before .before .before .before))
+    ∙ then-less _ _ (sym (c .before .before .compare .ensures) ∙ c .enum-told4 .given .1))
+
+returns-4 : tie.Need-returns-4
+unfolding compareFuncApp
+returns-4 c =
+    sym (then-equal _ _ (equal-head (c .before .before .before .before .before))
+    ∙ then-greater _ _ (sym (c .before .before .compare .ensures) ∙ c .enum-told5 .given .1))
+
+returns-5 : tie.Need-returns-5
+unfolding compareFuncApp
+returns-5 c =
+    let told = c .before .before .before in
+    c .compare2 .ensures
+    ∙ sym (then-equal _ _ (equal-head (told .before .before .before .before .before))
+    ∙ then-equal _ _ (sym (told .before .before .compare .ensures) ∙ told .enum-told6 .given .1))
+
+pub compare-spec : {M : Type 1} → statement M
+compare-spec =
+    tie.close
+    (tie.spec
+    compare-numbers-requires
+    enum-told
+    enum-told-2
+    enum-told-3
+    compare-requires
+    enum-told-4
+    enum-told-5
+    enum-told-6
+    compare-requires-2
+    returns
+    returns-2
+    returns-3
+    returns-4
+    returns-5)

@@ -1,0 +1,46 @@
+-- Laws of the queue of pairs, of which the last stands first.
+use mathlib.Core.Path.{_≡_, refl, sym, ap, _∙_}
+use mathlib.Core.List.{List, [], _∷_, _++_, map, reverse, reverse-append}
+use Prim.Native.Nat.{ℕ, _+_, _≤_, _<_}
+use native.Mathlib.Omega.{arith}
+use mathlib.Core.Bool.{not}
+use lib.ListN.{length, take, set, length-reverse}
+use lib.Dec.{eqb}
+use borrow.Author.Tests.{lt-ltb, le-ltb}
+use Rattle.ids.specs.Table.{Sized}
+use Rattle.ids.proofs.Views.{length-view, view-pushed}
+use Rattle.unification.specs.Roots.{rootOf, shortOf, FindM, ShortM, findOf, shortenedOf}
+use Rattle.semantics.specs.Structure as model
+use Rattle.semantics.specs.Structure.{maxPairs}
+use Rattle.semantics.specs.Calls as calls
+use Rattle.equalities.specs.declared.Pair.{Pair}
+use Rattle.equalities.specs.declared.Pairs.{Pairs}
+use Rattle.equalities.specs.View.{pairOf, pairsOf, queuedOf, equateIn}
+
+pub size-reversed : {A : Type 0} {l : List A} {cap n : ℕ} → Sized l cap n → Sized (reverse l) cap n
+size-reversed {l = l} s = record { is = s .is ∙ sym (length-reverse l); most = s .most }
+
+module _ (t : Pairs) (p : Pair) {n : ℕ} (sized : Sized (pairsOf t) maxPairs n) where
+  pub queue-full : maxPairs ≤ n → pairsOf t ≡ queuedOf (pairsOf t) (pairOf p)
+  unfolding queuedOf
+  queue-full h = sym (rw (le-ltb (length (pairsOf t)) maxPairs (omega (arith, sized .is)), queuedOf))
+
+  pub queue-room : length (t .items) ≡ maxPairs → n < maxPairs
+      → pairsOf (record { items = set (t .items) n p; len = n + 1 }) ≡ queuedOf (pairsOf t) (pairOf p)
+  unfolding queuedOf
+  queue-room full h =
+      let held : List model.Pair = map pairOf (take (t .len) (t .items)) in
+      let all : n ≡ t .len = omega (arith, sized .is, length-reverse (map pairOf (take (t .len) (t .items))), length-view pairOf (t .len) (t .items)) in
+      let pushed : map pairOf (take (n + 1) (set (t .items) n p)) ≡ map pairOf (take (t .len) (t .items)) ++ (pairOf p ∷ []) =
+      rw all (view-pushed pairOf (t .len) (t .items) p (omega arith)) in
+      ap reverse pushed ∙ reverse-append (map pairOf (take (t .len) (t .items))) (pairOf p ∷ [])
+      ∙ sym (rw (lt-ltb (length (pairsOf t)) maxPairs (omega (arith, sized .is)), queuedOf))
+
+-- both finds, one after the other, and the pair
+pub equated : (ls : List ℕ) (ps qs : List model.Pair) (a b : ℕ) {f s : ShortM} → f ≡ shortenedOf ls a → s ≡ shortenedOf (f .links) b
+    → qs ≡ queuedOf ps (record { left = a; right = b })
+    → _≡_ {A = calls.Equated} (record { links = s .links; pairs = qs; differ = not (eqb (f .find .root) (s .find .root)) }) (equateIn ls ps a b)
+unfolding equateIn calls.equate shortenedOf findOf
+equated ls ps qs a b {f} {s} first second queued =
+    let then : s ≡ shortenedOf (shortOf ls a) b = second ∙ ap (λ (l : List ℕ). shortenedOf l b) (ap (λ (r : ShortM). r .links) first) in
+    λ i. record { links = then i .links; pairs = queued i; differ = not (eqb (first i .find .root) (then i .find .root)) }

@@ -1,0 +1,35 @@
+-- The queue of equalities as the definitions speak of it.
+use Prim.Native.Nat.{ℕ}
+use mathlib.Core.Bool.{true, false}
+use mathlib.Core.List.{List, [], _∷_, map, reverse}
+use lib.ListN.{length, take}
+use lib.Dec.{ltb}
+use Rattle.unification.specs.Roots.{linksOf}
+use Rattle.semantics.specs.Structure as model
+use Rattle.semantics.specs.Structure.{maxPairs}
+use Rattle.semantics.specs.Calls as calls
+use Rattle.equalities.specs.declared.Pair.{Pair}
+use Rattle.equalities.specs.declared.Pairs.{Pairs}
+use Rattle.equalities.specs.declared.Equated.{Equated}
+
+abbrev pub pairOf : Pair → model.Pair
+pairOf p = record { left = p .left .0; right = p .right .0 }
+
+-- the pairs of a queue: that which was queued last stands first
+abbrev pub pairsOf : Pairs → List model.Pair
+pairsOf t = reverse (map pairOf (take (t .len) (t .items)))
+
+-- a pair is queued where there is room
+unfoldable pub queuedOf : List model.Pair → model.Pair → List model.Pair
+queuedOf ps p = elim (ltb (length ps) maxPairs) [ true ↦ p ∷ ps | false ↦ ps ]
+
+-- `equate`, where there is room for the pair; a full queue stays as it is
+unfoldable pub equateIn : List ℕ → List model.Pair → ℕ → ℕ → calls.Equated
+equateIn ls ps a b = record {
+  links = calls.equate ls ps a b .links;
+  pairs = queuedOf ps (record { left = a; right = b });
+  differ = calls.equate ls ps a b .differ;
+}
+
+abbrev pub equatedOf : Equated → calls.Equated
+equatedOf r = record { links = linksOf (r .unification); pairs = pairsOf (r .pairs); differ = r .differ }

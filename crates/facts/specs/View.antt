@@ -1,0 +1,30 @@
+-- The tables of facts and of impositions as the definitions speak of them.
+use Prim.Native.Nat.{ℕ}
+use mathlib.Core.List.{List, [], _∷_, map}
+use lib.ListN.{take}
+use Rattle.ids.specs.Ids.{elsOf}
+use Rattle.ids.specs.Table.{Grown}
+use Rattle.semantics.specs.Structure as model
+use Rattle.facts.specs.declared.Fact.{Fact}
+use Rattle.facts.specs.declared.Facts.{Facts}
+use Rattle.facts.specs.declared.InsertedFact.{InsertedFact}
+use Rattle.facts.specs.declared.Impositions.{Impositions}
+
+-- a fact as it is stored
+abbrev pub factOf : Fact → model.Fact
+factOf f = record { el = f .el .0; typ = f .ct .typ .0; parents = elsOf (f .ct .parents) }
+
+-- the facts of a table
+abbrev pub factsOf : Facts → List model.Fact
+factsOf t = map factOf (take (t .len) (t .items))
+
+-- what stands for an entry past the end of the array
+abbrev pub noFact : Fact
+noFact = record { el = record { 0 = 0 }; ct = record { typ = record { 0 = 0 }; parents = record { ids = []; len = 0 } } }
+
+abbrev pub inserted : InsertedFact → Grown model.Fact
+inserted r = record { grew = r .grew; full = r .full; items = factsOf (r .facts) }
+
+-- the impositions of a queue
+abbrev pub impositionsOf : Impositions → List model.Fact
+impositionsOf t = map factOf (take (t .len) (t .items))

@@ -1,0 +1,231 @@
+// Facts: an element's types with their parents, in an ordered table, and impositions in a queue, both of fixed size with a count.
+use ids::ElId;
+use ids::ElIds;
+use ids::Ordering;
+use ids::Place;
+use ids::TypeId;
+ghost use mathlib.Core.Path.{_≡_};
+ghost use mathlib.Core.List.{_++_, [], _∷_};
+ghost use Prim.Native.Nat.{_+_, _≤_, _<_};
+ghost use lib.ListN.{take, drop};
+ghost use Rattle.ids.specs.Table.{Sized, positionFrom, insertOf, pushOf};
+ghost use Rattle.semantics.specs.Structure.{maxFacts, maxImpositions, compareFact};
+ghost use Rattle.semantics.specs.Calls.{isImposed};
+ghost use Rattle.facts.specs.View.{factOf, factsOf, inserted, impositionsOf};
+
+pub struct ConcreteType {
+    pub typ: TypeId,
+    pub parents: ElIds,
+}
+
+pub struct Fact {
+    pub el: ElId,
+    pub ct: ConcreteType,
+}
+
+// By element, then type, then parents, each fact once.
+pub struct Facts {
+    pub items: [Fact; Facts::MAX_LEN],
+    pub len: u16,
+}
+
+// The facts that are to be imposed, in queue order.
+pub struct Impositions {
+    pub items: [Fact; Impositions::MAX_LEN],
+    pub len: u16,
+}
+
+// Whether the table grew, whether it had no room, and the table.
+pub struct InsertedFact {
+    pub grew: bool,
+    pub full: bool,
+    pub facts: Facts,
+}
+
+impl Fact {
+    pub fn compare(self, other: Fact) -> Ordering
+        ensures { λ r. ⌜ r ≡ compareFact (factOf self) (factOf other) ⌝ }
+    {
+        match ids::compare_numbers(self.el.0, other.el.0) {
+            Ordering::Less => Ordering::Less,
+            Ordering::Greater => Ordering::Greater,
+            Ordering::Equal => match ids::compare_numbers(self.ct.typ.0, other.ct.typ.0) {
+                Ordering::Less => Ordering::Less,
+                Ordering::Greater => Ordering::Greater,
+                Ordering::Equal => {
+                    let p = self.ct.parents;
+                    let q = other.ct.parents;
+                    p.compare(q)
+                }
+            },
+        }
+    }
+}
+
+impl Facts {
+    pub const MAX_LEN: usize = 1024;
+
+    pub fn new() -> Self
+        ensures { λ r. ⌜ factsOf r ≡ [] ⌝ }
+    {
+        let none = Fact {
+            el: ElId(0),
+            ct: ConcreteType {
+                typ: TypeId(0),
+                parents: ElIds::new(),
+            },
+        };
+        Facts {
+            items: [none; Facts::MAX_LEN],
+            len: 0,
+        }
+    }
+
+    // How many there are: a length over the limit counts as the limit.
+    pub fn size(self) -> usize
+        ensures { λ r. ⌜ Sized (factsOf self) maxFacts r ⌝ }
+    {
+        let n = self.len as usize;
+        if n < Facts::MAX_LEN {
+            n
+        } else {
+            Facts::MAX_LEN
+        }
+    }
+
+    // Where an entry stands, or before which one it goes.
+    fn position(self, entry: Fact) -> Place
+        ensures { λ r. ⌜ r ≡ positionFrom compareFact (factOf entry) 0 (factsOf self) ⌝ }
+    {
+        let n = self.size();
+        let mut i = 0;
+        while i < n {
+            let here = self.items[i];
+            match here.compare(entry) {
+                Ordering::Less => {
+                    i += 1;
+                }
+                Ordering::Equal => {
+                    return Place::At(i);
+                }
+                Ordering::Greater => {
+                    return Place::Before(i);
+                }
+            }
+        }
+        Place::Before(i)
+    }
+
+    // The table of n entries with one more at an index, those from there on one place higher.
+    fn placed(self, n: usize, at: usize, entry: Fact) -> Facts
+        requires { ⌜ (at ≤ n) × (n < maxFacts) ⌝ }
+        ensures { λ r. ⌜ (r .len ≡ n + 1) × (take (n + 1) (r .items) ≡ take at (self .items) ++ entry ∷ drop at (take n (self .items))) ⌝ }
+    {
+        let mut next = self;
+        let mut i = n;
+        while at < i {
+            let moved = next.items[i - 1];
+            next.items[i] = moved;
+            i -= 1;
+        }
+        next.items[at] = entry;
+        next.len = (n + 1) as u16;
+        next
+    }
+
+    // Inserts a fact where it is not there yet.
+    pub fn insert(self, entry: Fact) -> InsertedFact
+        ensures { λ r. ⌜ inserted r ≡ insertOf compareFact (factOf entry) maxFacts (factsOf self) ⌝ }
+    {
+        let n = self.size();
+        let found = self.position(entry);
+        let Place::Before(at) = found else {
+            return InsertedFact {
+                grew: false,
+                full: false,
+                facts: self,
+            };
+        };
+        if Facts::MAX_LEN <= n {
+            return InsertedFact {
+                grew: false,
+                full: true,
+                facts: self,
+            };
+        }
+        let next = self.placed(n, at, entry);
+        InsertedFact {
+            grew: true,
+            full: false,
+            facts: next,
+        }
+    }
+}
+
+impl Impositions {
+    pub const MAX_LEN: usize = 64;
+
+    pub fn new() -> Self
+        ensures { λ r. ⌜ impositionsOf r ≡ [] ⌝ }
+    {
+        let none = Fact {
+            el: ElId(0),
+            ct: ConcreteType {
+                typ: TypeId(0),
+                parents: ElIds::new(),
+            },
+        };
+        Impositions {
+            items: [none; Impositions::MAX_LEN],
+            len: 0,
+        }
+    }
+
+    // How many there are: a length over the limit counts as the limit.
+    pub fn size(self) -> usize
+        ensures { λ r. ⌜ Sized (impositionsOf self) maxImpositions r ⌝ }
+    {
+        let n = self.len as usize;
+        if n < Impositions::MAX_LEN {
+            n
+        } else {
+            Impositions::MAX_LEN
+        }
+    }
+
+    // Whether the entry is queued.
+    pub fn contains(self, entry: Fact) -> bool
+        ensures { λ r. ⌜ r ≡ isImposed (factOf entry) (impositionsOf self) ⌝ }
+    {
+        let n = self.size();
+        for i in 0..n {
+            let here = self.items[i];
+            match entry.compare(here) {
+                Ordering::Less => {
+                    continue;
+                }
+                Ordering::Equal => {
+                    return true;
+                }
+                Ordering::Greater => {
+                    continue;
+                }
+            }
+        }
+        false
+    }
+
+    // One more at the end, where there is room.
+    pub fn push(self, entry: Fact) -> Impositions
+        ensures { λ r. ⌜ impositionsOf r ≡ pushOf maxImpositions (impositionsOf self) (factOf entry) ⌝ }
+    {
+        let mut next = self;
+        let n = self.size();
+        if Impositions::MAX_LEN <= n {
+            return next;
+        }
+        next.items[n] = entry;
+        next.len = (n + 1) as u16;
+        next
+    }
+}

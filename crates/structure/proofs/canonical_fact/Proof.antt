@@ -1,0 +1,20 @@
+-- `canonical_fact` meets its contract.
+use Rattle.facts.specs.View.{factOf}
+use Rattle.structure.proofs.Laws.{fact-roots}
+use borrow.Author.Needs.{needs}
+use Rattle.structure.proofs.canonical_fact.Statement.{statement}
+use Rattle.structure.proofs.canonical_fact.Tie as tie
+
+find-requires : tie.Need-find-requires
+find-requires c κs = search needs
+
+roots-requires : tie.Need-roots-requires
+roots-requires c κs = search needs
+
+returns : tie.Need-returns
+returns c =
+    let found = c .before .before in
+    fact-roots _ (factOf (found .before .before .before .before .args .fact)) (found .find .ensures) (c .roots .ensures)
+
+pub canonical-fact-spec : {M : Type 1} → statement M
+canonical-fact-spec = tie.close (tie.spec find-requires roots-requires returns)

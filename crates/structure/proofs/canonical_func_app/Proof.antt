@@ -1,0 +1,27 @@
+-- `canonical_func_app` meets its contract.
+use Rattle.apps.specs.View.{funcAppOf}
+use Rattle.structure.proofs.Laws.{app-roots}
+use borrow.Author.Needs.{needs}
+use Rattle.structure.proofs.canonical_func_app.Statement.{statement}
+use Rattle.structure.proofs.canonical_func_app.Tie as tie
+
+roots-requires : tie.Need-roots-requires
+roots-requires c κs = search needs
+
+roots-requires-2 : tie.Need-roots-requires-2
+roots-requires-2 c κs = search needs
+
+find-requires : tie.Need-find-requires
+find-requires c κs = search needs
+
+returns : tie.Need-returns
+returns c =
+    let found = c .before in
+    let args = found .before in
+    let parents = args .before in
+    let x = funcAppOf (parents .before .before .before .before .before .args .app) in
+    app-roots _ x (parents .roots .ensures) (args .roots2 .ensures) (found .find .ensures)
+
+pub canonical-func-app-spec : {M : Type 1} → statement M
+canonical-func-app-spec =
+    tie.close (tie.spec roots-requires roots-requires-2 find-requires returns)

@@ -1,0 +1,121 @@
+-- `concrete_types_of` meets its contract.
+use mathlib.Core.Path.{_≡_, ap, _∙_}
+use mathlib.Core.List.{[]}
+use Prim.Native.Nat.{_≤_, _<_, _-_}
+use native.Mathlib.Omega.{arith}
+use lib.ListN.{length, drop}
+use Rattle.ids.specs.Table.{Grown, placed, rewriteInto}
+use Rattle.unification.specs.Roots.{linksOf, FindM, findOf}
+use Rattle.semantics.specs.Structure.{Fact, maxFacts, compareFact, canonicalFact}
+use Rattle.semantics.specs.Types.{factsAt}
+use Rattle.facts.specs.View.{factOf, factsOf}
+use Rattle.structure.proofs.Laws.{placed-length, insert-room, other-el, this-el, collected}
+use borrow.Author.Needs.{needs}
+use Rattle.structure.proofs.concrete_types_of.Statement.{statement}
+use Rattle.structure.proofs.concrete_types_of.Tie as tie
+
+abbrev Inv-loop : tie.InvT-loop
+Inv-loop unification facts root n types₀ i₀ types i =
+    (length (factsOf types) ≤ i)
+    × (rewriteInto compareFact (canonicalFact (linksOf unification)) (factsAt root (drop i (factsOf facts))) (factsOf types)
+    ≡ rewriteInto compareFact (canonicalFact (linksOf unification)) (factsAt root (factsOf facts)) [])
+
+abbrev μ-loop : tie.MeasureT-loop
+μ-loop unification facts root n types₀ i₀ types i = n - i
+
+find-requires : tie.Need-find-requires Inv-loop μ-loop
+find-requires c κs = search needs
+
+size-requires : tie.Need-size-requires Inv-loop μ-loop
+size-requires c κs = search needs
+
+new-requires : tie.Need-new-requires Inv-loop μ-loop
+new-requires c κs = search needs
+
+loop-holds : tie.Need-loop-holds Inv-loop μ-loop
+loop-holds c =
+    let a = c .before .before .before .args in
+    let root = c .before .before .find .result .root .0 in
+    let none = c .new .ensures in (
+      omega (arith, ap (length {A = Fact}) none),
+      ap (rewriteInto compareFact (canonicalFact (linksOf (a .unification))) (factsAt root (factsOf (a .t2)))) none,
+    )
+
+mul-here : tie.Need-mul-here Inv-loop μ-loop
+mul-here c = search needs
+
+element-copy-out-here : tie.Need-element-copy-out-here Inv-loop μ-loop
+element-copy-out-here c = search needs
+
+add-i : tie.Need-add-i Inv-loop μ-loop
+add-i c = search needs
+
+loop-less : tie.Need-loop-less Inv-loop μ-loop
+loop-less c = search needs
+
+loop-again : tie.Need-loop-again Inv-loop μ-loop
+loop-again c =
+    let test = c .before .before .before in
+    let sized = test .before .before .before in
+    let l = test .before .loop in
+    let at : l .i < length (factsOf (sized .before .before .args .t2)) = omega (arith, sized .size .ensures .is, test .loop-test .taken) in
+    (omega (arith, l .inv .0), other-el _ _ (sized .before .before .args .t2) (l .i) _ _ at (l .inv .1) (c .if1 .taken))
+
+canonical-fact-requires : tie.Need-canonical-fact-requires Inv-loop μ-loop
+canonical-fact-requires c κs = search needs
+
+insert-requires : tie.Need-insert-requires Inv-loop μ-loop
+insert-requires c κs = search needs
+
+add-i-2 : tie.Need-add-i-2 Inv-loop μ-loop
+add-i-2 c = search needs
+
+loop-less-2 : tie.Need-loop-less-2 Inv-loop μ-loop
+loop-less-2 c = search needs
+
+loop-again-2 : tie.Need-loop-again-2 Inv-loop μ-loop
+loop-again-2 c =
+    let made = c .before in
+    let entry = made .before in
+    let test = entry .before .before .before .before in
+    let sized = test .before .before .before in
+    let l = test .before .loop in
+    let at : l .i < length (factsOf (sized .before .before .args .t2)) = omega (arith, sized .size .ensures .is, test .loop-test .taken) in
+    let room : length (factsOf (l .types)) < maxFacts = omega (arith, l .inv .0, sized .size .ensures .is, sized .size .ensures .most) in
+    let x = factOf (entry .canonical-fact .result) in
+    let put = ap (λ (g : Grown Fact). g .items) (made .insert .ensures) ∙ insert-room compareFact x maxFacts (factsOf (l .types)) room in
+    let next = put ∙ ap (λ (f : Fact). placed compareFact f (factsOf (l .types))) (entry .canonical-fact .ensures) in (
+      omega (arith, l .inv .0, ap (length {A = Fact}) put, placed-length compareFact x (factsOf (l .types))),
+      this-el _ _ (sized .before .before .args .t2) (l .i) _ _ at (l .inv .1) (entry .before .if1 .left) next,
+    )
+
+returns : tie.Need-returns Inv-loop μ-loop
+unfolding findOf
+returns c =
+    let sized = c .before .before .before in
+    let a = sized .before .before .args in
+    let l = c .before .loop in
+    let past : length (factsOf (a .t2)) ≤ l .i = omega (arith, sized .size .ensures .is, c .loop-test .left) in
+    collected _ _ _ (a .t2) (l .i) _ past (ap (λ (f : FindM). f .root) (sized .before .find .ensures)) (l .inv .1)
+
+pub concrete-types-of-spec : {M : Type 1} → statement M
+concrete-types-of-spec =
+    tie.close
+    (tie.spec
+    Inv-loop
+    μ-loop
+    find-requires
+    size-requires
+    new-requires
+    loop-holds
+    mul-here
+    element-copy-out-here
+    add-i
+    loop-less
+    loop-again
+    canonical-fact-requires
+    insert-requires
+    add-i-2
+    loop-less-2
+    loop-again-2
+    returns)
