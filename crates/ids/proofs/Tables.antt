@@ -1,18 +1,20 @@
 -- Laws of ordered tables, over any type of entries and any order.
 use mathlib.Core.Path.{_≡_, refl, sym, ap, _∙_}
-use mathlib.Core.Bool.{Bool, true, false}
+use mathlib.Core.Bool.{Bool, true, false, not, _&&_}
 use mathlib.Core.List.{List, [], _∷_, _++_}
 use Prim.Native.Nat.{ℕ, zero, suc, _+_, _≤_, _<_, zero-le, suc-le-suc}
 use native.Mathlib.Numerals.{add-one}
+use native.Mathlib.Omega.{arith}
 use native.Mathlib.Nat.{add-zero, zero-add, add-suc, suc-add}
 use mathlib.Core.Option.{Option, some, none}
 use lib.ListN.{length, take, drop, getD}
 use lib.Dec.{leb}
-use borrow.Author.Tests.{le-leb, lt-leb, lt-ltb, le-ltb}
+use borrow.Author.Tests.{le-leb, lt-leb, lt-ltb, le-ltb, leb-true, leb-false}
 use Rattle.ids.specs.declared.Ordering.{Ordering}
 use Rattle.ids.specs.declared.Ordering.the-variants.{Less, Equal, Greater}
 use Rattle.ids.specs.declared.Place.{Place}
 use Rattle.ids.specs.declared.Place.the-variants.{Before, At}
+use Rattle.ids.proofs.Answers.{and-right}
 use Rattle.ids.specs.Table.{Grown, positionFrom, present, placed, insertOf, lookupOf, pushOf}
 
 -- x goes before the k-th entry of a list ys, whose first entry has the index i; p and q are `present` and `placed` of ys
@@ -152,3 +154,60 @@ present-found {A} cmp x (y ∷ ys) = go (cmp y x) (present-found cmp x ys)
     go Less e = e
     go Equal e = refl
     go Greater e = refl
+
+-- Tables: whether an entry was there decides what its insertion does.
+module _ {A : Type 0} (cmp : A → A → Ordering) (x : A) where
+  -- an entry that is there is not put again
+  pub placed-present : (ys : List A) → present cmp x ys ≡ true → placed cmp x ys ≡ ys
+  unfolding present placed
+  placed-present [] e = let z : _≡_ {A = ℕ} 0 1 = cc e in absurd (omega arith)
+  placed-present (y ∷ ys) e = go (cmp y x) (placed-present ys) e
+    where
+      go : (o : Ordering) → (present cmp x ys ≡ true → placed cmp x ys ≡ ys)
+          → _≡_ {A = Bool} (elim o [ Less ↦ present cmp x ys | Equal ↦ true | Greater ↦ false ]) true
+          → _≡_ {A = List A} (elim o [ Less ↦ y ∷ placed cmp x ys | Equal ↦ y ∷ ys | Greater ↦ x ∷ y ∷ ys ]) (y ∷ ys)
+      go Less ih h = ap (λ (l : List A). y ∷ l) (ih h)
+      go Equal ih h = refl
+      go Greater ih h = let z : _≡_ {A = ℕ} 0 1 = cc in absurd (omega arith)
+
+  pub placed-length : (ys : List A) → length (placed cmp x ys) ≤ suc (length ys)
+  unfolding placed
+  placed-length [] = omega arith
+  placed-length (y ∷ ys) = go (cmp y x) (placed-length ys)
+    where
+      go : (o : Ordering) → length (placed cmp x ys) ≤ suc (length ys)
+          → length {A = A} (elim o [ Less ↦ y ∷ placed cmp x ys | Equal ↦ y ∷ ys | Greater ↦ x ∷ y ∷ ys ]) ≤ suc (length (y ∷ ys))
+      go Less h = omega arith
+      go Equal h = omega arith
+      go Greater h = omega arith
+
+  module _ (cap : ℕ) (ys : List A) where
+    -- no room: it is not there, and the table is at its limit
+    pub insert-needs : insertOf cmp x cap ys .full ≡ (not (present cmp x ys) && leb cap (length ys))
+    insert-needs = go (present cmp x ys) refl (leb cap (length ys)) refl
+      where
+        go : (p : Bool) → present cmp x ys ≡ p → (q : Bool) → leb cap (length ys) ≡ q
+            → insertOf cmp x cap ys .full ≡ (not (present cmp x ys) && leb cap (length ys))
+        go true e q k = ap (λ (g : Grown A). g .full) (insert-present cmp x cap ys e) ∙ sym (rw e)
+        go false e true k = ap (λ (g : Grown A). g .full) (insert-full cmp x cap ys e (leb-true _ _ k)) ∙ sym (rw (e, k))
+        go false e false k = ap (λ (g : Grown A). g .full) (insert-new cmp x cap ys e (leb-false _ _ k)) ∙ sym (rw (e, k))
+
+    -- an insertion that had room
+    pub insert-made : insertOf cmp x cap ys .full ≡ false
+        → insertOf cmp x cap ys ≡ record { grew = not (present cmp x ys); full = false; items = placed cmp x ys }
+    insert-made h = go (present cmp x ys) refl (leb cap (length ys)) refl
+      where
+        go : (p : Bool) → present cmp x ys ≡ p → (q : Bool) → leb cap (length ys) ≡ q
+            → insertOf cmp x cap ys ≡ record { grew = not (present cmp x ys); full = false; items = placed cmp x ys }
+        go true e q k = insert-present cmp x cap ys e ∙ sym (rw (e, placed-present ys e))
+        go false e false k = insert-new cmp x cap ys e (leb-false _ _ k) ∙ sym (rw e)
+        go false e true k =
+            let none : insertOf cmp x cap ys .full ≡ true = insert-needs ∙ rw (e, k) in
+            let z : _≡_ {A = ℕ} 0 1 = cc in absurd (omega arith)
+
+    -- an entry that is not there
+    pub insert-absent : present cmp x ys ≡ false → insertOf cmp x cap ys .full ≡ leb cap (length ys)
+    insert-absent h = insert-needs ∙ rw h
+
+    pub insert-room : length ys < cap → insertOf cmp x cap ys .items ≡ placed cmp x ys
+    insert-room h = ap (λ (g : Grown A). g .items) (insert-made (insert-needs ∙ and-right (not (present cmp x ys)) (lt-leb cap (length ys) h)))

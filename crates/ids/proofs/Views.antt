@@ -91,3 +91,13 @@ module _ {A : Type 0} {B : Type 0} (f : A → B) (h : B → B) (xs ys : List A) 
       let jy : i ≡ length (map f (take n ys)) = omega (arith, length-view f n xs, length-view f n ys) in
       let iy : take i ys ≡ take n ys = rw jy (take-used f n ys) in
       ap (map f) (sym iy) ∙ e ∙ ap (λ (l : List A). map h (map f l)) ix
+
+-- counts that the list clamps to the same
+pub take-same : {A : Type 0} (n m : ℕ) (xs : List A) → min n (length xs) ≡ min m (length xs) → take n xs ≡ take m xs
+take-same zero zero xs e = refl
+take-same zero (suc m) [] e = refl
+take-same zero (suc m) (x ∷ xs) e = absurd (omega arith)
+take-same (suc n) zero [] e = refl
+take-same (suc n) zero (x ∷ xs) e = absurd (omega arith)
+take-same (suc n) (suc m) [] e = refl
+take-same {A} (suc n) (suc m) (x ∷ xs) e = ap (λ (l : List A). x ∷ l) (take-same n m xs (omega arith))

@@ -22,8 +22,8 @@ use Rattle.ids.specs.Table.{Grown, present, placed, lookupOf, insertOf, rewrite
 use Rattle.ids.proofs.Answers.{outcome-refuses, outcome-passes, outcome-done, and-right}
 use Rattle.ids.proofs.Judging.{outcome-all}
 use Rattle.ids.proofs.Lists.{given-length, given-held}
-use Rattle.ids.proofs.Tables.{push-room, insert-present, insert-full, insert-new, isSome, present-found}
-use Rattle.ids.proofs.Views.{map-take, view-next, view-done, view-pushed}
+use Rattle.ids.proofs.Tables.{push-room, isSome, present-found}
+use Rattle.ids.proofs.Views.{map-take, view-pushed, take-same}
 use Rattle.unification.specs.declared.Unification.{Unification}
 use Rattle.unification.specs.Roots as roots
 use Rattle.unification.specs.Roots.{maxEls, linksOf, addedOf, shortOf, rootOf, FindM, findOf}
@@ -98,15 +98,6 @@ held l long h =
 
 -- Marks: the array has an entry for each element that there can be, and those in use are as many as the links.
 
-take-same : {A : Type 0} (n m : ℕ) (xs : List A) → min n (length xs) ≡ min m (length xs) → take n xs ≡ take m xs
-take-same zero zero xs e = refl
-take-same zero (suc m) [] e = refl
-take-same zero (suc m) (x ∷ xs) e = absurd (omega arith)
-take-same (suc n) zero [] e = refl
-take-same (suc n) zero (x ∷ xs) e = absurd (omega arith)
-take-same (suc n) (suc m) [] e = refl
-take-same {A} (suc n) (suc m) (x ∷ xs) e = ap (λ (l : List A). x ∷ l) (take-same n m xs (omega arith))
-
 module _ (u v : Unification) (ms : List Bool) (all : length ms ≡ maxEls) (us : length (u .links) ≡ maxEls) (vs : length (v .links) ≡ maxEls) where
   -- links that are as many as before leave the marks
   pub marks-kept : length (linksOf v) ≡ length (linksOf u) → take (v .len) ms ≡ take (u .len) ms
@@ -165,62 +156,6 @@ module _ (s : Structure) (e : equalities.Equated) (a b : ℕ)
       accepts (ap (λ (x : Equated). x .differ) same) q
       (λ i. with-links (same i .links) (with-marks (kept i) (with-pairs (same i .pairs) (structureOf s))))
 
--- Tables: whether an entry was there decides what its insertion does.
-module _ {A : Type 0} (cmp : A → A → Ordering) (x : A) where
-  placed-present : (ys : List A) → present cmp x ys ≡ true → placed cmp x ys ≡ ys
-  unfolding present placed
-  placed-present [] e = let z : _≡_ {A = ℕ} 0 1 = cc e in absurd (omega arith)
-  placed-present (y ∷ ys) e = go (cmp y x) (placed-present ys) e
-    where
-      go : (o : Ordering) → (present cmp x ys ≡ true → placed cmp x ys ≡ ys)
-          → _≡_ {A = Bool} (elim o [ Less ↦ present cmp x ys | Equal ↦ true | Greater ↦ false ]) true
-          → _≡_ {A = List A} (elim o [ Less ↦ y ∷ placed cmp x ys | Equal ↦ y ∷ ys | Greater ↦ x ∷ y ∷ ys ]) (y ∷ ys)
-      go Less ih h = ap (λ (l : List A). y ∷ l) (ih h)
-      go Equal ih h = refl
-      go Greater ih h = let z : _≡_ {A = ℕ} 0 1 = cc in absurd (omega arith)
-
-  pub placed-length : (ys : List A) → length (placed cmp x ys) ≤ suc (length ys)
-  unfolding placed
-  placed-length [] = omega arith
-  placed-length (y ∷ ys) = go (cmp y x) (placed-length ys)
-    where
-      go : (o : Ordering) → length (placed cmp x ys) ≤ suc (length ys)
-          → length {A = A} (elim o [ Less ↦ y ∷ placed cmp x ys | Equal ↦ y ∷ ys | Greater ↦ x ∷ y ∷ ys ]) ≤ suc (length (y ∷ ys))
-      go Less h = omega arith
-      go Equal h = omega arith
-      go Greater h = omega arith
-
-  module _ (cap : ℕ) (ys : List A) where
-    -- no room: it is not there, and the table is at its limit
-    pub insert-needs : insertOf cmp x cap ys .full ≡ (not (present cmp x ys) && leb cap (length ys))
-    insert-needs = go (present cmp x ys) refl (leb cap (length ys)) refl
-      where
-        go : (p : Bool) → present cmp x ys ≡ p → (q : Bool) → leb cap (length ys) ≡ q
-            → insertOf cmp x cap ys .full ≡ (not (present cmp x ys) && leb cap (length ys))
-        go true e q k = ap (λ (g : Grown A). g .full) (insert-present cmp x cap ys e) ∙ sym (rw e)
-        go false e true k = ap (λ (g : Grown A). g .full) (insert-full cmp x cap ys e (leb-true _ _ k)) ∙ sym (rw (e, k))
-        go false e false k = ap (λ (g : Grown A). g .full) (insert-new cmp x cap ys e (leb-false _ _ k)) ∙ sym (rw (e, k))
-
-    -- an insertion that had room
-    pub insert-made : insertOf cmp x cap ys .full ≡ false
-        → insertOf cmp x cap ys ≡ record { grew = not (present cmp x ys); full = false; items = placed cmp x ys }
-    insert-made h = go (present cmp x ys) refl (leb cap (length ys)) refl
-      where
-        go : (p : Bool) → present cmp x ys ≡ p → (q : Bool) → leb cap (length ys) ≡ q
-            → insertOf cmp x cap ys ≡ record { grew = not (present cmp x ys); full = false; items = placed cmp x ys }
-        go true e q k = insert-present cmp x cap ys e ∙ sym (rw (e, placed-present ys e))
-        go false e false k = insert-new cmp x cap ys e (leb-false _ _ k) ∙ sym (rw e)
-        go false e true k =
-            let none : insertOf cmp x cap ys .full ≡ true = insert-needs ∙ rw (e, k) in
-            let z : _≡_ {A = ℕ} 0 1 = cc in absurd (omega arith)
-
-    -- an entry that is not there
-    pub insert-absent : present cmp x ys ≡ false → insertOf cmp x cap ys .full ≡ leb cap (length ys)
-    insert-absent h = insert-needs ∙ rw h
-
-    pub insert-room : length ys < cap → insertOf cmp x cap ys .items ≡ placed cmp x ys
-    insert-room h = ap (λ (g : Grown A). g .items) (insert-made (insert-needs ∙ and-right (not (present cmp x ys)) (lt-leb cap (length ys) h)))
-
 -- an entry whose key is below the limit of a table of slots
 pub bound-room : {E : Type 0} (cmp : E → E → Ordering) (limit key : ℕ) (x : E) (l : List E) → key < limit → boundOf cmp limit key x l ≡ placed cmp x l
 unfolding boundOf
@@ -230,50 +165,6 @@ bound-room cmp limit key x l h = rw (lt-ltb key limit h, boundOf)
 pub by-operation : (f : ℕ) → Search (λ (m : ModelM). eqb f (m .id) || eqb f (m .comp)) (isIdOrComp f)
 unfolding isIdOrComp
 by-operation f = record { none = refl; more = λ y ys. refl }
-
--- Entries as roots: what the finds ensure.
-
-pub fact-roots : (ls : List ℕ) (f : Fact) {r : FindM} {ps : List ℕ} → r ≡ findOf ls (f .el) → ps ≡ map (rootOf ls) (f .parents)
-    → _≡_ {A = Fact} (record { el = r .root; typ = f .typ; parents = ps }) (canonicalFact ls f)
-unfolding canonicalFact findOf
-fact-roots ls f p q = λ i. record { el = p i .root; typ = f .typ; parents = q i }
-
-pub app-roots : (ls : List ℕ) (x : FuncApp) {r : FindM} {ps es : List ℕ} → ps ≡ map (rootOf ls) (x .parents) → es ≡ map (rootOf ls) (x .args)
-    → r ≡ findOf ls (x .result) → _≡_ {A = FuncApp} (record { func = x .func; parents = ps; args = es; result = r .root }) (canonicalFuncApp ls x)
-unfolding canonicalFuncApp findOf
-app-roots ls x p q r = λ i. record { func = x .func; parents = p i; args = q i; result = r i .root }
-
--- A turn of the loop that collects the facts of an element's class, at the entry i of a table: it is of another element, or of this.
-module _ (ls : List ℕ) (root : ℕ) (t : Facts) (i : ℕ) (d : code.Fact) (done : List Fact) {R : List Fact} (at : i < length (factsOf t))
-    (so-far : rewriteInto compareFact (canonicalFact ls) (factsAt root (drop i (factsOf t))) done ≡ R) where
-  turn : rewriteInto compareFact (canonicalFact ls) (factsAt root (factOf (getD (t .items) i d) ∷ drop (i + 1) (factsOf t))) done ≡ R
-  turn =
-      ap (λ (l : List Fact). rewriteInto compareFact (canonicalFact ls) (factsAt root l) done) (sym (view-next factOf (t .len) (t .items) i d at))
-      ∙ so-far
-
-  pub other-el : (factOf (getD (t .items) i d) .el ≡ root → ⊥)
-      → rewriteInto compareFact (canonicalFact ls) (factsAt root (drop (i + 1) (factsOf t))) done ≡ R
-  unfolding factsAt
-  other-el n = rw (ne-eqb (factOf (getD (t .items) i d) .el) root n, factsAt) at turn
-
-  pub this-el : factOf (getD (t .items) i d) .el ≡ root → {next : List Fact}
-      → next ≡ placed compareFact (canonicalFact ls (factOf (getD (t .items) i d))) done
-      → rewriteInto compareFact (canonicalFact ls) (factsAt root (drop (i + 1) (factsOf t))) next ≡ R
-  unfolding factsAt rewriteInto
-  this-el e q =
-      ap (rewriteInto compareFact (canonicalFact ls) (factsAt root (drop (i + 1) (factsOf t)))) q
-      ∙ (rw (eq-eqb (factOf (getD (t .items) i d) .el) root e, factsAt) at turn)
-
--- all facts of the class are collected
-pub collected : (ls : List ℕ) (root el : ℕ) (t : Facts) (i : ℕ) (done : List Fact) → length (factsOf t) ≤ i → root ≡ rootOf ls el
-    → rewriteInto compareFact (canonicalFact ls) (factsAt root (drop i (factsOf t))) done
-    ≡ rewriteInto compareFact (canonicalFact ls) (factsAt root (factsOf t)) []
-    → done ≡ concreteTypesOf ls (factsOf t) el
-unfolding concreteTypesOf factsAt rewriteInto
-collected ls root el t i done h e so-far =
-    ap (λ (l : List Fact). rewriteInto compareFact (canonicalFact ls) (factsAt root l) done) (sym (view-done factOf (t .len) (t .items) i h))
-    ∙ so-far
-    ∙ ap (λ (r : ℕ). rewriteInto compareFact (canonicalFact ls) (factsAt r (factsOf t)) []) e
 
 -- A turn of the ambient lookup: the type has an ambient element, or none.
 module _ (t : ℕ) (ts : List ℕ) (l : List Ambient) where

@@ -10,7 +10,6 @@ use bindings::Bound;
 use bindings::VarEl;
 use bindings::VarEls;
 use equalities::Pairs;
-use facts::ConcreteType;
 use facts::Fact;
 use facts::Facts;
 use facts::Impositions;
@@ -32,11 +31,8 @@ ghost use Rattle.unification.specs.Roots as roots;
 ghost use Rattle.unification.specs.Roots.{linksOf, answered};
 ghost use Rattle.signature.specs.Model.{sigOf, viewModels};
 ghost use Rattle.signature.specs.Calls.{isFunc};
-ghost use Rattle.semantics.specs.Structure.{empty, accept, canonicalFact, canonicalFuncApp, with-links};
-ghost use Rattle.semantics.specs.Types.{concreteTypesOf};
+ghost use Rattle.semantics.specs.Structure.{empty, accept, with-links};
 ghost use Rattle.semantics.specs.Calls.{isEl, areEls, isPred, isIdOrComp, isReserved, pushEl, equateEls, imposeType, applyFunc, applyPred, bindVar, bindAmbient, ambientParents};
-ghost use Rattle.facts.specs.View.{factOf, factsOf};
-ghost use Rattle.apps.specs.View.{funcAppOf};
 ghost use Rattle.bindings.specs.View.{varOf, ambientOf};
 ghost use Rattle.structure.specs.View.{structureOf, givenFact, givenFuncApp, givenPredApp, numberingOf, sayingOf, doingOf, parentsOf, rootingOf};
 
@@ -100,42 +96,6 @@ pub struct AmbientParents {
 pub struct Rooting {
     pub find: Finding,
     pub structure: Structure,
-}
-
-// A fact with its element and its parents as roots.
-pub fn canonical_fact(unification: Unification, fact: Fact) -> Fact
-    ensures { λ r. ⌜ factOf r ≡ canonicalFact (linksOf unification) (factOf fact) ⌝ }
-{
-    let el = fact.el;
-    let typ = fact.ct.typ;
-    let given = fact.ct.parents;
-    let found = unification.find(el);
-    let root = found.root;
-    let parents = unification.roots(given);
-    Fact {
-        el: root,
-        ct: ConcreteType { typ, parents },
-    }
-}
-
-// An application with its parents, arguments and result as roots.
-pub fn canonical_func_app(unification: Unification, app: FuncApp) -> FuncApp
-    ensures { λ r. ⌜ funcAppOf r ≡ canonicalFuncApp (linksOf unification) (funcAppOf app) ⌝ }
-{
-    let func = app.func;
-    let p = app.parents;
-    let a = app.args;
-    let e = app.result;
-    let parents = unification.roots(p);
-    let args = unification.roots(a);
-    let found = unification.find(e);
-    let result = found.root;
-    FuncApp {
-        func,
-        parents,
-        args,
-        result,
-    }
 }
 
 fn refuse_number(structure: Structure, number: u16) -> Numbering
@@ -295,7 +255,7 @@ impl Structure {
         }
         let settled = self.settled;
         let queue = self.pending_type_impositions;
-        let entry = canonical_fact(self.unification, fact);
+        let entry = canonical::canonical_fact(self.unification, fact);
         if queue.contains(entry) {
             return Saying {
                 answer: Said::Answer(false),
@@ -389,7 +349,7 @@ impl Structure {
         let u = self.unification;
         let pairs = self.pending_equalities;
         let table = self.func_apps;
-        let entry = canonical_func_app(u, app);
+        let entry = canonical::canonical_func_app(u, app);
         let result = entry.result;
         match table.get(entry) {
             Stored::Nothing => {
@@ -576,25 +536,4 @@ fn is_reserved(signature: Signature, func: FuncId) -> bool
     }
     let mor_app_funcs = signature.mor_app_funcs;
     mor_app_funcs.has_func(func)
-}
-
-// The facts of an element's class with parents as roots, each once, in order.
-pub fn concrete_types_of(unification: Unification, facts: Facts, el: ElId) -> Facts
-    ensures { λ r. ⌜ factsOf r ≡ concreteTypesOf (linksOf unification) (factsOf facts) (el .0) ⌝ }
-{
-    let found = unification.find(el);
-    let root = found.root.0;
-    let n = facts.size();
-    let mut types = Facts::new();
-    for i in 0..n {
-        let here = facts.items[i];
-        if here.el.0 != root {
-            continue;
-        }
-        let entry = canonical_fact(unification, here);
-        let inserted = types.insert(entry);
-        let next = inserted.facts;
-        types = next;
-    }
-    types
 }

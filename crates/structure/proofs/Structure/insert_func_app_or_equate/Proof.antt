@@ -22,7 +22,8 @@ use Rattle.apps.specs.View as apps
 use Rattle.apps.specs.View.{funcAppOf, funcAppsOf}
 use Rattle.equalities.specs.View.{pairsOf}
 use Rattle.structure.specs.View.{structureOf, givenFuncApp}
-use Rattle.structure.proofs.Laws.{judged, stops, on, ends, accepts, or-then, Held, held, equates, insert-absent, insert-made, app-absent, app-new, app-same, app-other}
+use Rattle.ids.proofs.Tables.{insert-absent, insert-made}
+use Rattle.structure.proofs.Laws.{judged, stops, on, ends, accepts, or-then, Held, held, equates, app-absent, app-new, app-same, app-other}
 use borrow.Author.Needs.{needs}
 use Rattle.structure.proofs.Structure.insert_func_app_or_equate.Statement.{statement}
 use Rattle.structure.proofs.Structure.insert_func_app_or_equate.Tie as tie

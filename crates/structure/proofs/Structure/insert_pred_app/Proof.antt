@@ -15,7 +15,8 @@ use Rattle.semantics.specs.Structure.{comparePredApp, maxPredApps, with-pred-ap
 use Rattle.semantics.specs.Calls.{areEls, isPred, applyPred}
 use Rattle.apps.specs.View.{predAppOf}
 use Rattle.structure.specs.View.{structureOf, givenPredApp}
-use Rattle.structure.proofs.Laws.{judged, stops, on, ends, accepts, or-then, Held, held, insert-needs, insert-made}
+use Rattle.ids.proofs.Tables.{insert-needs, insert-made}
+use Rattle.structure.proofs.Laws.{judged, stops, on, ends, accepts, or-then, Held, held}
 use borrow.Author.Needs.{needs}
 use Rattle.structure.proofs.Structure.insert_pred_app.Statement.{statement}
 use Rattle.structure.proofs.Structure.insert_pred_app.Tie as tie

@@ -9,10 +9,11 @@ use Rattle.unification.specs.Roots.{linksOf, FindM, findOf}
 use Rattle.semantics.specs.Structure.{Fact, maxFacts, compareFact, canonicalFact}
 use Rattle.semantics.specs.Types.{factsAt}
 use Rattle.facts.specs.View.{factOf, factsOf}
-use Rattle.structure.proofs.Laws.{placed-length, insert-room, other-el, this-el, collected}
+use Rattle.ids.proofs.Tables.{placed-length, insert-room}
+use Rattle.canonical.proofs.Laws.{other-el, this-el, collected}
 use borrow.Author.Needs.{needs}
-use Rattle.structure.proofs.concrete_types_of.Statement.{statement}
-use Rattle.structure.proofs.concrete_types_of.Tie as tie
+use Rattle.canonical.proofs.concrete_types_of.Statement.{statement}
+use Rattle.canonical.proofs.concrete_types_of.Tie as tie
 
 abbrev Inv-loop : tie.InvT-loop
 Inv-loop unification facts root n types₀ i₀ types i =

@@ -1,9 +1,9 @@
 -- `canonical_func_app` meets its contract.
 use Rattle.apps.specs.View.{funcAppOf}
-use Rattle.structure.proofs.Laws.{app-roots}
+use Rattle.canonical.proofs.Laws.{app-roots}
 use borrow.Author.Needs.{needs}
-use Rattle.structure.proofs.canonical_func_app.Statement.{statement}
-use Rattle.structure.proofs.canonical_func_app.Tie as tie
+use Rattle.canonical.proofs.canonical_func_app.Statement.{statement}
+use Rattle.canonical.proofs.canonical_func_app.Tie as tie
 
 roots-requires : tie.Need-roots-requires
 roots-requires c κs = search needs

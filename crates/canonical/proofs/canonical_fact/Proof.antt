@@ -1,9 +1,9 @@
 -- `canonical_fact` meets its contract.
 use Rattle.facts.specs.View.{factOf}
-use Rattle.structure.proofs.Laws.{fact-roots}
+use Rattle.canonical.proofs.Laws.{fact-roots}
 use borrow.Author.Needs.{needs}
-use Rattle.structure.proofs.canonical_fact.Statement.{statement}
-use Rattle.structure.proofs.canonical_fact.Tie as tie
+use Rattle.canonical.proofs.canonical_fact.Statement.{statement}
+use Rattle.canonical.proofs.canonical_fact.Tie as tie
 
 find-requires : tie.Need-find-requires
 find-requires c κs = search needs

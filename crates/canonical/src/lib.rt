@@ -1,0 +1,87 @@
+// Entries with what they name as roots, and the types of an element.
+use apps::FuncApp;
+use apps::PredApp;
+use facts::ConcreteType;
+use facts::Fact;
+use facts::Facts;
+use ids::ElId;
+use unification::Unification;
+ghost use mathlib.Core.Path.{_≡_};
+ghost use Rattle.unification.specs.Roots.{linksOf};
+ghost use Rattle.semantics.specs.Structure.{canonicalFact, canonicalFuncApp, canonicalPredApp};
+ghost use Rattle.semantics.specs.Types.{concreteTypesOf};
+ghost use Rattle.facts.specs.View.{factOf, factsOf};
+ghost use Rattle.apps.specs.View.{funcAppOf, predAppOf};
+
+// A fact with its element and its parents as roots.
+pub fn canonical_fact(unification: Unification, fact: Fact) -> Fact
+    ensures { λ r. ⌜ factOf r ≡ canonicalFact (linksOf unification) (factOf fact) ⌝ }
+{
+    let el = fact.el;
+    let typ = fact.ct.typ;
+    let given = fact.ct.parents;
+    let found = unification.find(el);
+    let root = found.root;
+    let parents = unification.roots(given);
+    Fact {
+        el: root,
+        ct: ConcreteType { typ, parents },
+    }
+}
+
+// An application with its parents, arguments and result as roots.
+pub fn canonical_func_app(unification: Unification, app: FuncApp) -> FuncApp
+    ensures { λ r. ⌜ funcAppOf r ≡ canonicalFuncApp (linksOf unification) (funcAppOf app) ⌝ }
+{
+    let func = app.func;
+    let p = app.parents;
+    let a = app.args;
+    let e = app.result;
+    let parents = unification.roots(p);
+    let args = unification.roots(a);
+    let found = unification.find(e);
+    let result = found.root;
+    FuncApp {
+        func,
+        parents,
+        args,
+        result,
+    }
+}
+
+// A predicate application with its parents and arguments as roots.
+pub fn canonical_pred_app(unification: Unification, app: PredApp) -> PredApp
+    ensures { λ r. ⌜ predAppOf r ≡ canonicalPredApp (linksOf unification) (predAppOf app) ⌝ }
+{
+    let pred = app.pred;
+    let p = app.parents;
+    let a = app.args;
+    let parents = unification.roots(p);
+    let args = unification.roots(a);
+    PredApp {
+        pred,
+        parents,
+        args,
+    }
+}
+
+// The facts of an element's class with parents as roots, each once, in order.
+pub fn concrete_types_of(unification: Unification, facts: Facts, el: ElId) -> Facts
+    ensures { λ r. ⌜ factsOf r ≡ concreteTypesOf (linksOf unification) (factsOf facts) (el .0) ⌝ }
+{
+    let found = unification.find(el);
+    let root = found.root.0;
+    let n = facts.size();
+    let mut types = Facts::new();
+    for i in 0..n {
+        let here = facts.items[i];
+        if here.el.0 != root {
+            continue;
+        }
+        let entry = canonical_fact(unification, here);
+        let inserted = types.insert(entry);
+        let next = inserted.facts;
+        types = next;
+    }
+    types
+}
