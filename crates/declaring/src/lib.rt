@@ -15,29 +15,29 @@ ghost use Rattle.structure.specs.View.{structureOf};
 pub fn push_type(structure: Structure, signature: Signature, t: Type) -> Declaring
     ensures { λ r. ⌜ declared r ≡ pushType (structureOf structure .started) (sigOf signature) (givenType t) ⌝ }
 {
-    signature.push_type(structure.started, t)
+    declarations::push_type(signature, structure.started, t)
 }
 
 pub fn push_pred(structure: Structure, signature: Signature, p: Pred) -> Declaring
     ensures { λ r. ⌜ declared r ≡ pushPred (structureOf structure .started) (sigOf signature) (givenPred p) ⌝ }
 {
-    signature.push_pred(structure.started, p)
+    declarations::push_pred(signature, structure.started, p)
 }
 
 pub fn push_func(structure: Structure, signature: Signature, f: Func) -> Declaring
     ensures { λ r. ⌜ declared r ≡ pushFunc (structureOf structure .started) (sigOf signature) (givenFunc f) ⌝ }
 {
-    signature.push_func(structure.started, f)
+    declarations::push_func(signature, structure.started, f)
 }
 
 pub fn push_model(structure: Structure, signature: Signature, ids: ModelIds) -> Declaring
     ensures { λ r. ⌜ declared r ≡ pushModel (structureOf structure .started) (sigOf signature) (modelOf ids) ⌝ }
 {
-    signature.push_model(structure.started, ids)
+    declarations::push_model(signature, structure.started, ids)
 }
 
 pub fn push_mor_app_func(structure: Structure, signature: Signature, m: MorAppFunc) -> Declaring
     ensures { λ r. ⌜ declared r ≡ pushMorApp (structureOf structure .started) (sigOf signature) (morAppOf m) ⌝ }
 {
-    signature.push_mor_app_func(structure.started, m)
+    declarations::push_mor_app_func(signature, structure.started, m)
 }

@@ -1,7 +1,7 @@
 -- Laws of ordered tables, over any type of entries and any order.
 use mathlib.Core.Path.{_≡_, refl, sym, ap, _∙_}
 use mathlib.Core.Bool.{Bool, true, false, not, _&&_}
-use mathlib.Core.List.{List, [], _∷_, _++_}
+use mathlib.Core.List.{List, [], _∷_, _++_, map}
 use Prim.Native.Nat.{ℕ, zero, suc, _+_, _≤_, _<_, zero-le, suc-le-suc}
 use native.Mathlib.Numerals.{add-one}
 use native.Mathlib.Omega.{arith}
@@ -15,7 +15,8 @@ use Rattle.ids.specs.declared.Ordering.the-variants.{Less, Equal, Greate
 use Rattle.ids.specs.declared.Place.{Place}
 use Rattle.ids.specs.declared.Place.the-variants.{Before, At}
 use Rattle.ids.proofs.Answers.{and-right}
-use Rattle.ids.specs.Table.{Grown, positionFrom, present, placed, insertOf, lookupOf, pushOf}
+use Rattle.ids.proofs.Views.{view-next, view-done}
+use Rattle.ids.specs.Table.{Grown, positionFrom, present, placed, insertOf, lookupOf, pushOf, rewriteInto}
 
 -- x goes before the k-th entry of a list ys, whose first entry has the index i; p and q are `present` and `placed` of ys
 pub record Spot {A : Type 0} (x : A) (i : ℕ) (ys : List A) (p : Bool) (q : List A) (k : ℕ) : Type 0 where
@@ -211,3 +212,20 @@ module _ {A : Type 0} (cmp : A → A → Ordering) (x : A) where
 
     pub insert-room : length ys < cap → insertOf cmp x cap ys .items ≡ placed cmp x ys
     insert-room h = ap (λ (g : Grown A). g .items) (insert-made (insert-needs ∙ and-right (not (present cmp x ys)) (lt-leb cap (length ys) h)))
+
+-- A loop that rewrites the entries of a table, seen through `view`, one after the other into another table `done`.
+module _ {A B : Type 0} (cmp : B → B → Ordering) (f : B → B) (view : A → B) (n : ℕ) (xs : List A) (i : ℕ) (done : List B) {whole : List B}
+    (so-far : rewriteInto cmp f (drop i (map view (take n xs))) done ≡ whole) where
+  -- the entry i is rewritten
+  pub rewrite-next : (d : A) (next : List B) → i < length (map view (take n xs)) → next ≡ placed cmp (f (view (getD xs i d))) done
+      → rewriteInto cmp f (drop (i + 1) (map view (take n xs))) next ≡ whole
+  unfolding rewriteInto
+  rewrite-next d next h q =
+      ap (rewriteInto cmp f (drop (i + 1) (map view (take n xs)))) q
+      ∙ ap (λ (l : List B). rewriteInto cmp f l done) (sym (view-next view n xs i d h))
+      ∙ so-far
+
+  -- all are
+  pub rewrite-done : length (map view (take n xs)) ≤ i → done ≡ whole
+  unfolding rewriteInto
+  rewrite-done h = ap (λ (l : List B). rewriteInto cmp f l done) (sym (view-done view n xs i h)) ∙ so-far

@@ -1,15 +1,12 @@
--- Laws that the proofs of several functions cite: of the searches, of a call that appends, and of the type lookup.
+-- Laws that the proofs of several functions cite: of the searches, of the kinds, and of the type lookup.
 use mathlib.Core.Path.{_≡_, refl, sym, ap, _∙_}
 use mathlib.Core.Bool.{_&&_}
-use mathlib.Core.List.{List, [], _∷_, _++_}
+use mathlib.Core.List.{List}
 use Prim.Native.Nat.{ℕ, _≤_, _<_}
 use native.Mathlib.Omega.{arith}
 use lib.ListN.{length, getD}
 use lib.Dec.{eqb}
 use borrow.Author.Tests.{le-ltb, lt-ltb}
-use Rattle.ids.specs.Answers.{accepted, Outcome}
-use Rattle.ids.specs.Table.{Sized, pushOf}
-use Rattle.ids.proofs.Tables.{push-room}
 use Rattle.ids.proofs.Counted.{Search}
 use Rattle.signature.specs.declared.Type as code-type
 use Rattle.signature.specs.declared.TypeKind.{TypeKind}
@@ -37,16 +34,6 @@ by-pair mo me = record { none = refl; more = λ y ys. refl }
 -- the kind of a type that was read, where it was told apart
 pub kind-told : (t : code-type.Type) (m : TypeM) (k : TypeKind) → typeOf t ≡ m → t .kind ≡ k → kindOf k ≡ m .kind
 kind-told t m k e h = ap kindOf (sym h) ∙ ap (λ (n : TypeM). n .kind) e
-
--- A call that appends to a table.
-module _ {B : Type 0} {ys : List B} {limit size : ℕ} (sized : Sized ys limit size) where
-  -- the answer of a call that appends to it, where there is room
-  pub accepts : {S : Type 0} → size < limit → (zs : List B) (y : B) → zs ≡ pushOf limit ys y → (put : List B → S)
-      → _≡_ {A = Outcome ℕ S} (record { answer = accepted size; left = put zs })
-      (record { answer = accepted (length ys); left = put (ys ++ (y ∷ [])) })
-  accepts h zs y e put =
-      let more : zs ≡ ys ++ (y ∷ []) = e ∙ push-room limit ys y (omega (arith, sized .is)) in
-      λ k. record { answer = accepted (sized .is k); left = put (more k) }
 
 -- The type lookup, of a type with n parents.
 module _ (ts : List TypeM) (t given n : ℕ) (parents : n ≡ length (getD ts t noType .parents)) where

@@ -1,3 +1,2 @@
 pub mod Laws
-pub mod Causes
 pub mod Theorems

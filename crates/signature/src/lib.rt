@@ -1,4 +1,4 @@
-// Types, predicates, functions, models and morphism application functions (signature.rs), and the calls of kinds 1 to 5.
+// Types, predicates, functions, models and morphism application functions (signature.rs), and the type lookup.
 use ids::ElIds;
 use ids::FuncId;
 use ids::PredId;
@@ -6,14 +6,12 @@ use ids::Refusal;
 use ids::TypeId;
 use ids::TypeIds;
 ghost use mathlib.Core.Path.{_≡_};
-ghost use mathlib.Core.Bool.{_&&_, _||_};
-ghost use mathlib.Core.List.{[], _∷_};
+ghost use mathlib.Core.List.{[]};
 ghost use lib.ListN.{getD};
-ghost use Rattle.ids.specs.Answers.{refused};
 ghost use Rattle.ids.specs.Ids.{typesOf, givenEls};
 ghost use Rattle.ids.specs.Table.{Sized, pushOf};
-ghost use Rattle.signature.specs.Model.{maxTypes, maxPreds, maxFuncs, maxModels, maxMorApps, noType, noPred, noFunc, empty, kindOf, typeOf, predOf, funcOf, modelOf, morAppOf, viewTypes, viewPreds, viewFuncs, viewModels, viewMorApps, sigOf, givenType, givenPred, givenFunc};
-ghost use Rattle.signature.specs.Calls.{isType, areTypes, isFunc, isModel, isMor, isMorOf, modelDeclared, modelIsModel, member, functions, modelIdsDeclared, modelGiven, inModels, inMorApps, pairGiven, functionGiven, repeats, anyGiven, pushType, pushPred, pushFunc, pushModel, pushMorApp, concreteTypeAt, lookupType, typedOf, lookedOf, declared};
+ghost use Rattle.signature.specs.Model.{maxTypes, maxPreds, maxFuncs, maxModels, maxMorApps, noType, noPred, noFunc, empty, typeOf, predOf, funcOf, modelOf, morAppOf, viewTypes, viewPreds, viewFuncs, viewModels, viewMorApps, sigOf};
+ghost use Rattle.signature.specs.Calls.{isType, areTypes, isFunc, isModel, isMor, isMorOf, member, functions, modelGiven, inModels, inMorApps, pairGiven, concreteTypeAt, lookupType, typedOf, lookedOf};
 
 // Mor is the kind of a model's morphisms, with the model's type.
 pub enum TypeKind {
@@ -143,7 +141,7 @@ impl Types {
     }
 
     // One more at the end, where there is room.
-    fn push(self, item: Type) -> Types
+    pub fn push(self, item: Type) -> Types
         ensures { λ r. ⌜ viewTypes r ≡ pushOf maxTypes (viewTypes self) (typeOf item) ⌝ }
     {
         let mut next = self;
@@ -199,7 +197,7 @@ impl Preds {
     }
 
     // One more at the end, where there is room.
-    fn push(self, item: Pred) -> Preds
+    pub fn push(self, item: Pred) -> Preds
         ensures { λ r. ⌜ viewPreds r ≡ pushOf maxPreds (viewPreds self) (predOf item) ⌝ }
     {
         let mut next = self;
@@ -256,7 +254,7 @@ impl Funcs {
     }
 
     // One more at the end, where there is room.
-    fn push(self, item: Func) -> Funcs
+    pub fn push(self, item: Func) -> Funcs
         ensures { λ r. ⌜ viewFuncs r ≡ pushOf maxFuncs (viewFuncs self) (funcOf item) ⌝ }
     {
         let mut next = self;
@@ -317,7 +315,7 @@ impl Models {
     }
 
     // One more at the end, where there is room.
-    fn push(self, item: ModelIds) -> Models
+    pub fn push(self, item: ModelIds) -> Models
         ensures { λ r. ⌜ viewModels r ≡ pushOf maxModels (viewModels self) (modelOf item) ⌝ }
     {
         let mut next = self;
@@ -332,7 +330,7 @@ impl Models {
     }
 
     // Whether a model of this type was given.
-    fn has_type(self, typ: TypeId) -> bool
+    pub fn has_type(self, typ: TypeId) -> bool
         ensures { λ r. ⌜ r ≡ modelGiven (typ .0) (viewModels self) ⌝ }
     {
         let n = self.size();
@@ -347,7 +345,7 @@ impl Models {
     }
 
     // Whether a model names this function.
-    fn has_func(self, func: FuncId) -> bool
+    pub fn has_func(self, func: FuncId) -> bool
         ensures { λ r. ⌜ r ≡ inModels (func .0) (viewModels self) ⌝ }
     {
         let n = self.size();
@@ -392,7 +390,7 @@ impl MorAppFuncs {
     }
 
     // One more at the end, where there is room.
-    fn push(self, item: MorAppFunc) -> MorAppFuncs
+    pub fn push(self, item: MorAppFunc) -> MorAppFuncs
         ensures { λ r. ⌜ viewMorApps r ≡ pushOf maxMorApps (viewMorApps self) (morAppOf item) ⌝ }
     {
         let mut next = self;
@@ -422,7 +420,7 @@ impl MorAppFuncs {
     }
 
     // Whether this pair of types was given.
-    fn has_types(self, types: MorphismMemberTypes) -> bool
+    pub fn has_types(self, types: MorphismMemberTypes) -> bool
         ensures { λ r. ⌜ r ≡ pairGiven (types .«morphism_type» .0) (types .«member_type» .0) (viewMorApps self) ⌝ }
     {
         let n = self.size();
@@ -455,37 +453,6 @@ impl ModelIds {
             return true;
         }
         func.0 == self.comp.0
-    }
-
-    // Whether the model names a function twice.
-    fn repeats(self) -> bool
-        ensures { λ r. ⌜ r ≡ repeats (functions (modelOf self)) ⌝ }
-    {
-        if self.dom.0 == self.cod.0 {
-            return true;
-        }
-        if self.dom.0 == self.id.0 {
-            return true;
-        }
-        if self.dom.0 == self.comp.0 {
-            return true;
-        }
-        if self.cod.0 == self.id.0 {
-            return true;
-        }
-        if self.cod.0 == self.comp.0 {
-            return true;
-        }
-        self.id.0 == self.comp.0
-    }
-}
-
-fn refuse(signature: Signature, number: u16) -> Declaring
-    ensures { λ r. ⌜ declared r ≡ record { answer = refused number; left = sigOf signature } ⌝ }
-{
-    Declaring {
-        answer: Declared::Refused(number),
-        signature,
     }
 }
 
@@ -573,262 +540,6 @@ impl Signature {
             TypeKind::Model => false,
             TypeKind::Enum => false,
             TypeKind::Mor(m) => m.0 == model.0,
-        }
-    }
-
-    // Whether the model type that a kind names, if it names one, is declared.
-    fn model_is_declared(self, kind: TypeKind) -> bool
-        ensures { λ r. ⌜ r ≡ modelDeclared (sigOf self) (kindOf kind) ⌝ }
-    {
-        match kind {
-            TypeKind::Plain => true,
-            TypeKind::Model => true,
-            TypeKind::Enum => true,
-            TypeKind::Mor(m) => self.is_type(m),
-        }
-    }
-
-    // Whether the model type that a kind names, if it names one, is of kind Model.
-    fn model_is_model(self, kind: TypeKind) -> bool
-        ensures { λ r. ⌜ r ≡ modelIsModel (sigOf self) (kindOf kind) ⌝ }
-    {
-        match kind {
-            TypeKind::Plain => true,
-            TypeKind::Model => true,
-            TypeKind::Enum => true,
-            TypeKind::Mor(m) => self.is_model(m),
-        }
-    }
-
-    // Whether a record of kind 4 or 5 named this function.
-    fn is_given(self, f: FuncId) -> bool
-        ensures { λ r. ⌜ r ≡ functionGiven (sigOf self) (f .0) ⌝ }
-    {
-        let models = self.models;
-        if models.has_func(f) {
-            return true;
-        }
-        let mor_app_funcs = self.mor_app_funcs;
-        mor_app_funcs.has_func(f)
-    }
-
-    // Whether a function that the model names was given before.
-    fn any_is_given(self, ids: ModelIds) -> bool
-        ensures { λ r. ⌜ r ≡ anyGiven (sigOf self) (functions (modelOf ids)) ⌝ }
-    {
-        if self.is_given(ids.dom) {
-            return true;
-        }
-        if self.is_given(ids.cod) {
-            return true;
-        }
-        if self.is_given(ids.id) {
-            return true;
-        }
-        self.is_given(ids.comp)
-    }
-
-    // Kind 1. `started` says that a call of kinds 6 to 14 was accepted.
-    pub fn push_type(self, started: bool, t: Type) -> Declaring
-        ensures { λ r. ⌜ declared r ≡ pushType started (sigOf self) (givenType t) ⌝ }
-    {
-        let parents = t.parents;
-        let kind = t.kind;
-        let types = self.types;
-        let n = types.size();
-        if parents.is_too_long() {
-            return refuse(self, Refusal::MALFORMED);
-        }
-        if started {
-            return refuse(self, Refusal::TOO_LATE);
-        }
-        if !self.are_types(parents) {
-            return refuse(self, Refusal::UNDECLARED);
-        }
-        if !self.model_is_declared(kind) {
-            return refuse(self, Refusal::UNDECLARED);
-        }
-        if !self.model_is_model(kind) {
-            return refuse(self, Refusal::WRONG_KIND);
-        }
-        if Signature::MAX_TYPES as u16 <= n {
-            return refuse(self, Refusal::NO_ROOM);
-        }
-        let mut next = self;
-        next.types = types.push(t);
-        Declaring {
-            answer: Declared::Number(n),
-            signature: next,
-        }
-    }
-
-    // Kind 2.
-    pub fn push_pred(self, started: bool, p: Pred) -> Declaring
-        ensures { λ r. ⌜ declared r ≡ pushPred started (sigOf self) (givenPred p) ⌝ }
-    {
-        let parents = p.parents;
-        let arity = p.arity;
-        let preds = self.preds;
-        let n = preds.size();
-        if parents.is_too_long() {
-            return refuse(self, Refusal::MALFORMED);
-        }
-        if arity.is_too_long() {
-            return refuse(self, Refusal::MALFORMED);
-        }
-        if started {
-            return refuse(self, Refusal::TOO_LATE);
-        }
-        if !self.are_types(parents) {
-            return refuse(self, Refusal::UNDECLARED);
-        }
-        if !self.are_types(arity) {
-            return refuse(self, Refusal::UNDECLARED);
-        }
-        if Signature::MAX_PREDS as u16 <= n {
-            return refuse(self, Refusal::NO_ROOM);
-        }
-        let mut next = self;
-        next.preds = preds.push(p);
-        Declaring {
-            answer: Declared::Number(n),
-            signature: next,
-        }
-    }
-
-    // Kind 3.
-    pub fn push_func(self, started: bool, f: Func) -> Declaring
-        ensures { λ r. ⌜ declared r ≡ pushFunc started (sigOf self) (givenFunc f) ⌝ }
-    {
-        let parents = f.parents;
-        let domain = f.domain;
-        let funcs = self.funcs;
-        let n = funcs.size();
-        if parents.is_too_long() {
-            return refuse(self, Refusal::MALFORMED);
-        }
-        if domain.is_too_long() {
-            return refuse(self, Refusal::MALFORMED);
-        }
-        if started {
-            return refuse(self, Refusal::TOO_LATE);
-        }
-        if !self.are_types(parents) {
-            return refuse(self, Refusal::UNDECLARED);
-        }
-        if !self.are_types(domain) {
-            return refuse(self, Refusal::UNDECLARED);
-        }
-        if !self.is_type(f.codomain) {
-            return refuse(self, Refusal::UNDECLARED);
-        }
-        if Signature::MAX_FUNCS as u16 <= n {
-            return refuse(self, Refusal::NO_ROOM);
-        }
-        let mut next = self;
-        next.funcs = funcs.push(f);
-        Declaring {
-            answer: Declared::Number(n),
-            signature: next,
-        }
-    }
-
-    // Whether every number that a model names is declared.
-    fn model_ids_are_declared(self, ids: ModelIds) -> bool
-        ensures { λ r. ⌜ r ≡ modelIdsDeclared (sigOf self) (modelOf ids) ⌝ }
-    {
-        if !self.is_type(ids.type_) {
-            return false;
-        }
-        if !self.is_type(ids.mor) {
-            return false;
-        }
-        if !self.is_func(ids.dom) {
-            return false;
-        }
-        if !self.is_func(ids.cod) {
-            return false;
-        }
-        if !self.is_func(ids.id) {
-            return false;
-        }
-        self.is_func(ids.comp)
-    }
-
-    // Kind 4.
-    pub fn push_model(self, started: bool, ids: ModelIds) -> Declaring
-        ensures { λ r. ⌜ declared r ≡ pushModel started (sigOf self) (modelOf ids) ⌝ }
-    {
-        let models = self.models;
-        let n = models.size();
-        if started {
-            return refuse(self, Refusal::TOO_LATE);
-        }
-        if !self.model_ids_are_declared(ids) {
-            return refuse(self, Refusal::UNDECLARED);
-        }
-        if !self.is_model(ids.type_) {
-            return refuse(self, Refusal::WRONG_KIND);
-        }
-        if !self.is_mor_of(ids.type_, ids.mor) {
-            return refuse(self, Refusal::WRONG_KIND);
-        }
-        if models.has_type(ids.type_) {
-            return refuse(self, Refusal::GIVEN_AGAIN);
-        }
-        if ids.repeats() {
-            return refuse(self, Refusal::GIVEN_AGAIN);
-        }
-        if self.any_is_given(ids) {
-            return refuse(self, Refusal::GIVEN_AGAIN);
-        }
-        if Signature::MAX_MODELS as u16 <= n {
-            return refuse(self, Refusal::NO_ROOM);
-        }
-        let mut next = self;
-        next.models = models.push(ids);
-        Declaring {
-            answer: Declared::Number(n),
-            signature: next,
-        }
-    }
-
-    // Kind 5.
-    pub fn push_mor_app_func(self, started: bool, m: MorAppFunc) -> Declaring
-        ensures { λ r. ⌜ declared r ≡ pushMorApp started (sigOf self) (morAppOf m) ⌝ }
-    {
-        let types = m.types;
-        let mor_app_funcs = self.mor_app_funcs;
-        let n = mor_app_funcs.size();
-        if started {
-            return refuse(self, Refusal::TOO_LATE);
-        }
-        if !self.is_func(m.func) {
-            return refuse(self, Refusal::UNDECLARED);
-        }
-        if !self.is_type(types.morphism_type) {
-            return refuse(self, Refusal::UNDECLARED);
-        }
-        if !self.is_type(types.member_type) {
-            return refuse(self, Refusal::UNDECLARED);
-        }
-        if !self.is_mor(types.morphism_type) {
-            return refuse(self, Refusal::WRONG_KIND);
-        }
-        if self.is_given(m.func) {
-            return refuse(self, Refusal::GIVEN_AGAIN);
-        }
-        if mor_app_funcs.has_types(types) {
-            return refuse(self, Refusal::GIVEN_AGAIN);
-        }
-        if Signature::MAX_MOR_APPS as u16 <= n {
-            return refuse(self, Refusal::NO_ROOM);
-        }
-        let mut next = self;
-        next.mor_app_funcs = mor_app_funcs.push(m);
-        Declaring {
-            answer: Declared::Number(n),
-            signature: next,
         }
     }
 }

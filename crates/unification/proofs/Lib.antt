@@ -3,3 +3,4 @@ pub mod Laws
 pub mod Arrays
 pub mod Theorems
 pub mod Examples
+pub mod Beside

@@ -1,0 +1,3 @@
+pub mod Laws
+pub mod Causes
+pub mod Theorems

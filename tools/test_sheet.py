@@ -1,0 +1,432 @@
+"""Tests of tools/sheet. Run: python3 tools/test_sheet.py"""
+
+import importlib.machinery
+import importlib.util
+import random
+import re
+import struct
+import subprocess
+import sys
+import tempfile
+import unittest
+from pathlib import Path
+
+TOOL = Path(__file__).resolve().parent / "sheet"
+SAMPLES = TOOL.parent.parent / "samples"
+
+sys.dont_write_bytecode = True
+loader = importlib.machinery.SourceFileLoader("sheet", str(TOOL))
+sheet = importlib.util.module_from_spec(importlib.util.spec_from_loader("sheet", loader))
+loader.exec_module(sheet)
+
+# Document 01's records, apart from the tool: for each kind the most that A and B
+# may be, the most parents, and the least and most arguments.
+ANY = 65535
+SHAPES = {1: (3, ANY, 4, 0, 0), 2: (0, 0, 4, 0, 4), 3: (0, ANY, 4, 0, 4),
+          4: (ANY, ANY, 0, 4, 4), 5: (ANY, 0, 0, 2, 2), 6: (1, 0, 0, 0, 0),
+          7: (ANY, ANY, 0, 0, 0), 8: (ANY, ANY, 4, 0, 0), 9: (ANY, ANY, 4, 0, 4),
+          10: (ANY, 0, 4, 0, 4), 11: (63, ANY, 0, 0, 0), 12: (ANY, ANY, 0, 0, 0),
+          13: (0, 0, 0, 0, 0), 14: (0, 0, 0, 0, 0)}
+
+# P2 of document 01, word by word.
+P2 = [
+    (1, 1, 1, 0, 0, 0, 0, 0, 0, 0, 0, 0, 0, 0, 0, 0),
+    (2, 1, 0, 0, 1, 0, 0, 0, 0, 0, 0, 0, 0, 0, 0, 0),
+    (3, 3, 0, 1, 1, 0, 0, 0, 0, 0, 0, 0, 0, 0, 0, 0),
+    (4, 6, 0, 0, 0, 0, 0, 0, 0, 0, 0, 0, 0, 0, 0, 0),
+    (5, 6, 0, 0, 0, 0, 0, 0, 0, 0, 0, 0, 0, 0, 0, 0),
+    (6, 6, 0, 0, 0, 0, 0, 0, 0, 0, 0, 0, 0, 0, 0, 0),
+    (7, 6, 0, 0, 0, 0, 0, 0, 0, 0, 0, 0, 0, 0, 0, 0),
+    (8, 9, 0, 2, 1, 0, 0, 0, 0, 0, 0, 0, 0, 0, 0, 0),
+    (9, 9, 0, 3, 1, 0, 1, 0, 0, 0, 0, 0, 0, 0, 0, 0),
+    (10, 7, 2, 3, 0, 0, 0, 0, 0, 0, 0, 0, 0, 0, 0, 0),
+    (11, 13, 0, 0, 0, 0, 0, 0, 0, 0, 0, 0, 0, 0, 0, 0),
+    (0, 14, 0, 0, 0, 0, 0, 0, 0, 0, 0, 0, 0, 0, 0, 0),
+]
+
+
+def pack(records):
+    return b"".join(struct.pack("<16H", *record) for record in records)
+
+
+def words_of(text):
+    """The records that a text gives, as tuples."""
+    return list(struct.iter_unpack("<16H", sheet.assemble(text)))
+
+
+def record(kind, a=0, b=0, parents=(), arguments=(), next_index=0):
+    def slots(entries):
+        return [*entries, 0, 0, 0, 0][:4]
+    return (next_index, kind, a, b, len(parents), len(arguments),
+            *slots(parents), *slots(arguments), 0, 0)
+
+
+def random_record(rng, kind, next_index, most=ANY):
+    """A well-formed record of a kind; its numbers are at most `most`."""
+    most_a, most_b, parents, least, arguments = SHAPES[kind]
+    a = rng.randint(0, min(most, most_a))
+    b = rng.randint(0, min(most, most_b)) if kind != 1 or a == 3 else 0
+    parents = [rng.randint(0, most) for _ in range(rng.randint(0, parents))]
+    arguments = [rng.randint(0, most) for _ in range(rng.randint(least, arguments))]
+    return record(kind, a, b, parents, arguments, next_index)
+
+
+def is_well_formed(words):
+    _, kind, a, b, parents, arguments = words[:6]
+    if kind not in SHAPES:
+        return False
+    most_a, most_b, most_parents, least, most = SHAPES[kind]
+    if kind == 1 and a != 3:
+        most_b = 0
+    return (a <= most_a and b <= most_b and parents <= most_parents
+            and least <= arguments <= most
+            and not any(words[6 + parents:10]) and not any(words[10 + arguments:]))
+
+
+class Assembling(unittest.TestCase):
+    def assert_record(self, line, *expected, **named):
+        """The line alone gives the record."""
+        self.assertEqual(words_of(line), [record(*expected, **named)])
+
+    def test_every_kind(self):
+        self.assert_record("type plain", 1)
+        self.assert_record("type T model", 1, 1)
+        self.assert_record("type T enum [5 6]", 1, 2, parents=[5, 6])
+        self.assert_record("type T mor 7 [1 2 3 4]", 1, 3, 7, [1, 2, 3, 4])
+        self.assert_record("predicate P [1] (2 3 4 5)", 2, 0, 0, [1], [2, 3, 4, 5])
+        self.assert_record("function F [1 2] (3) -> 4", 3, 0, 4, [1, 2], [3])
+        self.assert_record("model 1 2 (3 4 5 6)", 4, 1, 2, [], [3, 4, 5, 6])
+        self.assert_record("morphism-application 1 (2 3)", 5, 1, 0, [], [2, 3])
+        self.assert_record("element", 6)
+        self.assert_record("element drum marked", 6, 1)
+        self.assert_record("equal 1 2", 7, 1, 2)
+        self.assert_record("impose 1 2 [3 4]", 8, 1, 2, [3, 4])
+        self.assert_record("apply 1 [2] (3 4) = 5", 9, 1, 5, [2], [3, 4])
+        self.assert_record("holds 1 [2] (3)", 10, 1, 0, [2], [3])
+        self.assert_record("variable 63 65535", 11, 63, 65535)
+        self.assert_record("ambient 1 2", 12, 1, 2)
+        self.assert_record("close", 13)
+        self.assert_record("conflicts", 14)
+
+    def test_raw(self):
+        words = tuple(range(65520, 65536))
+        self.assertEqual(words_of("raw " + " ".join(map(str, words))), [words])
+
+    def test_lists_may_be_left_out_and_have_commas(self):
+        self.assert_record("apply 1 = 5", 9, 1, 5)
+        self.assert_record("apply 1 [] () = 5", 9, 1, 5)
+        self.assert_record("apply 1 [2,3](4, 5)=6", 9, 1, 6, [2, 3], [4, 5])
+        self.assert_record("function (1) -> 2", 3, 0, 2, [], [1])
+        self.assert_record("function F->2", 3, 0, 2)
+
+    def test_comments_and_empty_lines(self):
+        self.assertEqual(words_of("# a story\n\n  close # and more\r\n\t\n"), [record(13)])
+
+    def test_empty_text_is_the_empty_sheet(self):
+        self.assertEqual(sheet.assemble("# nothing\n"), b"")
+
+    def test_chain(self):
+        records = words_of("close\nclose\nclose")
+        self.assertEqual([words[0] for words in records], [1, 2, 0])
+        records = words_of("close next 2\nclose next 0\nelement next 1\nelement e marked next 9")
+        self.assertEqual([words[0] for words in records], [2, 0, 1, 9])
+
+    def test_names_of_each_sort(self):
+        records = words_of("type x model\ntype y mor x [x]\npredicate x [y]\n"
+                           "function x (y) -> x\nfunction y -> y\nelement x\nelement y\n"
+                           "model x y (x y x y)\nmorphism-application y (y x)\n"
+                           "equal x y\nimpose y x [x y]\napply y [x] (y) = x\n"
+                           "holds x [y] (x)\nvariable 3 y\nambient x y")
+        expected = [record(1, 1), record(1, 3, 0, [0]), record(2, parents=[1]),
+                    record(3, 0, 0, [], [1]), record(3, 0, 1), record(6), record(6),
+                    record(4, 0, 1, [], [0, 1, 0, 1]), record(5, 1, 0, [], [1, 0]),
+                    record(7, 0, 1), record(8, 1, 0, [0, 1]), record(9, 1, 0, [0], [1]),
+                    record(10, 0, 0, [1], [0]), record(11, 3, 1), record(12, 0, 1)]
+        self.assertEqual([words[1:] for words in records], [words[1:] for words in expected])
+
+    def test_names_and_unnamed_records_share_numbers(self):
+        self.assertEqual(words_of("element\nelement drum\nelement\nelement box\nequal drum box")[4],
+                         record(7, 1, 3))
+
+    def test_letters_of_names(self):
+        self.assertEqual(words_of("element\nelement Kupplung-3_ä\nequal Kupplung-3_ä 0")[2],
+                         record(7, 1, 0))
+
+    def test_raw_records_count(self):
+        """A well-formed raw element has a number, a malformed one has none."""
+        good = "raw 1 6 1" + " 0" * 13
+        bad = "raw 1 6 2" + " 0" * 13
+        self.assertEqual(words_of(good + "\nelement x\nequal x x")[2], record(7, 1, 1))
+        self.assertEqual(words_of(bad + "\nelement x\nequal x x")[2], record(7, 0, 0))
+
+    def test_numbers_follow_the_chain(self):
+        records = words_of("element a next 2\nelement b next 3\nelement c next 1\nequal b c")
+        self.assertEqual(records[3], record(7, 2, 1))
+        # A long chain: 0, 99, 98 and so on to 1.
+        lines = [f"element e{index} next {index - 1}" for index in range(100)]
+        lines[0], lines[1] = "element e0 next 99", "equal e99 e2 next 0"
+        self.assertEqual(words_of("\n".join(lines))[1], record(7, 1, 98))
+
+    def test_records_outside_the_chain_come_after_it(self):
+        records = words_of("element a next 2\nelement b\nelement c next 0\nequal b c")
+        self.assertEqual(records[3], record(7, 2, 1))
+
+    def test_p2(self):
+        text = ("type Box model\ntype Drum plain [Box]\nfunction drum-of [Box] -> Drum\n"
+                "element a\nelement b\nelement x\nelement y\napply drum-of [a] = x\n"
+                "apply drum-of [b] = y\nequal x y\nclose\nconflicts\n")
+        self.assertEqual(sheet.assemble(text), pack(P2))
+
+
+class Errors(unittest.TestCase):
+    CASES = [
+        ("close\n\nclsoe", "line 3: 'clsoe' is not a kind of record"),
+        ("element drum\n# drums\nequal drum drumm", "line 3: 'drumm' is not declared as an element"),
+        ("type T plain [Box]", "line 1: 'Box' is not declared as a type"),
+        ("holds worn", "line 1: 'worn' is not declared as a predicate"),
+        ("apply f = 1", "line 1: 'f' is not declared as a function"),
+        ("element Box\ntype T plain [Box]", "line 2: 'Box' is not declared as a type"),
+        ("equal a 0\nelement a", "line 1: 'a' is declared as an element on line 2,"
+                                   " which is not earlier in the chain"),
+        ("type T plain [T]", "line 1: 'T' is declared as a type on line 1,"
+                             " which is not earlier in the chain"),
+        ("element a next 2\nelement b next 0\nequal a b next 1",
+         "line 3: 'b' is declared as an element on line 2, which is not earlier in the chain"),
+        ("element a\nclose\nelement a", "line 3: 'a' is already declared as an element on line 1"),
+        ("type Box modle", "line 1: 'modle' is not a kind of type (plain, model, enum or mor)"),
+        ("type Box", "line 1: the line ends after 'Box',"
+                     " a kind of type (plain, model, enum or mor) is missing"),
+        ("type M mor", "line 1: the line ends after 'mor', a type is missing"),
+        ("holds", "line 1: the line ends after 'holds', a predicate is missing"),
+        ("apply", "line 1: the line ends after 'apply', a function is missing"),
+        ("close\nequal 3", "line 2: the line ends after '3', an element is missing"),
+        ("close next", "line 1: the line ends after 'next', a number is missing"),
+        ("variable", "line 1: the line ends after 'variable', a key is missing"),
+        ("function f (1", "line 1: the line ends after '1', ')' is missing"),
+        ("impose 1 2 [1 2 3 4", "line 1: the line ends after '4', ']' is missing"),
+        ("function f (1)", "line 1: the line ends after ')', '->' is missing"),
+        ("apply 0 (1)", "line 1: the line ends after ')', '=' is missing"),
+        ("function f (1) = 2", "line 1: '=' stands where '->' is expected"),
+        ("apply 0 (1) [2] = 3", "line 1: '[' stands where '=' is expected"),
+        ("equal ( 1", "line 1: '(' stands where an element is expected"),
+        ("impose 0 1 [2)", "line 1: ')' stands where an element is expected"),
+        ("holds 0 [1 2 3 4 5]", "line 1: '5' is one too many in a list of at most four"),
+        ("element drum maked", "line 1: 'maked' is not expected here"),
+        ("close now", "line 1: 'now' is not expected here"),
+        ("close next 1 2", "line 1: '2' is not expected here"),
+        ("element 3", "line 1: '3' is not a name"),
+        ("element 3rd", "line 1: '3rd' is not a name"),
+        ("equal 65536 0", "line 1: '65536' is not a number from 0 to 65535"),
+        ("equal 0 " + "9" * 5000, f"line 1: '{'9' * 5000}' is not a number from 0 to 65535"),
+        ("equal 3rd 0", "line 1: '3rd' is not a number from 0 to 65535"),
+        ("close next x", "line 1: 'x' is not a number from 0 to 65535"),
+        ("variable 64 0", "line 1: '64' is not a key from 0 to 63"),
+        ("variable k 0", "line 1: 'k' is not a key from 0 to 63"),
+        ("model 0 1 (0 1 2)", "line 1: 'model' takes 4 arguments, 3 given"),
+        ("model 0 1", "line 1: 'model' takes 4 arguments, 0 given"),
+        ("morphism-application 0 (1 2 3)",
+         "line 1: 'morphism-application' takes 2 arguments, 3 given"),
+        ("raw 1 2 3", "line 1: 'raw' takes 16 numbers, 3 given"),
+        ("raw" + " 0" * 16 + " next 1", "line 1: 'raw' takes 16 numbers, 18 given"),
+        ("raw" + " 0" * 15 + " x", "line 1: 'x' is not a number from 0 to 65535"),
+    ]
+
+    def test_messages(self):
+        for text, message in self.CASES:
+            with self.subTest(text=text[:60]):
+                with self.assertRaises(sheet.SheetError) as caught:
+                    sheet.assemble(text)
+                self.assertEqual(str(caught.exception), message)
+
+    def test_reserved_words_are_not_names(self):
+        for word in ("plain", "model", "enum", "mor", "marked", "next"):
+            with self.subTest(word=word):
+                with self.assertRaises(sheet.SheetError) as caught:
+                    sheet.assemble(f"element\nequal 0 {word}")
+                self.assertEqual(str(caught.exception),
+                                 f"line 2: '{word}' is not declared as an element")
+
+    def test_a_number_that_fits_no_word(self):
+        elements = "element\n" * 65536 + "element last\nelement\n"
+        with self.assertRaises(sheet.SheetError) as caught:
+            sheet.assemble(elements + "equal last 0 next 0")
+        self.assertEqual(str(caught.exception), "line 65539: 'last' has a number over 65535")
+
+    def test_lengths(self):
+        for length in (1, 31, 33, 63):
+            with self.subTest(length=length):
+                with self.assertRaises(sheet.SheetError) as caught:
+                    sheet.disassemble(bytes(length))
+                self.assertEqual(str(caught.exception),
+                                 f"the sheet has {length} bytes, not a multiple of 32")
+
+
+class RoundTrips(unittest.TestCase):
+    def assert_round_trip(self, data):
+        text = sheet.disassemble(data)
+        self.assertEqual(sheet.assemble(text), data, text)
+        lines = text.splitlines()
+        self.assertEqual(len(lines), len(data) // 32)
+        for line, words in zip(lines, struct.iter_unpack("<16H", data)):
+            self.assertEqual(not line.startswith("raw "), is_well_formed(words), line)
+
+    def test_every_kind(self):
+        rng = random.Random(1)
+        for kind in SHAPES:
+            for most in (0, 3, ANY):
+                for _ in range(50):
+                    self.assert_round_trip(pack([random_record(rng, kind, 0, most)]))
+
+    def test_random_records(self):
+        """Small numbers, so that many are declared; a part of the chains is broken."""
+        rng = random.Random(2)
+        for _ in range(300):
+            size = rng.randint(1, 40)
+            kinds = [rng.choice([1, 2, 3, 6, 6, *SHAPES]) for _ in range(size)]
+            nexts = list(range(1, size)) + [0]
+            if rng.random() < 0.5:
+                for _ in range(rng.randint(1, size)):
+                    nexts[rng.randrange(size)] = rng.randint(0, size)
+            self.assert_round_trip(pack(random_record(rng, kind, at, 5)
+                                        for kind, at in zip(kinds, nexts)))
+
+    def test_shuffled_chains(self):
+        rng = random.Random(3)
+        for _ in range(100):
+            order = [0, *rng.sample(range(1, 20), 19)]
+            following = dict(zip(order, order[1:] + [0]))
+            self.assert_round_trip(pack(random_record(rng, rng.choice([1, 2, 3, 6, 7, 9]),
+                                                      following[index], 8)
+                                        for index in range(20)))
+
+    def test_one_word_changed(self):
+        """Each word of each kind set to telling values: well formed or raw."""
+        rng = random.Random(4)
+        for kind in SHAPES:
+            for place in range(16):
+                for value in (0, 1, 2, 3, 4, 5, 15, 63, 64, 65535):
+                    words = list(random_record(rng, kind, 0, 2))
+                    words[place] = value
+                    self.assert_round_trip(pack([words]))
+
+    def test_random_bytes(self):
+        rng = random.Random(5)
+        for size in (0, 1, 2, 3, 10, 100, 1024, 1025):
+            self.assert_round_trip(rng.randbytes(32 * size))
+
+    def test_more_records_than_a_next_index_reaches(self):
+        self.assert_round_trip(sheet.assemble("close\n" * 65538))
+
+    def test_text_of_p2(self):
+        lines = [line.split("#")[0].rstrip() for line in sheet.disassemble(pack(P2)).splitlines()]
+        self.assertEqual(lines, [
+            "type t0 model", "type t1 plain [t0]", "function f0 [t0] -> t1",
+            "element e0", "element e1", "element e2", "element e3",
+            "apply f0 [e0] = e2", "apply f0 [e1] = e3", "equal e2 e3", "close", "conflicts"])
+
+    def test_text_of_what_is_not_plain(self):
+        """An undeclared number, a chain that skips and a malformed record."""
+        data = pack([record(6, 1, next_index=2), record(7, 0, 1),
+                     record(12, 4, 0, next_index=3), record(15)])
+        self.assertEqual(sheet.disassemble(data),
+                         "element e0 marked next 2                # 0\n"
+                         "equal e0 1 next 0                       # 1\n"
+                         "ambient 4 e0                            # 2\n"
+                         "raw 0 15 0 0 0 0 0 0 0 0 0 0 0 0 0 0    # 3\n")
+
+
+class Samples(unittest.TestCase):
+    def test_each_text_gives_its_sheet_and_back(self):
+        names = sorted(path.stem for path in SAMPLES.glob("*.txt"))
+        for wanted in ("p1", "p2", "p5", "two-names", "unnamed-box", "refused-element"):
+            self.assertIn(wanted, names)
+        self.assertEqual(names, sorted(path.stem for path in SAMPLES.glob("*.sheet")))
+        self.assertEqual(names, sorted(path.stem for path in SAMPLES.glob("*.out")))
+        for name in names:
+            with self.subTest(name=name):
+                data = (SAMPLES / f"{name}.sheet").read_bytes()
+                text = (SAMPLES / f"{name}.txt").read_text(encoding="utf-8")
+                self.assertEqual(sheet.assemble(text), data)
+                self.assertEqual(sheet.assemble(sheet.disassemble(data)), data)
+
+    def test_p2_is_that_of_document_01(self):
+        self.assertEqual((SAMPLES / "p2.sheet").read_bytes(), pack(P2))
+        self.assertEqual((SAMPLES / "p2.out").read_text(),
+                         "close 1 1 2\nconflict 2 1 0 / 1 1\nconflicts 1\nend 12\n")
+
+    def test_closes_of_p1_and_p5_are_those_of_document_01(self):
+        self.assertEqual((SAMPLES / "p1.out").read_text(), "close 0 0 1\nend 1\n")
+        self.assertEqual((SAMPLES / "p5.out").read_text(),
+                         "close 1 1 2\nclose 1 1 3\nclose 0 0 1\nend 15\n")
+
+
+class Commands(unittest.TestCase):
+    def run_tool(self, *words, data=b""):
+        done = subprocess.run([sys.executable, str(TOOL), *words], input=data,
+                              capture_output=True, check=False)
+        return done.returncode, done.stdout, done.stderr.decode()
+
+    def test_standard_input_and_output(self):
+        self.assertEqual(self.run_tool("assemble", "-", data=b"close\n"),
+                         (0, pack([record(13)]), ""))
+        self.assertEqual(self.run_tool("disassemble", "-", data=pack([record(13)])),
+                         (0, f"{'close':<39} # 0\n".encode(), ""))
+
+    def test_files(self):
+        with tempfile.TemporaryDirectory() as folder:
+            text, binary = Path(folder, "a.txt"), Path(folder, "a.sheet")
+            text.write_text("\ufeffelement drum\r\nclose\r\n", encoding="utf-8", newline="")
+            self.assertEqual(self.run_tool("assemble", str(text), "-o", str(binary)), (0, b"", ""))
+            self.assertEqual(binary.read_bytes(), pack([record(6, next_index=1), record(13)]))
+            code, out, _ = self.run_tool("disassemble", str(binary))
+            self.assertEqual((code, len(out.splitlines())), (0, 2))
+
+    def test_errors_print_nothing_and_write_nothing(self):
+        with tempfile.TemporaryDirectory() as folder:
+            target = Path(folder, "out")
+            target.write_bytes(b"before")
+            for words, data, message in [
+                    (("assemble",), b"close\nequal 0 drumm\n",
+                     "line 2: 'drumm' is not declared as an element\n"),
+                    (("assemble",), b"close\nelement \xff\n", "line 2: byte 255 is not UTF-8 text\n"),
+                    (("disassemble",), b"\0" * 33,
+                     "the sheet has 33 bytes, not a multiple of 32\n")]:
+                with self.subTest(message=message):
+                    self.assertEqual(self.run_tool(*words, "-", data=data), (1, b"", message))
+                    self.assertEqual(self.run_tool(*words, "-", "-o", str(target), data=data),
+                                     (1, b"", message))
+                    self.assertEqual(target.read_bytes(), b"before")
+
+    def test_files_that_cannot_be_opened(self):
+        with tempfile.TemporaryDirectory() as folder:
+            missing = str(Path(folder, "missing"))
+            expected = (1, b"", f"{missing}: No such file or directory\n")
+            self.assertEqual(self.run_tool("assemble", missing), expected)
+            nowhere = str(Path(missing, "out"))
+            self.assertEqual(self.run_tool("assemble", "-", "-o", nowhere),
+                             (1, b"", f"{nowhere}: No such file or directory\n"))
+
+    def test_wrong_usage(self):
+        for words in ((), ("assemble",), ("translate", "-"), ("assemble", "-", "--fast")):
+            with self.subTest(words=words):
+                code, out, message = self.run_tool(*words)
+                self.assertEqual((code, out), (1, b""))
+                self.assertIn("usage: sheet", message)
+
+    def test_help_names_every_kind(self):
+        code, out, message = self.run_tool("--help")
+        self.assertEqual((code, message), (0, ""))
+        for word in [word for word, _ in sheet.KINDS.values()] + ["raw", "next N", "--output"]:
+            self.assertIn(word, out.decode())
+
+    def test_readme_gives_the_lines_of_the_help(self):
+        readme = (TOOL.parent / "README.md").read_text(encoding="utf-8")
+        rows = re.findall(r"^\| (\w+) \| `([^`]+)`", readme, re.MULTILINE)
+        kinds = sorted({int(kind) for kind, _ in rows if kind != "any"})
+        self.assertEqual(kinds, list(SHAPES))
+        for kind, line in rows:
+            self.assertIn(f"\n  {kind:<5} {line}", sheet.__doc__)
+
+
+if __name__ == "__main__":
+    unittest.main()
