@@ -75,11 +75,19 @@ pub from : {before next : Core} {r : Worked} {most : ℕ} {g f : types.Core → 
     → Passes next r most f → Passes before r most (λ w. f (g w))
 from {f = f} e p = counts-as p (λ m a. ap f (e m a))
 
+-- a pass that is done, as the first of a larger one
+pub first : {before : Core} {r : Worked} {most : ℕ} {f then whole : types.Core → types.Core} → Passes before r most f
+    → ((w : types.Core) → then (f w) ≡ whole w) → Toward before (r .core) (r .merges) (r .added) most then whole
+first {before} {then = then} p e = record {
+  is = λ m a. ap then (p .is m a) ∙ e (coreOf before m a);
+  merges-most = p .merges-most;
+  added-most = p .added-most;
+}
+
 -- one pass after another
 pub follows : {before : Core} {r : Worked} (s : Worked) {most more : ℕ} {f g : types.Core → types.Core} → Passes before r most f → Passes (r .core) s more g
     → Toward before (s .core) (r .merges + s .merges) (r .added + s .added) (most + more) (λ w. w) (λ w. g (f w))
-follows {r = r} s {g = g} p q =
-    takes record { is = λ m a. ap g (p .is m a); merges-most = p .merges-most; added-most = p .added-most } s q (λ w. refl)
+follows s p q = takes (first p (λ w. refl)) s q (λ w. refl)
 
 -- The turns of a loop, each of which counts at most `per`.
 module _ {before now : Core} {merges added : ℕ} (per : ℕ) {rest whole : types.Core → types.Core} (i : ℕ)

@@ -4,6 +4,7 @@ pub mod Cases
 pub mod Counts
 pub mod Links
 pub mod Outcomes
+pub mod Imposed
 pub mod Queues
 pub mod Parts
 pub mod Pairs
