@@ -1,4 +1,4 @@
--- Laws of the queue of pairs, of which the last stands first.
+-- Laws of the queue of pairs, of which the last stands first, and of equalities.
 use mathlib.Core.Path.{_≡_, refl, sym, ap, _∙_}
 use mathlib.Core.List.{List, [], _∷_, _++_, map, reverse, reverse-append}
 use Prim.Native.Nat.{ℕ, _+_, _≤_, _<_}
@@ -10,6 +10,7 @@ use borrow.Author.Tests.{lt-ltb, le-ltb}
 use Rattle.ids.specs.Table.{Sized}
 use Rattle.ids.proofs.Views.{length-view, view-pushed}
 use Rattle.unification.specs.Roots.{rootOf, shortOf, FindM, ShortM, findOf, shortenedOf}
+use Rattle.unification.proofs.Laws.{short-length}
 use Rattle.semantics.specs.Structure as model
 use Rattle.semantics.specs.Structure.{maxPairs}
 use Rattle.semantics.specs.Calls as calls
@@ -44,3 +45,13 @@ unfolding equateIn calls.equate shortenedOf findOf
 equated ls ps qs a b {f} {s} first second queued =
     let then : s ≡ shortenedOf (shortOf ls a) b = second ∙ ap (λ (l : List ℕ). shortenedOf l b) (ap (λ (r : ShortM). r .links) first) in
     λ i. record { links = then i .links; pairs = queued i; differ = not (eqb (first i .find .root) (then i .find .root)) }
+
+-- where the queue has room
+pub equate-room : (ls : List ℕ) (ps : List model.Pair) (a b : ℕ) → length ps < maxPairs → equateIn ls ps a b ≡ calls.equate ls ps a b
+unfolding equateIn calls.equate queuedOf
+equate-room ls ps a b h = rw (lt-ltb (length ps) maxPairs h, queuedOf)
+
+-- there are as many links afterwards
+pub equate-length : (ls : List ℕ) (ps : List model.Pair) (a b : ℕ) → length (calls.equate ls ps a b .links) ≡ length ls
+unfolding calls.equate
+equate-length ls ps a b = short-length (shortOf ls a) b ∙ short-length ls a

@@ -26,9 +26,14 @@ module _ {A S : Type 0} (before after : S) (value : A) (n : ℕ) (b : Bool) (cs 
   outcome-passes h = passes _ _ n b cs h
 
 -- no cause is left
+
+pub none-left : {R : Type 0} (refuse : ℕ → R) (done : R) → decided [] refuse done ≡ done
+unfolding decided
+none-left refuse done = refl
+
 pub outcome-done : {A S : Type 0} (before after : S) (value : A) → outcome [] before value after ≡ record { answer = accepted value; left = after }
-unfolding outcome decided
-outcome-done before after value = refl
+unfolding outcome
+outcome-done before after value = none-left _ _
 
 -- A test that joins several: what decides it.
 

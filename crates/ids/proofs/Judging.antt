@@ -8,7 +8,20 @@ use lib.ListN.{length, getD}
 use Rattle.ids.specs.Answers.{Cause, decided, accepted, refused, Outcome, outcome, _if_}
 use Rattle.ids.proofs.Answers.{outcome-refuses, outcome-passes, outcome-done}
 
--- Causes that a call judges one after the other.
+-- How a call's causes come out, one after the other: the first applies, or it is passed, or none is left.
+pub data Verdict {A S : Type 0} (before after : S) (value : A) (o : Outcome A S) : List Cause → Type 0 where
+  stops : {n : ℕ} {b : Bool} {cs : List Cause} → b ≡ true → o ≡ record { answer = refused n; left = before }
+      → Verdict before after value o (n if b ∷ cs)
+  on : {n : ℕ} {b : Bool} {cs : List Cause} → b ≡ false → Verdict before after value o cs → Verdict before after value o (n if b ∷ cs)
+  ends : o ≡ record { answer = accepted value; left = after } → Verdict before after value o []
+
+pub judged : {A S : Type 0} {before after : S} {value : A} {o : Outcome A S} {cs : List Cause} → Verdict before after value o cs
+    → o ≡ outcome cs before value after
+judged {before = s} {after = t} {value = v} (stops {n} {b} {cs} h e) = e ∙ sym (outcome-refuses s t v n b cs h)
+judged {before = s} {after = t} {value = v} (on {n} {b} {cs} h r) = judged r ∙ sym (outcome-passes s t v n b cs h)
+judged {before = s} {after = t} {value = v} (ends e) = e ∙ sym (outcome-done s t v)
+
+-- The same by the number of causes that are passed: the proofs of `signature` cite this.
 
 abbrev pub causeAt : ℕ → List Cause → Cause
 causeAt k cs = getD cs k (0 if false)
@@ -50,14 +63,14 @@ module _ {A S : Type 0} (before after : S) (value : A) where
   accepted-past [] p = outcome-done before after value
   accepted-past (c ∷ cs) p = outcome-passes before after value (c .number) (c .applies) cs (p .0) ∙ accepted-past cs (p .1)
 
-module _ {A S : Type 0} {o : Outcome A S} {cs : List Cause} {before after : S} {value : A} (judged : Judged o cs before after value) where
+module _ {A S : Type 0} {o : Outcome A S} {cs : List Cause} {before after : S} {value : A} (j : Judged o cs before after value) where
   -- the first that applies refuses
   pub judged-refuses : {k : ℕ} → Passed k cs → causeAt k cs .applies ≡ true → record { answer = refused (causeAt k cs .number); left = before } ≡ o
-  judged-refuses {k} p e = sym (judged .is ∙ refused-at before after value k cs (p .none) e)
+  judged-refuses {k} p e = sym (j .is ∙ refused-at before after value k cs (p .none) e)
 
   -- where none applies the call is accepted
   pub judged-accepts : Passed (length cs) cs → record { answer = accepted value; left = after } ≡ o
-  judged-accepts p = sym (judged .is ∙ accepted-past before after value cs (p .none))
+  judged-accepts p = sym (j .is ∙ accepted-past before after value cs (p .none))
 
 -- Causes that are judged alike: one that joins two tests is judged as two of one number.
 pub record Alike {A S : Type 0} (before after : S) (value : A) (cs ds : List Cause) : Type 0 where

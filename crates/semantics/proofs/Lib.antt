@@ -5,6 +5,7 @@ pub mod Counts
 pub mod Links
 pub mod Outcomes
 pub mod Imposed
+pub mod Finds
 pub mod Queues
 pub mod Parts
 pub mod Pairs

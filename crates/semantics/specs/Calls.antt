@@ -189,6 +189,14 @@ ambientParents g s ts =
     decided (malformed if tooLong ts ∷ undeclared if not (areTypes g ts) ∷ noAmbient if not (haveAmbients ts (s .ambients)) ∷ [])
     (λ n. refused n) (accepted (ambientEls ts (s .ambients)))
 
+-- The finds, which leave the structure with the links that they leave.
+
+unfoldable pub rootOn : Structure → ℕ → Outcome FindM Structure
+rootOn s e = record { answer = roots.root (s .links) e .answer; left = with-links (roots.root (s .links) e .left) s }
+
+unfoldable pub rootConstOn : Structure → ℕ → Outcome FindM Structure
+rootConstOn s e = record { answer = roots.rootConst (s .links) e .answer; left = with-links (roots.rootConst (s .links) e .left) s }
+
 -- The calls as one.
 
 pub data Call : Type 0 where

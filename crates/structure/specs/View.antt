@@ -1,16 +1,13 @@
--- The code's structure, its arguments and its answers as the definitions speak of them.
+-- The code's structure and its answers as the definitions speak of them.
 use Prim.Native.Nat.{ℕ}
 use mathlib.Core.Bool.{Bool}
 use mathlib.Core.List.{List}
 use lib.ListN.{take}
 use Rattle.ids.specs.Answers.{Answered, accepted, refused, Outcome}
-use Rattle.ids.specs.Ids.{elsOf, givenEls}
+use Rattle.ids.specs.Ids.{givenEls}
 use Rattle.unification.specs.Roots.{linksOf, FindM, answered}
 use Rattle.semantics.specs.Structure as model
-use Rattle.facts.specs.declared.Fact.{Fact}
 use Rattle.facts.specs.View.{factsOf, impositionsOf}
-use Rattle.apps.specs.declared.FuncApp.{FuncApp}
-use Rattle.apps.specs.declared.PredApp.{PredApp}
 use Rattle.apps.specs.View.{funcAppsOf, predAppsOf}
 use Rattle.bindings.specs.View.{varsOf, ambientsOf}
 use Rattle.equalities.specs.View.{pairsOf}
@@ -44,17 +41,6 @@ structureOf s = record {
   settled = s .settled;
 }
 
--- What is given to a call: a list of over four entries is seen as such.
-
-abbrev pub givenFact : Fact → model.Fact
-givenFact f = record { el = f .el .0; typ = f .ct .typ .0; parents = givenEls (f .ct .parents) }
-
-abbrev pub givenFuncApp : FuncApp → model.FuncApp
-givenFuncApp x = record { func = x .func .0; parents = givenEls (x .parents); args = givenEls (x .args); result = x .result .0 }
-
-abbrev pub givenPredApp : PredApp → model.PredApp
-givenPredApp x = record { pred = x .pred .0; parents = givenEls (x .parents); args = givenEls (x .args) }
-
 -- What a call answers.
 
 abbrev pub numberedOf : Numbered → Answered ℕ
@@ -82,9 +68,9 @@ abbrev pub lookedOf : List ℕ → Looked → Answered (List ℕ)
 lookedOf es looked.Found = accepted es
 lookedOf es (looked.Refused n) = refused n
 
--- the elements stand beside the answer
+-- the elements stand beside the answer, as many as their length says
 abbrev pub parentsOf : AmbientParents → Answered (List ℕ)
-parentsOf r = lookedOf (elsOf (r .els)) (r .answer)
+parentsOf r = lookedOf (givenEls (r .els)) (r .answer)
 
-abbrev pub rootingOf : Rooting → Outcome FindM (List ℕ)
-rootingOf r = record { answer = answered (r .find); left = linksOf (r .structure .unification) }
+abbrev pub rootingOf : Rooting → Outcome FindM model.Structure
+rootingOf r = record { answer = answered (r .find); left = structureOf (r .structure) }

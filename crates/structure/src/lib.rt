@@ -1,40 +1,31 @@
-// The structure (structure.rs): its tables, and the calls of kinds 6 to 12 with the finds and the ambient lookup.
-use apps::FuncApp;
+// The structure (structure.rs): its tables, and the calls of kinds 6, 7, 11 and 12 with the finds and the ambient lookup.
+// Kinds 8, 9 and 10 stand in crate inserting.
 use apps::FuncApps;
-use apps::PredApp;
 use apps::PredApps;
-use apps::Stored;
 use bindings::AmbientEl;
 use bindings::AmbientEls;
 use bindings::Bound;
 use bindings::VarEl;
 use bindings::VarEls;
 use equalities::Pairs;
-use facts::Fact;
 use facts::Facts;
 use facts::Impositions;
 use ids::ElId;
 use ids::ElIds;
-use ids::FuncId;
-use ids::PredId;
 use ids::Refusal;
 use ids::TypeIds;
-use signature::Models;
 use signature::Signature;
 use unification::Finding;
 use unification::Unification;
 ghost use mathlib.Core.Path.{_≡_};
-ghost use mathlib.Core.Bool.{_&&_};
 ghost use Rattle.ids.specs.Answers.{refused, Outcome};
 ghost use Rattle.ids.specs.Ids.{elsOf, givenTypes};
-ghost use Rattle.unification.specs.Roots as roots;
-ghost use Rattle.unification.specs.Roots.{linksOf, answered};
-ghost use Rattle.signature.specs.Model.{sigOf, viewModels};
-ghost use Rattle.signature.specs.Calls.{isFunc};
-ghost use Rattle.semantics.specs.Structure.{empty, accept, with-links};
-ghost use Rattle.semantics.specs.Calls.{isEl, areEls, isPred, isIdOrComp, isReserved, pushEl, equateEls, imposeType, applyFunc, applyPred, bindVar, bindAmbient, ambientParents};
+ghost use Rattle.unification.specs.Roots.{answered};
+ghost use Rattle.signature.specs.Model.{sigOf};
+ghost use Rattle.semantics.specs.Structure.{empty, accept};
+ghost use Rattle.semantics.specs.Calls.{isEl, areEls, pushEl, equateEls, bindVar, bindAmbient, ambientParents, rootOn, rootConstOn};
 ghost use Rattle.bindings.specs.View.{varOf, ambientOf};
-ghost use Rattle.structure.specs.View.{structureOf, givenFact, givenFuncApp, givenPredApp, numberingOf, sayingOf, doingOf, parentsOf, rootingOf};
+ghost use Rattle.structure.specs.View.{structureOf, numberingOf, sayingOf, doingOf, parentsOf, rootingOf};
 
 pub struct Structure {
     pub els: Facts,
@@ -107,7 +98,7 @@ fn refuse_number(structure: Structure, number: u16) -> Numbering
     }
 }
 
-fn refuse_answer(structure: Structure, number: u16) -> Saying
+pub fn refuse_answer(structure: Structure, number: u16) -> Saying
     ensures { λ r. ⌜ sayingOf r ≡ record { answer = refused number; left = structureOf structure } ⌝ }
 {
     Saying {
@@ -174,7 +165,7 @@ impl Structure {
         self.settled
     }
 
-    fn is_el(self, el: ElId) -> bool
+    pub fn is_el(self, el: ElId) -> bool
         ensures { λ r. ⌜ r ≡ isEl (structureOf self) (el .0) ⌝ }
     {
         let u = self.unification;
@@ -182,7 +173,7 @@ impl Structure {
         at < u.size()
     }
 
-    fn are_els(self, els: ElIds) -> bool
+    pub fn are_els(self, els: ElIds) -> bool
         ensures { λ r. ⌜ r ≡ areEls (structureOf self) (elsOf els) ⌝ }
     {
         let u = self.unification;
@@ -233,159 +224,6 @@ impl Structure {
         Saying {
             answer: Said::Answer(equated.differ),
             structure: next.accept(settled),
-        }
-    }
-
-    // Kind 8: a fact is queued, as roots, to be imposed.
-    pub fn impose_type(self, signature: Signature, fact: Fact) -> Saying
-        ensures { λ r. ⌜ sayingOf r ≡ imposeType (sigOf signature) (structureOf self) (givenFact fact) ⌝ }
-    {
-        let parents = fact.ct.parents;
-        if parents.is_too_long() {
-            return refuse_answer(self, Refusal::MALFORMED);
-        }
-        if !self.is_el(fact.el) {
-            return refuse_answer(self, Refusal::UNDECLARED);
-        }
-        if !signature.is_type(fact.ct.typ) {
-            return refuse_answer(self, Refusal::UNDECLARED);
-        }
-        if !self.are_els(parents) {
-            return refuse_answer(self, Refusal::UNDECLARED);
-        }
-        let settled = self.settled;
-        let queue = self.pending_type_impositions;
-        let entry = canonical::canonical_fact(self.unification, fact);
-        if queue.contains(entry) {
-            return Saying {
-                answer: Said::Answer(false),
-                structure: self.accept(settled),
-            };
-        }
-        if Structure::MAX_IMPOSITIONS <= queue.size() {
-            return refuse_answer(self, Refusal::NO_ROOM);
-        }
-        let mut next = self;
-        next.pending_type_impositions = queue.push(entry);
-        Saying {
-            answer: Said::Answer(true),
-            structure: next.accept(settled),
-        }
-    }
-
-    // Kind 10: a predicate application, as given.
-    pub fn insert_pred_app(self, signature: Signature, app: PredApp) -> Saying
-        ensures { λ r. ⌜ sayingOf r ≡ applyPred (sigOf signature) (structureOf self) (givenPredApp app) ⌝ }
-    {
-        let parents = app.parents;
-        let args = app.args;
-        if parents.is_too_long() {
-            return refuse_answer(self, Refusal::MALFORMED);
-        }
-        if args.is_too_long() {
-            return refuse_answer(self, Refusal::MALFORMED);
-        }
-        if !is_pred(signature, app.pred) {
-            return refuse_answer(self, Refusal::UNDECLARED);
-        }
-        if !self.are_els(parents) {
-            return refuse_answer(self, Refusal::UNDECLARED);
-        }
-        if !self.are_els(args) {
-            return refuse_answer(self, Refusal::UNDECLARED);
-        }
-        let table = self.pred_apps;
-        let inserted = table.insert(app);
-        if inserted.full {
-            return refuse_answer(self, Refusal::NO_ROOM);
-        }
-        let pred_apps = inserted.pred_apps;
-        let mut next = self;
-        next.pred_apps = pred_apps;
-        let settled = self.settled;
-        Saying {
-            answer: Said::Answer(inserted.grew),
-            structure: next.accept(settled),
-        }
-    }
-
-    // Whether an application can be made of what is declared.
-    fn app_is_declared(self, signature: Signature, app: FuncApp) -> bool
-        ensures { λ r. ⌜ r ≡ (isFunc (sigOf signature) (app .func .0) && (areEls (structureOf self) (elsOf (app .parents)) && (areEls (structureOf self) (elsOf (app .args)) && isEl (structureOf self) (app .result .0)))) ⌝ }
-    {
-        let parents = app.parents;
-        let args = app.args;
-        if !signature.is_func(app.func) {
-            return false;
-        }
-        if !self.are_els(parents) {
-            return false;
-        }
-        if !self.are_els(args) {
-            return false;
-        }
-        self.is_el(app.result)
-    }
-
-    // Kind 9: a function application, or the equality of its result with the one that is stored.
-    pub fn insert_func_app_or_equate(self, signature: Signature, app: FuncApp) -> Saying
-        ensures { λ r. ⌜ sayingOf r ≡ applyFunc (sigOf signature) (structureOf self) (givenFuncApp app) ⌝ }
-    {
-        let parents = app.parents;
-        let args = app.args;
-        if parents.is_too_long() {
-            return refuse_answer(self, Refusal::MALFORMED);
-        }
-        if args.is_too_long() {
-            return refuse_answer(self, Refusal::MALFORMED);
-        }
-        if !self.app_is_declared(signature, app) {
-            return refuse_answer(self, Refusal::UNDECLARED);
-        }
-        if is_reserved(signature, app.func) {
-            return refuse_answer(self, Refusal::RESERVED);
-        }
-        let settled = self.settled;
-        let u = self.unification;
-        let pairs = self.pending_equalities;
-        let table = self.func_apps;
-        let entry = canonical::canonical_func_app(u, app);
-        let result = entry.result;
-        match table.get(entry) {
-            Stored::Nothing => {
-                let inserted = table.insert(entry);
-                if inserted.full {
-                    return refuse_answer(self, Refusal::NO_ROOM);
-                }
-                let func_apps = inserted.func_apps;
-                let mut next = self;
-                next.func_apps = func_apps;
-                Saying {
-                    answer: Said::Answer(true),
-                    structure: next.accept(settled),
-                }
-            }
-            Stored::Result(existing) => {
-                if existing.0 == result.0 {
-                    return Saying {
-                        answer: Said::Answer(false),
-                        structure: self.accept(settled),
-                    };
-                }
-                if Structure::MAX_PAIRS <= pairs.size() {
-                    return refuse_answer(self, Refusal::NO_ROOM);
-                }
-                let equated = equalities::equate(u, pairs, existing, result);
-                let unification = equated.unification;
-                let queued = equated.pairs;
-                let mut next = self;
-                next.unification = unification;
-                next.pending_equalities = queued;
-                Saying {
-                    answer: Said::Answer(equated.differ),
-                    structure: next.accept(settled),
-                }
-            }
         }
     }
 
@@ -477,7 +315,7 @@ impl Structure {
 
     // The public find that alters no link.
     pub fn root_const(self, el: ElId) -> Finding
-        ensures { λ r. ⌜ record { answer = answered r; left = linksOf (self .unification) } ≡ roots.rootConst (linksOf (self .unification)) (el .0) ⌝ }
+        ensures { λ r. ⌜ record { answer = answered r; left = structureOf self } ≡ rootConstOn (structureOf self) (el .0) ⌝ }
     {
         let u = self.unification;
         u.root_const(el)
@@ -485,8 +323,7 @@ impl Structure {
 
     // The public find that shortens the path.
     pub fn root(self, el: ElId) -> Rooting
-        ensures found { λ r. ⌜ rootingOf r ≡ roots.root (linksOf (self .unification)) (el .0) ⌝ }
-        ensures rest { λ r. ⌜ structureOf (r .structure) ≡ with-links (linksOf (r .structure .unification)) (structureOf self) ⌝ }
+        ensures { λ r. ⌜ rootingOf r ≡ rootOn (structureOf self) (el .0) ⌝ }
     {
         let u = self.unification;
         let rooted = u.root(el);
@@ -499,41 +336,4 @@ impl Structure {
             structure: next,
         }
     }
-}
-
-pub fn is_pred(signature: Signature, pred: PredId) -> bool
-    ensures { λ r. ⌜ r ≡ isPred (sigOf signature) (pred .0) ⌝ }
-{
-    let preds = signature.preds;
-    pred.0 < preds.size()
-}
-
-// Whether a model names this function as id or comp.
-fn is_id_or_comp(models: Models, func: FuncId) -> bool
-    ensures { λ r. ⌜ r ≡ isIdOrComp (func .0) (viewModels models) ⌝ }
-{
-    let n = models.size();
-    for i in 0..n {
-        let at = i as usize;
-        let ids = models.items[at];
-        if func.0 == ids.id.0 {
-            return true;
-        }
-        if func.0 == ids.comp.0 {
-            return true;
-        }
-    }
-    false
-}
-
-// Whether a function may not be applied: id, comp or a morphism application function.
-fn is_reserved(signature: Signature, func: FuncId) -> bool
-    ensures { λ r. ⌜ r ≡ isReserved (sigOf signature) (func .0) ⌝ }
-{
-    let models = signature.models;
-    if is_id_or_comp(models, func) {
-        return true;
-    }
-    let mor_app_funcs = signature.mor_app_funcs;
-    mor_app_funcs.has_func(func)
 }

@@ -8,18 +8,18 @@ use lib.ListN.{length, drop, getD, length-set}
 use Rattle.ids.specs.declared.TypeId.{TypeId}
 use Rattle.ids.specs.Answers.{Answered, accepted}
 use Rattle.ids.specs.Limits.{maxList}
-use Rattle.ids.specs.Ids.{elOf, elsOf, typeOf, typesOf, givenTypes, tooLong}
-use Rattle.ids.proofs.Answers.{refuses, passes, not-true, not-false}
+use Rattle.ids.specs.Ids.{elOf, elsOf, typeOf, typesOf, givenTypes}
+use Rattle.ids.proofs.Answers.{refuses, passes, not-true, not-false, none-left}
+use Rattle.ids.proofs.Lists.{given-view, HeldTypes, held-type-ids}
 use Rattle.ids.proofs.Views.{long, length-view, view-next, view-done}
 use Rattle.signature.specs.Model.{sigOf}
 use Rattle.signature.specs.Calls.{areTypes}
-use Rattle.ids.proofs.Lists.{held-types}
 use Rattle.ids.proofs.Tests.{told, holds, fails}
 use Rattle.semantics.specs.Calls.{haveAmbients, ambientEls, ambientParents}
 use Rattle.bindings.specs.View as bindings
 use Rattle.bindings.specs.View.{ambientsOf}
 use Rattle.structure.specs.View.{structureOf}
-use Rattle.structure.proofs.Laws.{have-on, have-none, els-on, found-more, none-left}
+use Rattle.structure.proofs.Laws.{have-on, have-none, els-on, found-more}
 use borrow.Author.Needs.{needs}
 use Rattle.structure.proofs.Structure.ambient_parents.Statement.{statement}
 use Rattle.structure.proofs.Structure.ambient_parents.Tie as tie
@@ -29,6 +29,7 @@ Inv-loop types els₀ table n i₀ els i =
     (els .len ≡ i) × (length (els .ids) ≡ maxList)
     × (haveAmbients (drop i (typesOf types)) (ambientsOf table) ≡ haveAmbients (typesOf types) (ambientsOf table))
     × (elsOf els ++ ambientEls (drop i (typesOf types)) (ambientsOf table) ≡ ambientEls (typesOf types) (ambientsOf table))
+    × (i ≤ n)
 
 abbrev μ-loop : tie.MeasureT-loop
 μ-loop types els₀ table n i₀ els i = n - i
@@ -54,16 +55,13 @@ long-types c = long _ (c .args .t3 .ids) _ (c .good .1 .1 .0 .1 .1 .0 .1 .0 .1)
 long-new : (c : tie.After-new Inv-loop μ-loop) → length (c .new .result .ids) ≡ maxList
 long-new c = long _ (c .new .result .ids) _ (c .new .ok .1 .1 .0 .1 .0 .1)
 
-same : (c : tie.Else1 Inv-loop μ-loop) → let l = start c .args .t3 in givenTypes l ≡ typesOf l
-same c = held-types _ (long-types (start c)) (told (c .before .is-too-long .ensures) (c .if1 .left))
-
-short : (c : tie.Else1 Inv-loop μ-loop) → tooLong (typesOf (start c .args .t3)) ≡ false
-short c = ap tooLong (sym (same c)) ∙ told (c .before .is-too-long .ensures) (c .if1 .left)
+types : (c : tie.Else1 Inv-loop μ-loop) → HeldTypes (start c .args .t3)
+types c = held-type-ids _ (long-types (start c)) (told (c .before .is-too-long .ensures) (c .if1 .left))
 
 as-given : (c : tie.Else1 Inv-loop μ-loop) {o : Answered (List ℕ)} → let a = start c .args in
     o ≡ ambientParents (sigOf (a .signature)) (structureOf (a .self)) (typesOf (a .t3))
     → o ≡ ambientParents (sigOf (a .signature)) (structureOf (a .self)) (givenTypes (a .t3))
-as-given c e = let a = start c .args in e ∙ ap (ambientParents (sigOf (a .signature)) (structureOf (a .self))) (sym (same c))
+as-given c e = let a = start c .args in e ∙ ap (ambientParents (sigOf (a .signature)) (structureOf (a .self))) (sym (types c .same))
 
 are-types-requires : tie.Need-are-types-requires Inv-loop μ-loop
 are-types-requires c κs = search needs
@@ -72,7 +70,7 @@ returns-2 : tie.Need-returns-2 Inv-loop μ-loop
 unfolding ambientParents
 returns-2 c =
     let e1 = c .before .before in
-    as-given e1 (sym (passes _ _ _ _ _ (short e1) ∙ refuses _ _ _ _ _ (not-false (fails (c .before .are-types .ensures) (c .if2 .taken)))))
+    as-given e1 (sym (passes _ _ _ _ _ (types e1 .short) ∙ refuses _ _ _ _ _ (not-false (fails (c .before .are-types .ensures) (c .if2 .taken)))))
 
 declared : (c : tie.Else2 Inv-loop μ-loop) → let a = start (c .before .before) .args in
     not (areTypes (sigOf (a .signature)) (typesOf (a .t3))) ≡ false
@@ -92,8 +90,13 @@ loop-holds c =
     let four = long-new made in
     let a = made .before .args in
     let empty : els .result .len ≡ 0 =
-    omega (arith, four, ap (length {A = ℕ}) (els .ensures), length-view elOf (els .result .len) (els .result .ids)) in
-    (empty, four, refl, ap (λ (l : List ℕ). l ++ ambientEls (typesOf (a .t3)) (ambientsOf (a .self .«ambient_model_els»))) (els .ensures))
+    omega (arith, four, ap (length {A = ℕ}) (els .ensures), length-view elOf (els .result .len) (els .result .ids)) in (
+      empty,
+      four,
+      refl,
+      ap (λ (l : List ℕ). l ++ ambientEls (typesOf (a .t3)) (ambientsOf (a .self .«ambient_model_els»))) (els .ensures),
+      omega arith,
+    )
 
 -- the types that are left begin with the one that is looked up
 next : (c : tie.In-loop Inv-loop μ-loop) →
@@ -132,7 +135,7 @@ returns-3 c =
     let l = test .before .loop .inv in
     let nothing = sym (ap bindings.elOf (c .enum-told .given .1)) ∙ got .get .ensures in
     let applies = not-false (sym (l .2) ∙ ap (λ (ts : List ℕ). haveAmbients ts (ambientsOf table)) (next test) ∙ have-none _ _ _ nothing) in
-    as-given (e2 .before .before) (sym (passes _ _ _ _ _ (short (e2 .before .before)) ∙ passes _ _ _ _ _ (declared e2) ∙ refuses _ _ _ _ _ applies))
+    as-given (e2 .before .before) (sym (passes _ _ _ _ _ (types (e2 .before .before) .short) ∙ passes _ _ _ _ _ (declared e2) ∙ refuses _ _ _ _ _ applies))
 
 mul-el : tie.Need-mul-el Inv-loop μ-loop
 mul-el c = search needs
@@ -170,6 +173,7 @@ loop-again c =
       simp length-set (l .1),
       sym (have-on _ _ _ _ found) ∙ ap (λ (ts : List ℕ). haveAmbients ts (ambientsOf table)) (sym (next test)) ∙ l .2,
       found-more (loop .els) (loop .i) _ rest (l .0) room so-far,
+      omega (arith, test .loop-test .taken),
     )
 
 returns-4 : tie.Need-returns-4 Inv-loop μ-loop
@@ -181,11 +185,12 @@ returns-4 c =
     let l = loop .inv in
     let t = start (e2 .before .before) .args .t3 in
     let table = start (e2 .before .before) .args .self .«ambient_model_els» in
+    let fits : loop .els .len ≤ length (loop .els .ids) = omega (arith, l .0, l .1, l .4, sized .size .ensures .most) in
     let past : length (typesOf t) ≤ loop .i = omega (arith, sized .size .ensures .is, c .loop-test .left) in
     let done = view-done typeOf (t .len) (t .ids) (loop .i) past in
     let have = not-true (sym (l .2) ∙ ap (λ (ts : List ℕ). haveAmbients ts (ambientsOf table)) done) in
     let els = sym (append-nil _) ∙ ap (λ (ts : List ℕ). elsOf (loop .els) ++ ambientEls ts (ambientsOf table)) (sym done) ∙ l .3 in
-    as-given (e2 .before .before) (ap accepted els ∙ sym (passes _ _ _ _ _ (short (e2 .before .before)) ∙ passes _ _ _ _ _ (declared e2)
+    as-given (e2 .before .before) (ap accepted (given-view elOf (loop .els .len) (loop .els .ids) fits ∙ els) ∙ sym (passes _ _ _ _ _ (types (e2 .before .before) .short) ∙ passes _ _ _ _ _ (declared e2)
     ∙ passes _ _ _ _ _ have ∙ none-left _ _))
 
 pub ambient-parents-spec : {M : Type 1} → statement M

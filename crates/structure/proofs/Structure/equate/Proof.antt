@@ -5,6 +5,7 @@ use Prim.Native.Nat.{_<_}
 use native.Mathlib.Omega.{arith}
 use lib.ListN.{length}
 use Rattle.ids.proofs.Answers.{not-true, not-false, and-left, and-both}
+use Rattle.ids.proofs.Judging.{judged, stops, on, ends}
 use Rattle.ids.proofs.Counted.{full, room}
 use Rattle.ids.proofs.Views.{long}
 use Rattle.unification.specs.Roots.{maxEls}
@@ -13,7 +14,7 @@ use Rattle.semantics.specs.Structure.{maxPairs}
 use Rattle.semantics.specs.Calls.{isEl, equateEls}
 use Rattle.equalities.specs.View.{pairsOf}
 use Rattle.structure.specs.View.{structureOf}
-use Rattle.structure.proofs.Laws.{judged, stops, on, ends, equates}
+use Rattle.structure.proofs.Laws.{equates}
 use borrow.Author.Needs.{needs}
 use Rattle.structure.proofs.Structure.equate.Statement.{statement}
 use Rattle.structure.proofs.Structure.equate.Tie as tie

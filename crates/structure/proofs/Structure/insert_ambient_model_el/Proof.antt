@@ -5,6 +5,7 @@ use Prim.Native.Nat.{_<_}
 use native.Mathlib.Omega.{arith}
 use lib.ListN.{length}
 use Rattle.ids.proofs.Answers.{not-true, not-false, and-left, and-both}
+use Rattle.ids.proofs.Judging.{judged, stops, on, ends}
 use Rattle.ids.proofs.Views.{long, length-view}
 use borrow.Author.Tests.{ltb-true}
 use Rattle.signature.specs.Model.{maxTypes, typeOf, viewTypes, sigOf}
@@ -13,7 +14,7 @@ use Rattle.ids.proofs.Tests.{told, holds, fails, and-then}
 use Rattle.semantics.specs.Structure.{with-ambients}
 use Rattle.semantics.specs.Calls.{isEl, bindAmbient}
 use Rattle.structure.specs.View.{structureOf}
-use Rattle.structure.proofs.Laws.{judged, stops, on, ends, accepts, bound-room}
+use Rattle.structure.proofs.Laws.{accepts, bound-room}
 use borrow.Author.Needs.{needs}
 use Rattle.structure.proofs.Structure.insert_ambient_model_el.Statement.{statement}
 use Rattle.structure.proofs.Structure.insert_ambient_model_el.Tie as tie

@@ -1,12 +1,13 @@
 -- `Structure::insert_var_el` meets its contract.
 use mathlib.Core.Path.{refl, _∙_}
 use Rattle.ids.proofs.Answers.{not-true, not-false}
+use Rattle.ids.proofs.Judging.{judged, stops, on, ends}
 use borrow.Author.Tests.{le-leb, lt-leb}
 use Rattle.ids.proofs.Tests.{told, holds, fails}
 use Rattle.semantics.specs.Structure.{with-vars}
 use Rattle.semantics.specs.Calls.{bindVar}
 use Rattle.structure.specs.View.{structureOf}
-use Rattle.structure.proofs.Laws.{judged, stops, on, ends, accepts, bound-room}
+use Rattle.structure.proofs.Laws.{accepts, bound-room}
 use borrow.Author.Needs.{needs}
 use Rattle.structure.proofs.Structure.insert_var_el.Statement.{statement}
 use Rattle.structure.proofs.Structure.insert_var_el.Tie as tie

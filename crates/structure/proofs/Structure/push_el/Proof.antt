@@ -1,13 +1,14 @@
 -- `Structure::push_el` meets its contract.
 use mathlib.Core.Path.{_≡_}
 use lib.ListN.{length}
+use Rattle.ids.proofs.Judging.{judged, stops, on, ends}
 use Rattle.ids.proofs.Views.{long}
 use Rattle.ids.proofs.Counted.{full, room}
 use Rattle.unification.specs.Roots.{maxEls}
 use Rattle.semantics.specs.Structure.{with-links, with-marks}
 use Rattle.semantics.specs.Calls.{pushEl}
 use Rattle.structure.specs.View.{structureOf}
-use Rattle.structure.proofs.Laws.{judged, stops, on, ends, accepts, marks-more}
+use Rattle.structure.proofs.Laws.{accepts, marks-more}
 use borrow.Author.Needs.{needs}
 use Rattle.structure.proofs.Structure.push_el.Statement.{statement}
 use Rattle.structure.proofs.Structure.push_el.Tie as tie

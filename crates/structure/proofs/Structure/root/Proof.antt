@@ -7,6 +7,7 @@ use Rattle.ids.specs.Answers.{Outcome}
 use Rattle.ids.proofs.Views.{long}
 use Rattle.unification.specs.Roots.{maxEls, linksOf, FindM}
 use Rattle.semantics.specs.Structure.{with-links, with-marks}
+use Rattle.semantics.specs.Calls.{rootOn}
 use Rattle.structure.specs.View.{structureOf}
 use Rattle.structure.proofs.Laws.{root-length, marks-kept}
 use borrow.Author.Needs.{needs}
@@ -25,6 +26,7 @@ root-requires : tie.Need-root-requires
 root-requires c κs = search needs
 
 returns : tie.Need-returns
+unfolding rootOn
 returns c =
     let start = c .before .before .before in
     let s = start .args .self in
@@ -34,7 +36,7 @@ returns c =
     let many : length (linksOf v) ≡ length (linksOf (s .unification)) =
     ap (λ (o : Outcome FindM (List ℕ)). length (o .left)) found ∙ root-length _ _ in
     let kept = marks-kept (s .unification) v _ (many-marks start) (many-links start) after many in
-    (found, λ i. with-links (linksOf v) (with-marks (kept i) (structureOf s)))
+    λ i. record { answer = found i .answer; left = with-links (found i .left) (with-marks (kept i) (structureOf s)) }
 
 pub root-spec : {M : Type 1} → statement M
 root-spec = tie.close (tie.spec root-requires returns)

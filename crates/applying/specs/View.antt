@@ -1,0 +1,31 @@
+-- What an application leaves, as the definitions speak of it, also where there is no room.
+use Prim.Native.Nat.{ℕ}
+use mathlib.Core.Bool.{true, false}
+use mathlib.Core.List.{List}
+use Rattle.unification.specs.Roots.{linksOf}
+use Rattle.semantics.specs.Structure as model
+use Rattle.semantics.specs.Calls as calls
+use Rattle.apps.specs.View.{funcAppsOf}
+use Rattle.equalities.specs.View.{pairsOf}
+use Rattle.applying.specs.declared.Applied.{Applied}
+
+abbrev pub appliedOf : Applied → calls.Applied
+appliedOf r = record {
+  links = linksOf (r .unification);
+  pairs = pairsOf (r .pairs);
+  apps = funcAppsOf (r .«func_apps»);
+  yes = r .yes;
+  full = r .full;
+}
+
+-- what the definition gives, unless an entry is needed and its table is at its limit: then nothing changes, and `full` says so
+unfoldable pub whereRoom : calls.Applied → List ℕ → List model.Pair → List model.FuncApp → calls.Applied
+whereRoom a ls ps apps =
+    elim (a .full) [
+      | true ↦ record { links = ls; pairs = ps; apps = apps; yes = false; full = true }
+      | false ↦ a
+    ]
+
+-- `insertFuncAppOrEquate` where there is room, and with its `full` in any case
+unfoldable pub applyIn : model.FuncApp → List ℕ → List model.Pair → List model.FuncApp → calls.Applied
+applyIn x ls ps apps = whereRoom (calls.insertFuncAppOrEquate x ls ps apps) ls ps apps

@@ -1,0 +1,235 @@
+-- Laws of a round, of the rounds and of a close, over what the passes leave.
+use mathlib.Core.Path.{_≡_, refl, sym, ap, _∙_}
+use mathlib.Core.Bool.{Bool, true, false, not, _&&_, _||_}
+use mathlib.Core.List.{List}
+use mathlib.Core.Option.{Option, none, some}
+use Prim.Native.Nat.{ℕ, zero, suc, _+_, _*_, _-_, _≤_, _<_}
+use native.Mathlib.Omega.{arith}
+use lib.Dec.{eqb, ltb}
+use borrow.Author.Tests.{lt-ltb, le-ltb, ltb-true, ltb-false, ne-eqb}
+use Rattle.ids.specs.Answers.{accepted, refused, Outcome}
+use Rattle.unification.specs.Roots.{maxEls, linksOf}
+use Rattle.signature.specs.Model.{Sig}
+use Rattle.semantics.specs.Structure as model
+use Rattle.semantics.specs.Structure.{FuncApp, PredApp, maxPairs, maxFacts, accept}
+use Rattle.semantics.specs.Types as types
+use Rattle.semantics.specs.Types.{drain, imposeAll, grew, with-pairs}
+use Rattle.semantics.specs.Close as closing
+use Rattle.semantics.specs.Close.{fuel, enterAll, demands, isNone, lastRound, oneMore, roundsFrom, answerOf, leftBy, closeWith, closeImposed, closeAfter, withCore, canonicaliseRefs}
+use Rattle.semantics.proofs.Parts.{rewritten, asked, typedAll, round-parts}
+use Rattle.apps.specs.declared.FuncApps.{FuncApps}
+use Rattle.apps.specs.View.{funcAppsOf}
+use Rattle.merging.specs.declared.Core.{Core}
+use Rattle.merging.specs.declared.Worked.{Worked}
+use Rattle.rewriting.specs.declared.Rewritten as code
+use Rattle.close.specs.declared.Turn.{Turn}
+use Rattle.merging.specs.View.{coreOf, metOf, Passes}
+use Rattle.rewriting.specs.View.{rewrittenOf, nothing}
+use Rattle.typing.specs.Bounds.{allDemands}
+use Rattle.close.specs.View.{Round}
+use Rattle.merging.proofs.Laws.{counts}
+
+-- The number first met.
+
+pub met-none : {n : ℕ} → n ≡ 0 → metOf n ≡ none
+met-none h = ap metOf h
+
+pub met-some : (n : ℕ) → (n ≡ 0 → ⊥) → metOf n ≡ some n
+met-some n h = go (eqb n 0) (ne-eqb n 0 h)
+  where
+    go : (b : Bool) → b ≡ false → _≡_ {A = Option ℕ} (elim b [ true ↦ none | false ↦ some n ]) (some n)
+    go b e = rw e
+
+-- What was counted: more than before where something was counted since.
+
+pub ltb-more : (x k n : ℕ) → n ≡ k + x → ltb x n ≡ ltb 0 k
+ltb-more x k n h = go (ltb 0 k) refl
+  where
+    go : (b : Bool) → ltb 0 k ≡ b → ltb x n ≡ b
+    go true e = lt-ltb x n (omega (arith, ltb-true 0 k e))
+    go false e = le-ltb x n (omega (arith, ltb-false 0 k e))
+
+pub grew-more : (before after : types.Core) (k l : ℕ) → after .merges ≡ k + before .merges → after .added ≡ l + before .added
+    → grew before after ≡ ltb 0 (k + l)
+unfolding grew
+grew-more before after k l p q = ltb-more (before .merges + before .added) (k + l) (after .merges + after .added) (omega arith)
+
+-- A round.
+
+module _ (g : Sig) (preds : List PredApp) (apps : List FuncApp) (before : Core) (d t : Worked) (r : code.Rewritten) where
+  -- the core after the drain, with the pairs that `functionality` queued
+  abbrev pub between : Core
+  between = record {
+    unification = d .core .unification;
+    marks = d .core .marks;
+    facts = d .core .facts;
+    pairs = r .pairs;
+    met = d .core .met;
+  }
+
+  module _ (drains : Passes before d maxPairs drain) (rewrites : rewrittenOf r ≡ enterAll (linksOf (d .core .unification)) apps nothing)
+      (demanded : Passes between t allDemands (imposeAll (demands g (funcAppsOf (r .«func_apps»)) preds))) where
+    module _ (m a : ℕ) where
+      abbrev start : types.Core
+      start = coreOf before m a
+
+      drained : coreOf (d .core) (d .merges + m) (d .added + a) ≡ drain start
+      drained = drains .is m a
+
+      rewrote : rewrittenOf r ≡ rewritten apps start
+      unfolding rewritten
+      rewrote = rewrites ∙ (λ i. enterAll (drained i .links) apps nothing)
+
+      asks : coreOf between (d .merges + m) (d .added + a) ≡ asked apps start
+      unfolding asked
+      asks = λ i. with-pairs (rewrote i .pairs) (drained i)
+
+      typed : coreOf (t .core) ((d .merges + t .merges) + m) ((d .added + t .added) + a) ≡ typedAll g preds apps start
+      unfolding typedAll
+      typed =
+          counts (t .core) {n = t .merges + (d .merges + m)} {b = t .added + (d .added + a)} (omega arith) (omega arith)
+          ∙ demanded .is (d .merges + m) (d .added + a)
+          ∙ (λ i. imposeAll (demands g (rewrote i .apps) preds) (asks i))
+
+      merged : ltb 0 (d .merges) ≡ ltb m (drain start .merges)
+      merged = sym (ltb-more m (d .merges) (d .merges + m) refl) ∙ (λ i. ltb m (drained i .merges))
+
+      grows : ltb 0 (t .merges + t .added) ≡ grew (asked apps start) (typedAll g preds apps start)
+      grows =
+          sym (grew-more (coreOf between (d .merges + m) (d .added + a)) (coreOf (t .core) ((d .merges + t .merges) + m) ((d .added + t .added) + a))
+          (t .merges) (t .added) (omega arith) (omega arith))
+          ∙ (λ i. grew (asks i) (typed i))
+
+    pub round-is : (worked : Bool) → worked ≡ ((ltb 0 (d .merges) || r .queued) || ltb 0 (t .merges + t .added))
+        → Round g preds apps before
+        (record { core = t .core; «func_apps» = r .«func_apps»; merges = d .merges + t .merges; added = d .added + t .added; worked = worked })
+    round-is worked e = record {
+      is = λ m a.
+          (λ i. record { core = typed m a i; apps = rewrote m a i .apps; worked = (e ∙ (λ j. (merged m a j || rewrote m a j .queued) || grows m a j)) i })
+          ∙ sym (round-parts g preds apps (coreOf before m a));
+      merges-most = omega (arith, drains .merges-most, demanded .merges-most);
+      added-most = omega (arith, drains .added-most, demanded .added-most);
+    }
+
+-- The rounds.
+
+pub fuel-is : fuel ≡ 2 * ((maxFacts + 2) * (maxEls + 1))
+unfolding fuel
+fuel-is = refl
+
+-- what a round left, with all that was counted by then
+abbrev pub turn : Core → FuncApps → Bool → ℕ → ℕ → closing.Turn
+turn core apps worked m a = record { core = coreOf core m a; apps = funcAppsOf apps; worked = worked }
+
+pub turned : {g : Sig} {preds : List PredApp} {apps : List FuncApp} {before : Core} (r : Turn) → Round g preds apps before r
+    → (m a : ℕ) {n b : ℕ} → n ≡ r .merges + m → b ≡ r .added + a
+    → turn (r .core) (r .«func_apps») (r .worked) n b ≡ closing.round g preds apps (coreOf before m a)
+turned r e m a p q = (λ i. turn (r .core) (r .«func_apps») (r .worked) (p i) (q i)) ∙ e .is m a
+
+-- with so many rounds before
+abbrev pub after : ℕ → closing.Rounds → closing.Rounds
+after n r = record { core = r .core; apps = r .apps; count = n + r .count }
+
+module _ (g : Sig) (preds : List PredApp) where
+  -- a round that is the last, whatever is left
+  pub idle : (k : ℕ) (t : closing.Turn) → (t .worked && isNone (t .core .met)) ≡ false → roundsFrom k g preds t ≡ lastRound t
+  unfolding roundsFrom
+  idle zero t h = refl
+  idle (suc k) t h = rw (h, roundsFrom)
+
+  pub goes : (k : ℕ) (t : closing.Turn) → (t .worked && isNone (t .core .met)) ≡ true
+      → roundsFrom (suc k) g preds t ≡ oneMore (roundsFrom k g preds (closing.round g preds (t .apps) (t .core)))
+  unfolding roundsFrom
+  goes k t h = rw (h, roundsFrom)
+
+  -- The rounds on their way from the first, that left `first`: `count` ran, and the latest left `now`.
+  pub record Going (first now : closing.Turn) (count : ℕ) : Type 0 where
+    pub some : 1 ≤ count
+    pub few : count ≤ suc fuel
+    pub is : (k n : ℕ) → n + 1 ≡ count → k + n ≡ fuel → after n (roundsFrom k g preds now) ≡ roundsFrom fuel g preds first
+
+  pub begins : (first : closing.Turn) → Going first first 1
+  begins first = record {
+    some = omega arith;
+    few = omega arith;
+    is = λ k n p q.
+        let z : n ≡ 0 = omega arith in
+        let f : k ≡ fuel = omega arith in
+        let r = roundsFrom fuel g preds first in
+        (λ i. after (z i) (roundsFrom (f i) g preds first)) ∙ (λ i. record { core = r .core; apps = r .apps; count = whole (r .count) i });
+  }
+    where
+      whole : (x : ℕ) → 0 + x ≡ x
+      whole x = omega arith
+
+  module _ {first now : closing.Turn} {count : ℕ} (so-far : Going first now count) where
+    -- one more
+    pub takes : (now .worked && isNone (now .core .met)) ≡ true → count ≤ fuel → {next : closing.Turn}
+        → next ≡ closing.round g preds (now .apps) (now .core) → Going first next (count + 1)
+    unfolding oneMore
+    takes h l {next} e = record {
+      some = omega arith;
+      few = omega arith;
+      is = λ k n p q.
+          let low : n ≡ (n - 1) + 1 = omega (arith, so-far .some) in
+          let r = roundsFrom k g preds (closing.round g preds (now .apps) (now .core)) in
+          ap (λ (t : closing.Turn). after n (roundsFrom k g preds t)) e
+          ∙ (λ i. record { core = r .core; apps = r .apps; count = regroup n (n - 1) (r .count) low i })
+          ∙ sym (ap (after (n - 1)) (goes k now h))
+          ∙ so-far .is (suc k) (n - 1) (omega arith) (omega arith);
+    }
+      where
+        regroup : (n l x : ℕ) → n ≡ l + 1 → n + x ≡ l + suc x
+        regroup n l x h = omega arith
+
+    lasts : (k : ℕ) → k + (count - 1) ≡ fuel → roundsFrom k g preds now ≡ lastRound now
+        → _≡_ {A = closing.Rounds} (record { core = now .core; apps = now .apps; count = count }) (roundsFrom fuel g preds first)
+    unfolding lastRound
+    lasts k q e =
+        (λ i. record { core = now .core; apps = now .apps; count = whole (so-far .some) i })
+        ∙ sym (ap (after (count - 1)) e)
+        ∙ so-far .is k (count - 1) (omega (arith, so-far .some)) q
+      where
+        whole : 1 ≤ count → count ≡ (count - 1) + 1
+        whole h = omega arith
+
+    -- the latest was idle, or met a number
+    pub stops : (now .worked && isNone (now .core .met)) ≡ false
+        → _≡_ {A = closing.Rounds} (record { core = now .core; apps = now .apps; count = count }) (roundsFrom fuel g preds first)
+    stops h = lasts (fuel - (count - 1)) (omega (arith, so-far .some, so-far .few)) (idle (fuel - (count - 1)) now h)
+
+    -- there are no more
+    pub spent : fuel < count
+        → _≡_ {A = closing.Rounds} (record { core = now .core; apps = now .apps; count = count }) (roundsFrom fuel g preds first)
+    unfolding roundsFrom
+    spent h = lasts 0 (omega (arith, so-far .some, so-far .few)) refl
+
+-- A close.
+
+module _ (g : Sig) (s : model.Structure) (r : closing.Rounds) (core : Core) (m a : ℕ)
+    (ran : r ≡ closing.rounds g (s .pred-apps) (s .func-apps) (closing.coreOf s)) (imposed : coreOf core m a ≡ imposeAll (s .impositions) (r .core)) where
+  closes : closeWith (metOf (core .met)) r (coreOf core m a) s ≡ closing.close g s
+  unfolding closing.close closeAfter closeImposed
+  closes = (λ i. closeImposed r (imposed i) s) ∙ (λ i. closeAfter (ran i) s)
+
+  -- a number is met
+  pub refuses : (core .met ≡ 0 → ⊥)
+      → _≡_ {A = Outcome closing.Closed model.Structure} (record { answer = refused (core .met); left = s }) (closing.close g s)
+  unfolding closeWith
+  refuses h = sym (ap (λ (o : Option ℕ). closeWith o r (coreOf core m a) s) (met-some (core .met) h)) ∙ closes
+
+  -- none is met
+  pub accepts : core .met ≡ 0 → {changed : Bool} → changed ≡ (ltb 1 (r .count) || grew (r .core) (coreOf core m a)) → {merges : ℕ} → merges ≡ m
+      → {left : model.Structure}
+      → left ≡ accept (not changed) (canonicaliseRefs (linksOf (core .unification)) (withCore (coreOf core 0 0) (r .apps) s))
+      → _≡_ {A = Outcome closing.Closed model.Structure}
+      (record { answer = accepted (record { changed = changed; merges = merges; rounds = r .count }); left = left }) (closing.close g s)
+  unfolding closeWith answerOf leftBy withCore
+  accepts h p q e =
+      (λ i. record { answer = accepted (record { changed = p i; merges = q i; rounds = r .count }); left = e i })
+      ∙ (λ i. record {
+        answer = accepted (record { changed = ltb 1 (r .count) || grew (r .core) (coreOf core m a); merges = m; rounds = r .count });
+        left = accept (not (p i)) (canonicaliseRefs (linksOf (core .unification)) (withCore (coreOf core 0 0) (r .apps) s));
+      })
+      ∙ sym (ap (λ (o : Option ℕ). closeWith o r (coreOf core m a) s) (met-none h))
+      ∙ closes

@@ -1,0 +1,12 @@
+-- `with_core` meets its contract.
+use mathlib.Core.Path.{refl}
+use Rattle.semantics.specs.Close.{withCore}
+use Rattle.close.proofs.with_core.Statement.{statement}
+use Rattle.close.proofs.with_core.Tie as tie
+
+returns : tie.Need-returns
+unfolding withCore
+returns c = refl
+
+pub with-core-spec : {M : Type 1} → statement M
+with-core-spec = tie.close (tie.spec returns)
