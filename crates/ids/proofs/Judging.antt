@@ -1,10 +1,9 @@
 -- Laws of calls that judge their causes one after the other, and of what their answers tell.
 use mathlib.Core.Path.{_≡_, refl, sym, ap, _∙_}
-use mathlib.Core.Bool.{Bool, true, false, not, _&&_, _||_, false≢true}
+use mathlib.Core.Bool.{Bool, true, false, not, _&&_, _||_}
 use mathlib.Core.List.{List, [], _∷_, map, List·Memᴰ, List·Memᴰ·head, List·Memᴰ·tail, Memᴰ·cast}
 use Prim.Native.Nat.{ℕ, zero, suc}
 use native.Mathlib.Omega.{arith}
-use lib.ListN.{length, getD}
 use Rattle.ids.specs.Answers.{Cause, decided, accepted, refused, Outcome, outcome, _if_}
 use Rattle.ids.proofs.Answers.{outcome-refuses, outcome-passes, outcome-done}
 
@@ -21,56 +20,15 @@ judged {before = s} {after = t} {value = v} (stops {n} {b} {cs} h e) = e ∙ sym
 judged {before = s} {after = t} {value = v} (on {n} {b} {cs} h r) = judged r ∙ sym (outcome-passes s t v n b cs h)
 judged {before = s} {after = t} {value = v} (ends e) = e ∙ sym (outcome-done s t v)
 
--- The same by the number of causes that are passed: the proofs of `signature` cite this.
-
-abbrev pub causeAt : ℕ → List Cause → Cause
-causeAt k cs = getD cs k (0 if false)
-
+-- the first k of some causes do not apply
 abbrev pub None : ℕ → List Cause → Type 0
 None zero cs = Unit
 None (suc k) [] = Unit
 None (suc k) (c ∷ cs) = (c .applies ≡ false) × None k cs
 
--- the first k of them do not apply
-pub record Passed (k : ℕ) (cs : List Cause) : Type 0 where
-  pub none : None k cs
-
-pub pass-none : {cs : List Cause} → Passed 0 cs
-pass-none = record { none = tt }
-
-one-more : (k : ℕ) (cs : List Cause) → None k cs → causeAt k cs .applies ≡ false → None (suc k) cs
-one-more zero [] p e = tt
-one-more zero (c ∷ cs) p e = (e, tt)
-one-more (suc k) [] p e = tt
-one-more (suc k) (c ∷ cs) p e = (p .0, one-more k cs (p .1) e)
-
-pub pass : {k : ℕ} {cs : List Cause} → Passed k cs → causeAt k cs .applies ≡ false → Passed (suc k) cs
-pass {k} {cs} p e = record { none = one-more k cs (p .none) e }
-
 -- a call that judges causes
 pub record Judged {A S : Type 0} (o : Outcome A S) (cs : List Cause) (before after : S) (value : A) : Type 0 where
   pub is : o ≡ outcome cs before value after
-
-module _ {A S : Type 0} (before after : S) (value : A) where
-  refused-at : (k : ℕ) (cs : List Cause) → None k cs → causeAt k cs .applies ≡ true
-      → outcome cs before value after ≡ record { answer = refused (causeAt k cs .number); left = before }
-  refused-at zero [] p e = absurd (false≢true e)
-  refused-at zero (c ∷ cs) p e = outcome-refuses before after value (c .number) (c .applies) cs e
-  refused-at (suc k) [] p e = absurd (false≢true e)
-  refused-at (suc k) (c ∷ cs) p e = outcome-passes before after value (c .number) (c .applies) cs (p .0) ∙ refused-at k cs (p .1) e
-
-  accepted-past : (cs : List Cause) → None (length cs) cs → outcome cs before value after ≡ record { answer = accepted value; left = after }
-  accepted-past [] p = outcome-done before after value
-  accepted-past (c ∷ cs) p = outcome-passes before after value (c .number) (c .applies) cs (p .0) ∙ accepted-past cs (p .1)
-
-module _ {A S : Type 0} {o : Outcome A S} {cs : List Cause} {before after : S} {value : A} (j : Judged o cs before after value) where
-  -- the first that applies refuses
-  pub judged-refuses : {k : ℕ} → Passed k cs → causeAt k cs .applies ≡ true → record { answer = refused (causeAt k cs .number); left = before } ≡ o
-  judged-refuses {k} p e = sym (j .is ∙ refused-at before after value k cs (p .none) e)
-
-  -- where none applies the call is accepted
-  pub judged-accepts : Passed (length cs) cs → record { answer = accepted value; left = after } ≡ o
-  judged-accepts p = sym (j .is ∙ accepted-past before after value cs (p .none))
 
 -- Causes that are judged alike: one that joins two tests is judged as two of one number.
 pub record Alike {A S : Type 0} (before after : S) (value : A) (cs ds : List Cause) : Type 0 where

@@ -18,7 +18,8 @@ use Rattle.applying.specs.View.{appliedOf, applyIn}
 use Rattle.applying.proofs.Laws.{room-full, room-same, apply-length}
 use Rattle.structure.specs.declared.Structure.{Structure}
 use Rattle.structure.specs.View.{structureOf}
-use Rattle.structure.proofs.Laws.{accepts, marks-kept}
+use Rattle.unification.proofs.Beside.{kept}
+use Rattle.structure.proofs.Laws.{accepts}
 
 -- a search for a model that names a function as id or comp
 pub by-operation : (f : ℕ) → Search (λ (m : ModelM). eqb f (m .id) || eqb f (m .comp)) (isIdOrComp f)
@@ -52,6 +53,6 @@ module _ (s : Structure) (r : applying.Applied) (x : model.FuncApp)
         let same : appliedOf r ≡ met = is ∙ room-same _ _ _ _ room in
         let many : length (linksOf (r .unification)) ≡ length (linksOf (s .unification)) =
         ap (λ (a : Applied). length (a .links)) same ∙ apply-length _ _ _ _ in
-        let kept = marks-kept (s .unification) (r .unification) (s .«inferred_parent_els») marks us vs many in
+        let marked = kept (s .unification) (r .unification) (s .«inferred_parent_els») marks us vs many in
         accepts (ap (λ (a : Applied). a .yes) same) q
-        (λ i. with-links (same i .links) (with-marks (kept i) (with-pairs (same i .pairs) (with-func-apps (same i .apps) (structureOf s)))))
+        (λ i. with-links (same i .links) (with-marks (marked i) (with-pairs (same i .pairs) (with-func-apps (same i .apps) (structureOf s)))))

@@ -1,4 +1,4 @@
--- Laws that the proofs of several functions cite: of accepted calls, of marks and equalities, of tables of slots, and of the ambient lookup.
+-- Laws that the proofs of several functions cite: of accepted calls, of equalities, of tables of slots, and of the ambient lookup.
 -- The proofs take an array's length by its path (`.good` of an argument, `.ok` of a result), since a search enters no more than 128 records.
 use mathlib.Core.Path.{_≡_, refl, sym, ap, _∙_}
 use mathlib.Core.Bool.{Bool, false}
@@ -6,9 +6,7 @@ use mathlib.Core.List.{List, [], _∷_, _++_, map, append-assoc}
 use mathlib.Core.Option.{Option, none, some}
 use Prim.Native.Nat.{ℕ, _+_, _<_}
 use native.Mathlib.Omega.{arith}
-use native.Mathlib.Numerals.{add-one}
-use lib.ListN.{length, take, set, length-take, length-set, length-append}
-use lib.Seq.{take-suc-set}
+use lib.ListN.{length, take, set}
 use lib.Dec.{leb}
 use borrow.Author.Tests.{lt-ltb}
 use Rattle.ids.specs.declared.ElId.{ElId}
@@ -18,12 +16,11 @@ use Rattle.ids.specs.Answers.{accepted, Outcome, _if_, undeclared}
 use Rattle.ids.specs.Ids.{elOf, elsOf}
 use Rattle.ids.specs.Table.{placed}
 use Rattle.ids.proofs.Judging.{outcome-all}
-use Rattle.ids.proofs.Tables.{push-room}
-use Rattle.ids.proofs.Views.{view-pushed, take-same}
-use Rattle.unification.specs.declared.Unification.{Unification}
+use Rattle.ids.proofs.Views.{view-pushed}
 use Rattle.unification.specs.Roots as roots
-use Rattle.unification.specs.Roots.{maxEls, linksOf, addedOf, shortOf, FindM, findOf}
+use Rattle.unification.specs.Roots.{maxEls, linksOf, shortOf, FindM, findOf}
 use Rattle.unification.proofs.Laws.{short-length}
+use Rattle.unification.proofs.Beside.{kept}
 use Rattle.semantics.specs.Structure as model
 use Rattle.semantics.specs.Structure.{Ambient, maxPairs, with-links, with-marks, with-pairs, accept}
 use Rattle.semantics.specs.Calls.{accepting, Equated, equate, ambientOf, haveAmbients, ambientEls}
@@ -38,25 +35,6 @@ use Rattle.structure.specs.View.{structureOf}
 pub accepts : {A : Type 0} {v w : A} {t s r : model.Structure} → v ≡ w → t ≡ accepting s → s ≡ r
     → _≡_ {A = Outcome A model.Structure} (record { answer = accepted v; left = t }) (record { answer = accepted w; left = accepting r })
 accepts {w = w} p q e = (λ i. record { answer = accepted (p i); left = q i }) ∙ (λ i. record { answer = accepted w; left = accepting (e i) })
-
--- Marks: the array has an entry for each element that there can be, and those in use are as many as the links.
-
-module _ (u v : Unification) (ms : List Bool) (all : length ms ≡ maxEls) (us : length (u .links) ≡ maxEls) (vs : length (v .links) ≡ maxEls) where
-  -- links that are as many as before leave the marks
-  pub marks-kept : length (linksOf v) ≡ length (linksOf u) → take (v .len) ms ≡ take (u .len) ms
-  marks-kept e = take-same (v .len) (u .len) ms (omega (arith, length-take (v .len) (v .links), length-take (u .len) (u .links)))
-
-  -- a link more brings a mark more
-  pub marks-more : (n : ℕ) (mark : Bool) → n ≡ length (linksOf u) → n < maxEls → linksOf v ≡ addedOf (linksOf u)
-      → take (v .len) (set ms n mark) ≡ take (u .len) ms ++ (mark ∷ [])
-  unfolding addedOf
-  marks-more n mark is room e =
-      let more : linksOf v ≡ linksOf u ++ (length (linksOf u) ∷ []) = e ∙ push-room maxEls (linksOf u) (length (linksOf u)) (omega arith) in
-      let many : length (linksOf v) ≡ n + 1 =
-      ap length more ∙ omega (arith, length-append (linksOf u) (length (linksOf u) ∷ [])) in
-      take-same (v .len) (n + 1) (set ms n mark) (omega (arith, length-set ms n mark, length-take (v .len) (v .links)))
-      ∙ rw (add-one n, take-suc-set ms n mark (omega arith))
-      (ap (λ (l : List Bool). l ++ (mark ∷ [])) (take-same n (u .len) ms (omega (arith, length-take (u .len) (u .links)))))
 
 -- a find leaves as many links
 pub root-length : (ls : List ℕ) (e : ℕ) → length (roots.root ls e .left) ≡ length ls
@@ -85,9 +63,9 @@ module _ (s : Structure) (e : equalities.Equated) (a b : ℕ)
       let same : equatedOf e ≡ equals = is ∙ equate-room _ _ a b room in
       let many : length (linksOf (e .unification)) ≡ length (linksOf (s .unification)) =
       ap (λ (x : Equated). length (x .links)) same ∙ equate-length _ _ a b in
-      let kept = marks-kept (s .unification) (e .unification) (s .«inferred_parent_els») marks us vs many in
+      let marked = kept (s .unification) (e .unification) (s .«inferred_parent_els») marks us vs many in
       accepts (ap (λ (x : Equated). x .differ) same) q
-      (λ i. with-links (same i .links) (with-marks (kept i) (with-pairs (same i .pairs) (structureOf s))))
+      (λ i. with-links (same i .links) (with-marks (marked i) (with-pairs (same i .pairs) (structureOf s))))
 
 -- an entry whose key is below the limit of a table of slots
 pub bound-room : {E : Type 0} (cmp : E → E → Ordering) (limit key : ℕ) (x : E) (l : List E) → key < limit → boundOf cmp limit key x l ≡ placed cmp x l

@@ -8,7 +8,8 @@ use Rattle.unification.specs.Roots.{maxEls}
 use Rattle.semantics.specs.Structure.{with-links, with-marks}
 use Rattle.semantics.specs.Calls.{pushEl}
 use Rattle.structure.specs.View.{structureOf}
-use Rattle.structure.proofs.Laws.{accepts, marks-more}
+use Rattle.unification.proofs.Beside.{one-more}
+use Rattle.structure.proofs.Laws.{accepts}
 use borrow.Author.Needs.{needs}
 use Rattle.structure.proofs.Structure.push_el.Statement.{statement}
 use Rattle.structure.proofs.Structure.push_el.Tie as tie
@@ -54,7 +55,7 @@ returns-2 c =
     let v = c .before .increase-size .result in
     let after = long _ (v .links) _ (c .before .increase-size .ok .1 .1 .0 .1 .0 .1) in
     let links = c .before .increase-size .ensures in
-    let marks = marks-more (s .unification) v _ (many-marks start) (many-links start) after _ (a .mark) (sized .is) (e1 .if1 .left) links in
+    let marks = one-more (s .unification) v _ (many-marks start) (many-links start) after _ (a .mark) (sized .is) (e1 .if1 .left) links in
     judged (on (room sized (e1 .if1 .left))
     (ends (accepts (sized .is) (c .accept .ensures) (λ i. with-links (links i) (with-marks (marks i) (structureOf s))))))
 

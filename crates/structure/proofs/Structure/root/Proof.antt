@@ -9,7 +9,8 @@ use Rattle.unification.specs.Roots.{maxEls, linksOf, FindM}
 use Rattle.semantics.specs.Structure.{with-links, with-marks}
 use Rattle.semantics.specs.Calls.{rootOn}
 use Rattle.structure.specs.View.{structureOf}
-use Rattle.structure.proofs.Laws.{root-length, marks-kept}
+use Rattle.unification.proofs.Beside.{kept}
+use Rattle.structure.proofs.Laws.{root-length}
 use borrow.Author.Needs.{needs}
 use Rattle.structure.proofs.Structure.root.Statement.{statement}
 use Rattle.structure.proofs.Structure.root.Tie as tie
@@ -35,8 +36,8 @@ returns c =
     let after = long _ (v .links) _ (c .before .root .ok .1 .1 .1 .0 .1 .1 .0 .1 .0 .1) in
     let many : length (linksOf v) ≡ length (linksOf (s .unification)) =
     ap (λ (o : Outcome FindM (List ℕ)). length (o .left)) found ∙ root-length _ _ in
-    let kept = marks-kept (s .unification) v _ (many-marks start) (many-links start) after many in
-    λ i. record { answer = found i .answer; left = with-links (found i .left) (with-marks (kept i) (structureOf s)) }
+    let marked = kept (s .unification) v _ (many-marks start) (many-links start) after many in
+    λ i. record { answer = found i .answer; left = with-links (found i .left) (with-marks (marked i) (structureOf s)) }
 
 pub root-spec : {M : Type 1} → statement M
 root-spec = tie.close (tie.spec root-requires returns)
