@@ -1,0 +1,419 @@
+-- `find_conflicts` meets its contract.
+use mathlib.Core.Path.{_≡_, refl, sym, ap, _∙_}
+use mathlib.Core.List.{List, [], _∷_}
+use Prim.Native.Nat.{ℕ, _+_, _-_, _≤_, _<_}
+use native.Mathlib.Omega.{arith}
+use lib.ListN.{length, drop, getD}
+use Rattle.ids.specs.Table.{pushOf}
+use Rattle.ids.specs.declared.ElId.{ElId}
+use Rattle.ids.specs.declared.ElIds.{ElIds}
+use Rattle.ids.specs.Ids.{elsOf}
+use Rattle.unification.specs.Roots.{maxEls, linksOf, rootOf, FindM, findOf}
+use Rattle.semantics.specs.Structure.{Fact, Structure}
+use Rattle.semantics.specs.Types.{factsAt}
+use Rattle.semantics.specs.Conflicts.{Conflict, parentsMatch, firstConflict, conflictAmong, conflictAt, conflictsBelow, typeConflicts}
+use Rattle.facts.specs.declared.Fact as code
+use Rattle.facts.specs.declared.Facts.{Facts}
+use Rattle.facts.specs.View.{factOf, factsOf, noFact}
+use Rattle.conflicts.specs.declared.TypeConflicts.{TypeConflicts}
+use Rattle.conflicts.specs.View.{conflictsOf, conflictsIn}
+use Rattle.conflicts.proofs.Laws.{bare, parents-done, parents-past, parents-match, parents-differ, other-type, other-parents, all-alike, facts-start, facts-done, facts-agree, facts-conflict, no-root, few-facts, two-facts, class-clear, class-pushed}
+use borrow.Author.Needs.{needs}
+use Rattle.conflicts.proofs.find_conflicts.Statement.{statement}
+use Rattle.conflicts.proofs.find_conflicts.Tie as tie
+
+abbrev Inv-loop2 : tie.InvT-loop2
+Inv-loop2 unification facts n conflicts₀ e₀ number el types k a j b ps qs length other i₀ conflicts e i =
+    (e ≡ e₀)
+    × ((conflicts ≡ conflicts₀)
+    × (parentsMatch (linksOf unification) (drop i (elsOf ps)) (drop i (elsOf qs)) ≡ parentsMatch (linksOf unification) (elsOf ps) (elsOf qs)))
+
+abbrev μ-loop2 : tie.MeasureT-loop2
+μ-loop2 unification facts n conflicts₀ e₀ number el types k a j b ps qs length other i₀ conflicts e i = length - i
+
+abbrev Inv-loop : tie.InvT-loop
+Inv-loop unification facts n conflicts₀ e₀ number el types k a j₀ conflicts e j =
+    (e ≡ e₀)
+    × ((conflicts ≡ conflicts₀)
+    × (firstConflict (linksOf unification) e₀ (factOf a) (drop j (factsOf types)) ≡ conflictAmong (linksOf unification) e₀ (factsOf types)))
+
+abbrev μ-loop : tie.MeasureT-loop
+μ-loop unification facts n conflicts₀ e₀ number el types k a j₀ conflicts e j = k - j
+
+abbrev Inv-classes : tie.InvT-classes
+Inv-classes unification facts n conflicts₀ e₀ conflicts e =
+    (e ≤ n) × (conflictsOf conflicts ≡ conflictsBelow (bare (linksOf unification) (factsOf facts)) e)
+
+abbrev μ-classes : tie.MeasureT-classes
+μ-classes unification facts n conflicts₀ e₀ conflicts e = n - e
+
+size-requires : tie.Need-size-requires Inv-loop2 μ-loop2 Inv-loop μ-loop Inv-classes μ-classes
+size-requires c κs = search needs
+
+new-requires : tie.Need-new-requires Inv-loop2 μ-loop2 Inv-loop μ-loop Inv-classes μ-classes
+new-requires c κs = search needs
+
+classes-holds : tie.Need-classes-holds Inv-loop2 μ-loop2 Inv-loop μ-loop Inv-classes μ-classes
+unfolding conflictsBelow
+classes-holds c =
+    (omega arith, c .new .ensures)
+
+cast-number : tie.Need-cast-number Inv-loop2 μ-loop2 Inv-loop μ-loop Inv-classes μ-classes
+cast-number c = search needs
+
+find-requires : tie.Need-find-requires Inv-loop2 μ-loop2 Inv-loop μ-loop Inv-classes μ-classes
+find-requires c κs = search needs
+
+add-e : tie.Need-add-e Inv-loop2 μ-loop2 Inv-loop μ-loop Inv-classes μ-classes
+add-e c = search needs
+
+classes-less : tie.Need-classes-less Inv-loop2 μ-loop2 Inv-loop μ-loop Inv-classes μ-classes
+classes-less c = search needs
+
+-- What a place of the code knows, by the place where it was learnt.
+
+-- the structure whose conflicts are searched for
+abbrev given : tie.Start Inv-loop2 μ-loop2 Inv-loop μ-loop Inv-classes μ-classes → Structure
+given c = bare (linksOf (c .args .unification)) (factsOf (c .args .facts))
+
+-- an element that is a root
+root : (c : tie.Else1 Inv-loop2 μ-loop2 Inv-loop μ-loop Inv-classes μ-classes) →
+    let class = c .before .before .before .before .before in
+    rootOf (given (class .before .before .before) .links) (class .classes .e) ≡ class .classes .e
+unfolding findOf
+root c = ap (λ (f : FindM). f .root) (sym (c .before .before .before .find .ensures)) ∙ c .if1 .left
+
+classes-again : tie.Need-classes-again Inv-loop2 μ-loop2 Inv-loop μ-loop Inv-classes μ-classes
+unfolding findOf
+classes-again c =
+    let found = c .before .before .before in
+    let class = found .before .before in
+    let none = no-root (given (class .before .before .before)) _ (λ h. c .if1 .taken (ap (λ (f : FindM). f .root) (found .find .ensures) ∙ h)) in
+    (omega (arith, found .before .classes-test .taken), class-clear _ _ _ (class .classes .inv .1) none)
+
+count-at-requires :
+    tie.Need-count-at-requires Inv-loop2 μ-loop2 Inv-loop μ-loop Inv-classes μ-classes
+count-at-requires c κs = search needs
+
+add-e-2 : tie.Need-add-e-2 Inv-loop2 μ-loop2 Inv-loop μ-loop Inv-classes μ-classes
+add-e-2 c = search needs
+
+classes-less-2 : tie.Need-classes-less-2 Inv-loop2 μ-loop2 Inv-loop μ-loop Inv-classes μ-classes
+classes-less-2 c = search needs
+
+classes-again-2 : tie.Need-classes-again-2 Inv-loop2 μ-loop2 Inv-loop μ-loop Inv-classes μ-classes
+classes-again-2 c =
+    let counted = c .before in
+    let class = counted .before .before .before .before .before .before in
+    let s = given (class .before .before .before) in
+    let few : length (factsAt (class .classes .e) (s .facts)) < 2 = omega (arith, c .if2 .taken, counted .count-at .ensures) in
+    (omega (arith, counted .before .before .before .before .before .classes-test .taken), class-clear _ _ _ (class .classes .inv .1) (few-facts s _ (root (counted .before)) few))
+
+concrete-types-of-requires :
+    tie.Need-concrete-types-of-requires Inv-loop2 μ-loop2 Inv-loop μ-loop Inv-classes μ-classes
+concrete-types-of-requires c κs = search needs
+
+size-requires-2 : tie.Need-size-requires-2 Inv-loop2 μ-loop2 Inv-loop μ-loop Inv-classes μ-classes
+size-requires-2 c κs = search needs
+
+element-copy-out-a :
+    tie.Need-element-copy-out-a Inv-loop2 μ-loop2 Inv-loop μ-loop Inv-classes μ-classes
+element-copy-out-a c = search needs
+
+loop-holds : tie.Need-loop-holds Inv-loop2 μ-loop2 Inv-loop μ-loop Inv-classes μ-classes
+loop-holds c =
+    let asked = c .before .before in
+    let types = asked .concrete-types-of .result in
+    (refl, (refl, facts-start _ _ (types .len) (types .items)))
+
+mul-b : tie.Need-mul-b Inv-loop2 μ-loop2 Inv-loop μ-loop Inv-classes μ-classes
+mul-b c = search needs
+
+element-copy-out-b :
+    tie.Need-element-copy-out-b Inv-loop2 μ-loop2 Inv-loop μ-loop Inv-classes μ-classes
+element-copy-out-b c = search needs
+
+push-requires : tie.Need-push-requires Inv-loop2 μ-loop2 Inv-loop μ-loop Inv-classes μ-classes
+push-requires c κs = search needs
+
+add-e-3 : tie.Need-add-e-3 Inv-loop2 μ-loop2 Inv-loop μ-loop Inv-classes μ-classes
+add-e-3 c = search needs
+
+classes-less-3 : tie.Need-classes-less-3 Inv-loop2 μ-loop2 Inv-loop μ-loop Inv-classes μ-classes
+classes-less-3 c = search needs
+
+-- the class whose facts are searched
+abbrev class-of : tie.At-loop Inv-loop2 μ-loop2 Inv-loop μ-loop Inv-classes μ-classes → tie.In-classes Inv-loop2 μ-loop2 Inv-loop μ-loop Inv-classes μ-classes
+class-of c = c .before .before .before .before .before .before .before .before .before .before
+
+abbrev given-of : tie.At-loop Inv-loop2 μ-loop2 Inv-loop μ-loop Inv-classes μ-classes → Structure
+given-of c = given (class-of c .before .before .before .before)
+
+abbrev el-of : tie.At-loop Inv-loop2 μ-loop2 Inv-loop μ-loop Inv-classes μ-classes → ℕ
+el-of c = class-of c .before .classes .e
+
+abbrev types-of : tie.At-loop Inv-loop2 μ-loop2 Inv-loop μ-loop Inv-classes μ-classes → Facts
+types-of c = c .before .before .before .concrete-types-of .result
+
+-- its first fact, and the fact j
+abbrev first-of : tie.At-loop Inv-loop2 μ-loop2 Inv-loop μ-loop Inv-classes μ-classes → code.Fact
+first-of c = getD (types-of c .items) 0 noFact
+
+abbrev fact-of : tie.At-loop Inv-loop2 μ-loop2 Inv-loop μ-loop Inv-classes μ-classes → code.Fact
+fact-of c = getD (types-of c .items) (c .loop .j) noFact
+
+-- its conflict is that among these facts
+among : (c : tie.At-loop Inv-loop2 μ-loop2 Inv-loop μ-loop Inv-classes μ-classes) → conflictAmong (given-of c .links) (el-of c) (factsOf (types-of c)) ≡ conflictAt (given-of c) (el-of c)
+among c =
+    let asked = c .before .before .before in
+    let counted = asked .before .before in
+    let two : 2 ≤ length (factsAt (el-of c) (given-of c .facts)) = omega (arith, asked .before .if2 .left, counted .count-at .ensures) in
+    ap (conflictAmong (given-of c .links) (el-of c)) (asked .concrete-types-of .ensures) ∙ two-facts (given-of c) (el-of c) (root (counted .before)) two
+
+-- a conflict is put at the end, and the class is done
+pushed : (c : tie.At-loop Inv-loop2 μ-loop2 Inv-loop μ-loop Inv-classes μ-classes) {x : Conflict} (out next : TypeConflicts) (e : ℕ) → e ≡ el-of c → out ≡ class-of c .before .classes .conflicts
+    → conflictsOf next ≡ pushOf maxEls (conflictsOf out) x → x ∷ [] ≡ conflictAmong (given-of c .links) (el-of c) (factsOf (types-of c))
+    → (e + 1 ≤ class-of c .before .before .before .size .result) × (conflictsOf next ≡ conflictsBelow (given-of c) (e + 1))
+pushed c {x} out next e here same p q =
+    let class = class-of c in
+    let room : el-of c < maxEls = omega (arith, class .classes-test .taken, class .before .before .before .size .ensures .most) in
+    let p′ = p ∙ ap (λ (t : TypeConflicts). pushOf maxEls (conflictsOf t) x) same in (
+      omega (arith, here, class .classes-test .taken),
+      class-pushed _ _ _ (class .before .classes .inv .1) room p′ (q ∙ among c) ∙ ap (λ (k : ℕ). conflictsBelow (given-of c) (k + 1)) (sym here),
+    )
+
+-- the fact j is in the table
+at : (c : tie.In-loop Inv-loop2 μ-loop2 Inv-loop μ-loop Inv-classes μ-classes) → c .before .loop .j < length (factsOf (types-of (c .before)))
+at c = omega (arith, c .before .before .before .size2 .ensures .is, c .loop-test .taken)
+
+classes-again-3 : tie.Need-classes-again-3 Inv-loop2 μ-loop2 Inv-loop μ-loop Inv-classes μ-classes
+classes-again-3 c =
+    let other = c .before .before .before .before .before in
+    let l = other .before in
+    let f = factOf (first-of l) in
+    let g = factOf (fact-of l) in
+    let ls = given-of l .links in
+    let found = facts-conflict ls (el-of l) f (types-of l) _ (l .loop .inv .1 .1) (at other) (other-type ls f g (c .before .if3 .taken)) in
+    pushed l (l .loop .conflicts) (c .push .result) (l .loop .e) (l .loop .inv .0) (l .loop .inv .1 .0) (c .push .ensures) found
+
+size-requires-3 : tie.Need-size-requires-3 Inv-loop2 μ-loop2 Inv-loop μ-loop Inv-classes μ-classes
+size-requires-3 c κs = search needs
+
+size-requires-4 : tie.Need-size-requires-4 Inv-loop2 μ-loop2 Inv-loop μ-loop Inv-classes μ-classes
+size-requires-4 c κs = search needs
+
+loop2-holds : tie.Need-loop2-holds Inv-loop2 μ-loop2 Inv-loop μ-loop Inv-classes μ-classes
+loop2-holds c = (refl, (refl, refl))
+
+add-i : tie.Need-add-i Inv-loop2 μ-loop2 Inv-loop μ-loop Inv-classes μ-classes
+add-i c = search needs
+
+loop2-less : tie.Need-loop2-less Inv-loop2 μ-loop2 Inv-loop μ-loop Inv-classes μ-classes
+loop2-less c = search needs
+
+-- the search at which parents are compared, and the parents
+abbrev search-of : tie.At-loop2 Inv-loop2 μ-loop2 Inv-loop μ-loop Inv-classes μ-classes → tie.In-loop Inv-loop2 μ-loop2 Inv-loop μ-loop Inv-classes μ-classes
+search-of c = c .before .before .before .before .before .before .before .before .before
+
+abbrev ps-of : tie.At-loop2 Inv-loop2 μ-loop2 Inv-loop μ-loop Inv-classes μ-classes → ElIds
+ps-of c = first-of (search-of c .before) .ct .parents
+
+abbrev qs-of : tie.At-loop2 Inv-loop2 μ-loop2 Inv-loop μ-loop Inv-classes μ-classes → ElIds
+qs-of c = fact-of (search-of c .before) .ct .parents
+
+abbrev links-of : tie.At-loop2 Inv-loop2 μ-loop2 Inv-loop μ-loop Inv-classes μ-classes → List ℕ
+links-of c = given-of (search-of c .before) .links
+
+abbrev noEl : ElId
+noEl = record { 0 = 0 }
+
+loop2-again : tie.Need-loop2-again Inv-loop2 μ-loop2 Inv-loop μ-loop Inv-classes μ-classes
+loop2-again c =
+    let l = c .before .before in
+    let past : length (elsOf (qs-of l)) ≤ l .loop2 .i = omega (arith, l .before .size4 .ensures .is, c .if4 .taken) in
+    (l .loop2 .inv .0, (l .loop2 .inv .1 .0, parents-past (links-of l) (ps-of l) (qs-of l) _ (l .loop2 .inv .1 .1) past))
+
+mul-find : tie.Need-mul-find Inv-loop2 μ-loop2 Inv-loop μ-loop Inv-classes μ-classes
+mul-find c = search needs
+
+element-copy-out-find :
+    tie.Need-element-copy-out-find Inv-loop2 μ-loop2 Inv-loop μ-loop Inv-classes μ-classes
+element-copy-out-find c = search needs
+
+find-requires-2 : tie.Need-find-requires-2 Inv-loop2 μ-loop2 Inv-loop μ-loop Inv-classes μ-classes
+find-requires-2 c κs = search needs
+
+mul-find-2 : tie.Need-mul-find-2 Inv-loop2 μ-loop2 Inv-loop μ-loop Inv-classes μ-classes
+mul-find-2 c = search needs
+
+element-copy-out-find-2 :
+    tie.Need-element-copy-out-find-2 Inv-loop2 μ-loop2 Inv-loop μ-loop Inv-classes μ-classes
+element-copy-out-find-2 c = search needs
+
+find-requires-3 : tie.Need-find-requires-3 Inv-loop2 μ-loop2 Inv-loop μ-loop Inv-classes μ-classes
+find-requires-3 c κs = search needs
+
+push-requires-2 : tie.Need-push-requires-2 Inv-loop2 μ-loop2 Inv-loop μ-loop Inv-classes μ-classes
+push-requires-2 c κs = search needs
+
+-- the class is still the one that was searched
+abbrev parents-of : tie.After-push2 Inv-loop2 μ-loop2 Inv-loop μ-loop Inv-classes μ-classes → tie.At-loop2 Inv-loop2 μ-loop2 Inv-loop μ-loop Inv-classes μ-classes
+parents-of c = c .before .before .before .before .before .before .before .before .before .before
+
+still : (c : tie.After-push2 Inv-loop2 μ-loop2 Inv-loop μ-loop Inv-classes μ-classes) → parents-of c .loop2 .e ≡ el-of (search-of (parents-of c) .before)
+still c = parents-of c .loop2 .inv .0 ∙ search-of (parents-of c) .before .loop .inv .0
+
+add-e-4 : tie.Need-add-e-4 Inv-loop2 μ-loop2 Inv-loop μ-loop Inv-classes μ-classes
+add-e-4 c =
+    let class = class-of (search-of (parents-of c) .before) in
+    omega (arith, still c, class .classes-test .taken, class .before .before .before .size .ensures .most)
+
+classes-less-4 : tie.Need-classes-less-4 Inv-loop2 μ-loop2 Inv-loop μ-loop Inv-classes μ-classes
+classes-less-4 c =
+    let class = class-of (search-of (parents-of c) .before) in
+    omega (arith, still c, class .classes-test .taken)
+
+-- both lists have a parent i
+ps-at : (c : tie.In-loop2 Inv-loop2 μ-loop2 Inv-loop μ-loop Inv-classes μ-classes) → c .before .loop2 .i < length (elsOf (ps-of (c .before)))
+ps-at c = omega (arith, c .before .before .before .size3 .ensures .is, c .loop2-test .taken)
+
+qs-at : (c : tie.Else4 Inv-loop2 μ-loop2 Inv-loop μ-loop Inv-classes μ-classes) → c .before .before .loop2 .i < length (elsOf (qs-of (c .before .before)))
+qs-at c = omega (arith, c .before .before .before .size4 .ensures .is, c .if4 .left)
+
+classes-again-4 : tie.Need-classes-again-4 Inv-loop2 μ-loop2 Inv-loop μ-loop Inv-classes μ-classes
+unfolding findOf
+classes-again-4 c =
+    let found = c .before .before .before .before in
+    let other = found .before .before .before .before in
+    let l2 = other .before .before in
+    let so = search-of l2 in
+    let l = so .before in
+    let ls = links-of l2 in
+    let f = factOf (first-of l) in
+    let g = factOf (fact-of l) in
+    let same-p = ap (λ (x : FindM). x .root) (found .before .before .find2 .ensures) in
+    let same-q = ap (λ (x : FindM). x .root) (found .find3 .ensures) in
+    let differ = parents-differ ls (ps-of l2) (qs-of l2) _ (l2 .loop2 .inv .1 .1) noEl (ps-at (other .before)) (qs-at other) (λ h. c .before .if5 .taken (same-p ∙ h ∙ sym same-q)) in
+    let type = l2 .before .before .before .before .before .if3 .left in
+    let conflict = facts-conflict ls (el-of l) f (types-of l) _ (l .loop .inv .1 .1) (at so) (other-parents ls f g type differ) in
+    pushed l (l2 .loop2 .conflicts) (c .push2 .result) (l2 .loop2 .e) (l2 .loop2 .inv .0 ∙ l .loop .inv .0) (l2 .loop2 .inv .1 .0 ∙ l .loop .inv .1 .0) (c .push2 .ensures) conflict
+
+add-i-2 : tie.Need-add-i-2 Inv-loop2 μ-loop2 Inv-loop μ-loop Inv-classes μ-classes
+add-i-2 c = search needs
+
+loop2-less-2 : tie.Need-loop2-less-2 Inv-loop2 μ-loop2 Inv-loop μ-loop Inv-classes μ-classes
+loop2-less-2 c = search needs
+
+loop2-again-2 : tie.Need-loop2-again-2 Inv-loop2 μ-loop2 Inv-loop μ-loop Inv-classes μ-classes
+unfolding findOf
+loop2-again-2 c =
+    let found = c .before .before .before in
+    let other = found .before .before .before .before in
+    let l2 = other .before .before in
+    let same-p = ap (λ (x : FindM). x .root) (found .before .before .find2 .ensures) in
+    let same-q = ap (λ (x : FindM). x .root) (found .find3 .ensures) in
+    let match = parents-match (links-of l2) (ps-of l2) (qs-of l2) _ (l2 .loop2 .inv .1 .1) noEl (ps-at (other .before)) (qs-at other) (sym same-p ∙ c .if5 .left ∙ same-q) in
+    (l2 .loop2 .inv .0, (l2 .loop2 .inv .1 .0, match))
+
+add-j : tie.Need-add-j Inv-loop2 μ-loop2 Inv-loop μ-loop Inv-classes μ-classes
+add-j c = search needs
+
+loop-less : tie.Need-loop-less Inv-loop2 μ-loop2 Inv-loop μ-loop Inv-classes μ-classes
+loop-less c = search needs
+
+loop-again : tie.Need-loop-again Inv-loop2 μ-loop2 Inv-loop μ-loop Inv-classes μ-classes
+loop-again c =
+    let l2 = c .before in
+    let so = search-of l2 in
+    let l = so .before in
+    let ls = links-of l2 in
+    let f = factOf (first-of l) in
+    let g = factOf (fact-of l) in
+    let done : length (elsOf (ps-of l2)) ≤ l2 .loop2 .i = omega (arith, l2 .before .before .size3 .ensures .is, c .loop2-test .left) in
+    let type = l2 .before .before .before .before .before .if3 .left in
+    let agree = all-alike ls f g type (parents-done ls (ps-of l2) (qs-of l2) _ (l2 .loop2 .inv .1 .1) done) in
+    (l2 .loop2 .inv .0 ∙ l .loop .inv .0, (l2 .loop2 .inv .1 .0 ∙ l .loop .inv .1 .0, facts-agree ls (el-of l) f (types-of l) _ (l .loop .inv .1 .1) (at so) agree))
+
+add-e-5 : tie.Need-add-e-5 Inv-loop2 μ-loop2 Inv-loop μ-loop Inv-classes μ-classes
+add-e-5 c = search needs
+
+classes-less-5 : tie.Need-classes-less-5 Inv-loop2 μ-loop2 Inv-loop μ-loop Inv-classes μ-classes
+classes-less-5 c = search needs
+
+classes-again-5 : tie.Need-classes-again-5 Inv-loop2 μ-loop2 Inv-loop μ-loop Inv-classes μ-classes
+classes-again-5 c =
+    let l = c .before in
+    let class = class-of l in
+    let e = l .loop .inv .0 in
+    let done : length (factsOf (types-of l)) ≤ l .loop .j = omega (arith, l .before .before .size2 .ensures .is, c .loop-test .left) in
+    let none = facts-done (given-of l .links) (el-of l) (factOf (first-of l)) (types-of l) _ (l .loop .inv .1 .1) done ∙ among l in (
+      omega (arith, e, class .classes-test .taken),
+      ap (λ (t : TypeConflicts). conflictsOf t) (l .loop .inv .1 .0) ∙ class-clear _ _ _ (class .before .classes .inv .1) none ∙ ap (λ (k : ℕ). conflictsBelow (given-of l) (k + 1)) (sym e),
+    )
+
+returns : tie.Need-returns Inv-loop2 μ-loop2 Inv-loop μ-loop Inv-classes μ-classes
+unfolding conflictsIn typeConflicts
+returns c =
+    let class = c .before in
+    let sized = class .before .before in
+    let all : class .classes .e ≡ length (linksOf (sized .before .args .unification)) = omega (arith, class .classes .inv .0, c .classes-test .left, sized .size .ensures .is) in
+    class .classes .inv .1 ∙ ap (conflictsBelow (given (sized .before))) all
+
+pub find-conflicts-spec : {M : Type 1} → statement M
+find-conflicts-spec =
+    tie.close
+    (tie.spec
+    Inv-loop2
+    μ-loop2
+    Inv-loop
+    μ-loop
+    Inv-classes
+    μ-classes
+    size-requires
+    new-requires
+    classes-holds
+    cast-number
+    find-requires
+    add-e
+    classes-less
+    classes-again
+    count-at-requires
+    add-e-2
+    classes-less-2
+    classes-again-2
+    concrete-types-of-requires
+    size-requires-2
+    element-copy-out-a
+    loop-holds
+    mul-b
+    element-copy-out-b
+    push-requires
+    add-e-3
+    classes-less-3
+    classes-again-3
+    size-requires-3
+    size-requires-4
+    loop2-holds
+    add-i
+    loop2-less
+    loop2-again
+    mul-find
+    element-copy-out-find
+    find-requires-2
+    mul-find-2
+    element-copy-out-find-2
+    find-requires-3
+    push-requires-2
+    add-e-4
+    classes-less-4
+    classes-again-4
+    add-i-2
+    loop2-less-2
+    loop2-again-2
+    add-j
+    loop-less
+    loop-again
+    add-e-5
+    classes-less-5
+    classes-again-5
+    returns)

@@ -1,0 +1,25 @@
+-- `type_conflicts` meets its contract.
+use mathlib.Core.Path.{_∙_}
+use Rattle.ids.specs.Answers.{accepted, outcome, decided}
+use Rattle.semantics.specs.Calls.{conflicts}
+use Rattle.structure.specs.View.{structureOf}
+use Rattle.conflicts.proofs.Laws.{conflicts-bare}
+use borrow.Author.Needs.{needs}
+use Rattle.conflicts.proofs.type_conflicts.Statement.{statement}
+use Rattle.conflicts.proofs.type_conflicts.Tie as tie
+
+find-conflicts-requires : tie.Need-find-conflicts-requires
+find-conflicts-requires c κs = search needs
+
+accept-requires : tie.Need-accept-requires
+accept-requires c κs = search needs
+
+returns : tie.Need-returns
+unfolding conflicts outcome decided
+returns c =
+    let s = structureOf (c .before .before .before .before .args .structure) in
+    let all = c .before .find-conflicts .ensures ∙ conflicts-bare s in
+    λ k. record { answer = accepted (all k); left = c .accept .ensures k }
+
+pub type-conflicts-spec : {M : Type 1} → statement M
+type-conflicts-spec = tie.close (tie.spec find-conflicts-requires accept-requires returns)
