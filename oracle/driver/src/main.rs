@@ -28,7 +28,7 @@ driver standin [FAULT]                the stand-in's answers, right or with a nu
 driver show                           the stream on standard input as text
 driver run N SEED [COMMAND [ARG]...]  the fixed histories and N random ones through all sides
 driver mutants N SEED                 which wrong versions these histories tell apart
-driver sample DIRECTORY               writes sample.in and sample.out there";
+driver sample DIRECTORY               writes stdin and stdout there";
 
 /// Histories that are answered at a time.
 const BATCH: u64 = 1000;
@@ -201,7 +201,7 @@ impl std::fmt::Display for Tally {
 fn write_sample(directory: &Path) -> bool {
     let stream = stream_of(&histories(SAMPLE.0, SAMPLE.1));
     let answers = stream::answer(&stream);
-    println!("sample.in {} bytes, sample.out {} bytes", stream.len(), answers.len());
-    fs::write(directory.join("sample.in"), stream).is_ok()
-        && fs::write(directory.join("sample.out"), answers).is_ok()
+    println!("stdin {} bytes, stdout {} bytes", stream.len(), answers.len());
+    fs::write(directory.join("stdin"), stream).is_ok()
+        && fs::write(directory.join("stdout"), answers).is_ok()
 }

@@ -281,9 +281,9 @@ fn a_difference_is_found_and_made_small() {
 
 #[test]
 fn the_sample_is_what_the_oracle_answers() {
-    let directory = Path::new(env!("CARGO_MANIFEST_DIR")).join("../sample");
-    let input = fs::read(directory.join("sample.in")).expect("the sample is there");
-    let output = fs::read_to_string(directory.join("sample.out")).expect("the sample is there");
+    let directory = Path::new(env!("CARGO_MANIFEST_DIR")).join("../../crates/replay");
+    let input = fs::read(directory.join("stdin")).expect("the sample is there");
+    let output = fs::read_to_string(directory.join("stdout")).expect("the sample is there");
     assert!(input == stream_of(&histories(SAMPLE.0, SAMPLE.1)), "make the sample again");
     assert!(output == stream::answer(&input), "make the sample again");
 }

@@ -1,0 +1,103 @@
+-- `carry_out` meets its contract.
+use mathlib.Core.Path.{_≡_, ap, _∙_}
+use mathlib.Core.Option.{Option, none}
+use mathlib.Core.Logic.{⊎-elim}
+use native.Mathlib.Omega.{arith}
+use Rattle.ids.proofs.Tests.{holds, fails}
+use Rattle.semantics.specs.Calls.{Step}
+use Rattle.semantics.specs.Sheet.{Form, forms, formOf, closeForm, conflictsForm, callOf, carryOut}
+use Rattle.records.specs.View.{recordView}
+use Rattle.carrying.specs.View.{machineOf, formStep}
+use Rattle.carrying.proofs.Laws.{of-kind, fitting, unfitting, low, past}
+use borrow.Author.Needs.{needs}
+use Rattle.carrying.proofs.carry_out.Statement.{statement}
+use Rattle.carrying.proofs.carry_out.Tie as tie
+
+fits-requires : tie.Need-fits-requires
+fits-requires c κs = search needs
+
+answered-requires : tie.Need-answered-requires
+answered-requires c κs = search needs
+
+returns : tie.Need-returns
+unfolding callOf carryOut
+returns c =
+    let fitted = c .before .before in
+    let a = fitted .before .args in
+    let not = fails (fitted .fits2 .ensures) (c .before .if1 .taken) in
+    c .answered .ensures ∙ unfitting (recordView (a .given)) (machineOf (a .machine)) (formOf (a .given .kind)) not
+
+-- a record that fits is carried out by the call of its form
+carries : (c : tie.Else1) {s : Step} → let a = c .before .before .args in
+    s ≡ formStep (formOf (a .given .kind)) (recordView (a .given)) (machineOf (a .machine))
+    → s ≡ carryOut (callOf (recordView (a .given))) (machineOf (a .machine))
+unfolding callOf
+carries c e =
+    let a = c .before .before .args in
+    let fits = holds (c .before .fits2 .ensures) (c .if1 .left) in
+    e ∙ fitting (recordView (a .given)) (machineOf (a .machine)) (formOf (a .given .kind)) fits
+
+run-close-requires : tie.Need-run-close-requires
+run-close-requires c κs = search needs
+
+find-conflicts-requires : tie.Need-find-conflicts-requires
+find-conflicts-requires c κs = search needs
+
+declare-requires : tie.Need-declare-requires
+declare-requires c κs = (c .before .if2 .left, omega (arith, c .if3 .taken))
+
+state-requires : tie.Need-state-requires
+state-requires c κs = (c .before .if3 .left, omega (arith, c .if4 .taken))
+
+answered-requires-2 : tie.Need-answered-requires-2
+answered-requires-2 c κs = search needs
+
+returns-2 : tie.Need-returns-2
+unfolding forms formOf formStep closeForm
+returns-2 c =
+    let else1 = c .before .before in
+    let a = else1 .before .before .args in
+    carries else1 (c .run-close .ensures ∙ of-kind (recordView (a .given)) (machineOf (a .machine)) (c .before .match .keys1))
+
+returns-3 : tie.Need-returns-3
+unfolding forms formOf formStep conflictsForm
+returns-3 c =
+    let else1 = c .before .before in
+    let a = else1 .before .before .args in
+    carries else1 (c .find-conflicts .ensures ∙ of-kind (recordView (a .given)) (machineOf (a .machine)) (c .before .match .keys2))
+
+returns-4 : tie.Need-returns-4
+returns-4 c = carries (c .before .before .before .before) (c .declare .ensures)
+
+returns-5 : tie.Need-returns-5
+returns-5 c = carries (c .before .before .before .before .before) (c .state .ensures)
+
+returns-6 : tie.Need-returns-6
+unfolding formStep carryOut
+returns-6 c =
+    let rest = c .before .before in
+    let else1 = rest .before in
+    let a = else1 .before .before .args in
+    let not = rest .match .rest in
+    let formless : none ≡ formOf (a .given .kind) =
+    ⊎-elim (λ w. low (w .taken)) (λ w. past (w .2 .left) (not .0 .1) (not .1)) (c .before .if2 .came) in
+    carries else1
+    (c .answered2 .ensures ∙ ap (λ (o : Option Form). formStep o (recordView (a .given)) (machineOf (a .machine))) formless)
+
+pub carry-out-spec : {M : Type 1} → statement M
+carry-out-spec =
+    tie.close
+    (tie.spec
+    fits-requires
+    answered-requires
+    returns
+    run-close-requires
+    find-conflicts-requires
+    declare-requires
+    state-requires
+    answered-requires-2
+    returns-2
+    returns-3
+    returns-4
+    returns-5
+    returns-6)

@@ -1,0 +1,63 @@
+-- `declare` meets its contract.
+use mathlib.Core.Path.{_∙_}
+use Rattle.semantics.specs.Sheet.{forms, formOf}
+use Rattle.records.specs.View.{recordView}
+use Rattle.carrying.specs.View.{machineOf, formStep}
+use Rattle.carrying.proofs.Laws.{of-kind, only-five}
+use borrow.Author.Needs.{needs}
+use Rattle.carrying.proofs.declare.Statement.{statement}
+use Rattle.carrying.proofs.declare.Tie as tie
+
+push-type-requires : tie.Need-push-type-requires
+push-type-requires c κs = search needs
+
+push-pred-requires : tie.Need-push-pred-requires
+push-pred-requires c κs = search needs
+
+push-func-requires : tie.Need-push-func-requires
+push-func-requires c κs = search needs
+
+push-model-requires : tie.Need-push-model-requires
+push-model-requires c κs = search needs
+
+push-mor-app-func-requires : tie.Need-push-mor-app-func-requires
+push-mor-app-func-requires c κs = search needs
+
+returns : tie.Need-returns
+unfolding forms formOf formStep
+returns c = let a = c .before .before .args in c .push-type .ensures ∙ of-kind (recordView (a .given)) (machineOf (a .machine)) (c .before .match .keys1)
+
+returns-2 : tie.Need-returns-2
+unfolding forms formOf formStep
+returns-2 c = let a = c .before .before .args in c .push-pred .ensures ∙ of-kind (recordView (a .given)) (machineOf (a .machine)) (c .before .match .keys2)
+
+returns-3 : tie.Need-returns-3
+unfolding forms formOf formStep
+returns-3 c = let a = c .before .before .args in c .push-func .ensures ∙ of-kind (recordView (a .given)) (machineOf (a .machine)) (c .before .match .keys3)
+
+returns-4 : tie.Need-returns-4
+unfolding forms formOf formStep
+returns-4 c = let a = c .before .before .args in c .push-model .ensures ∙ of-kind (recordView (a .given)) (machineOf (a .machine)) (c .before .match .keys4)
+
+returns-5 : tie.Need-returns-5
+unfolding forms formOf formStep
+returns-5 c =
+    let start = c .before .before in
+    let a = start .args in
+    let not = c .before .match .rest in
+    c .push-mor-app-func .ensures ∙ of-kind (recordView (a .given)) (machineOf (a .machine)) (only-five (start .pre) (not .0 .0 .0 .1) (not .0 .0 .1) (not .0 .1) (not .1))
+
+pub declare-spec : {M : Type 1} → statement M
+declare-spec =
+    tie.close
+    (tie.spec
+    push-type-requires
+    push-pred-requires
+    push-func-requires
+    push-model-requires
+    push-mor-app-func-requires
+    returns
+    returns-2
+    returns-3
+    returns-4
+    returns-5)

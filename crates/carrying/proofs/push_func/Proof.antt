@@ -1,0 +1,44 @@
+-- `push_func` meets its contract.
+use mathlib.Core.Path.{_∙_}
+use Rattle.signature.specs.Model.{sigOf}
+use Rattle.signature.specs.Calls.{pushFunc}
+use Rattle.semantics.specs.Calls.{step, onSig, number}
+use Rattle.semantics.specs.Sheet.{funcForm}
+use Rattle.carrying.specs.View.{machineOf}
+use borrow.Author.Needs.{needs}
+use Rattle.carrying.proofs.push_func.Statement.{statement}
+use Rattle.carrying.proofs.push_func.Tie as tie
+
+types-in-requires : tie.Need-types-in-requires
+types-in-requires c κs = search needs
+
+types-in-requires-2 : tie.Need-types-in-requires-2
+types-in-requires-2 c κs = search needs
+
+push-func-requires : tie.Need-push-func-requires
+push-func-requires c κs = search needs
+
+after-declaring-requires : tie.Need-after-declaring-requires
+after-declaring-requires c κs = search needs
+
+returns : tie.Need-returns
+unfolding step funcForm
+returns c =
+    let a = c .before .before .before .before .before .before .before .before .args in
+    let m = a .machine in
+    let made = c .before .push-func .ensures ∙ (λ i. pushFunc (m .structure .started) (sigOf (m .signature)) (record {
+      parents = c .before .before .before .types-in .ensures i;
+      domain = c .before .before .types-in2 .ensures i;
+      codomain = a .given .b;
+    })) in
+    c .after-declaring .ensures ∙ (λ i. onSig number (machineOf m) (made i))
+
+pub push-func-spec : {M : Type 1} → statement M
+push-func-spec =
+    tie.close
+    (tie.spec
+    types-in-requires
+    types-in-requires-2
+    push-func-requires
+    after-declaring-requires
+    returns)

@@ -1,0 +1,42 @@
+-- `push_pred` meets its contract.
+use mathlib.Core.Path.{_∙_}
+use Rattle.signature.specs.Model.{sigOf}
+use Rattle.signature.specs.Calls.{pushPred}
+use Rattle.semantics.specs.Calls.{step, onSig, number}
+use Rattle.semantics.specs.Sheet.{predForm}
+use Rattle.carrying.specs.View.{machineOf}
+use borrow.Author.Needs.{needs}
+use Rattle.carrying.proofs.push_pred.Statement.{statement}
+use Rattle.carrying.proofs.push_pred.Tie as tie
+
+types-in-requires : tie.Need-types-in-requires
+types-in-requires c κs = search needs
+
+types-in-requires-2 : tie.Need-types-in-requires-2
+types-in-requires-2 c κs = search needs
+
+push-pred-requires : tie.Need-push-pred-requires
+push-pred-requires c κs = search needs
+
+after-declaring-requires : tie.Need-after-declaring-requires
+after-declaring-requires c κs = search needs
+
+returns : tie.Need-returns
+unfolding step predForm
+returns c =
+    let m = c .before .before .before .before .before .before .before .before .args .machine in
+    let made = c .before .push-pred .ensures ∙ (λ i. pushPred (m .structure .started) (sigOf (m .signature)) (record {
+      parents = c .before .before .before .types-in .ensures i;
+      arity = c .before .before .types-in2 .ensures i;
+    })) in
+    c .after-declaring .ensures ∙ (λ i. onSig number (machineOf m) (made i))
+
+pub push-pred-spec : {M : Type 1} → statement M
+push-pred-spec =
+    tie.close
+    (tie.spec
+    types-in-requires
+    types-in-requires-2
+    push-pred-requires
+    after-declaring-requires
+    returns)

@@ -1,0 +1,42 @@
+-- `push_type` meets its contract.
+use mathlib.Core.Path.{_∙_}
+use Rattle.signature.specs.Model.{sigOf}
+use Rattle.signature.specs.Calls.{pushType}
+use Rattle.semantics.specs.Calls.{step, onSig, number}
+use Rattle.semantics.specs.Sheet.{typeForm}
+use Rattle.carrying.specs.View.{machineOf}
+use borrow.Author.Needs.{needs}
+use Rattle.carrying.proofs.push_type.Statement.{statement}
+use Rattle.carrying.proofs.push_type.Tie as tie
+
+type-kind-requires : tie.Need-type-kind-requires
+type-kind-requires c κs = search needs
+
+types-in-requires : tie.Need-types-in-requires
+types-in-requires c κs = search needs
+
+push-type-requires : tie.Need-push-type-requires
+push-type-requires c κs = search needs
+
+after-declaring-requires : tie.Need-after-declaring-requires
+after-declaring-requires c κs = search needs
+
+returns : tie.Need-returns
+unfolding step typeForm
+returns c =
+    let m = c .before .before .before .before .before .before .before .args .machine in
+    let made = c .before .push-type .ensures ∙ (λ i. pushType (m .structure .started) (sigOf (m .signature)) (record {
+      kind = c .before .before .before .type-kind .ensures i;
+      parents = c .before .before .types-in .ensures i;
+    })) in
+    c .after-declaring .ensures ∙ (λ i. onSig number (machineOf m) (made i))
+
+pub push-type-spec : {M : Type 1} → statement M
+push-type-spec =
+    tie.close
+    (tie.spec
+    type-kind-requires
+    types-in-requires
+    push-type-requires
+    after-declaring-requires
+    returns)

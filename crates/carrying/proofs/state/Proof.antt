@@ -1,0 +1,81 @@
+-- `state` meets its contract.
+use mathlib.Core.Path.{_∙_}
+use Rattle.semantics.specs.Sheet.{forms, formOf}
+use Rattle.records.specs.View.{recordView}
+use Rattle.carrying.specs.View.{machineOf, formStep}
+use Rattle.carrying.proofs.Laws.{of-kind, only-twelve}
+use borrow.Author.Needs.{needs}
+use Rattle.carrying.proofs.state.Statement.{statement}
+use Rattle.carrying.proofs.state.Tie as tie
+
+push-el-requires : tie.Need-push-el-requires
+push-el-requires c κs = search needs
+
+equate-requires : tie.Need-equate-requires
+equate-requires c κs = search needs
+
+impose-type-requires : tie.Need-impose-type-requires
+impose-type-requires c κs = search needs
+
+apply-func-requires : tie.Need-apply-func-requires
+apply-func-requires c κs = search needs
+
+apply-pred-requires : tie.Need-apply-pred-requires
+apply-pred-requires c κs = search needs
+
+bind-var-requires : tie.Need-bind-var-requires
+bind-var-requires c κs = search needs
+
+bind-ambient-requires : tie.Need-bind-ambient-requires
+bind-ambient-requires c κs = search needs
+
+returns : tie.Need-returns
+unfolding forms formOf formStep
+returns c = let a = c .before .before .args in c .push-el .ensures ∙ of-kind (recordView (a .given)) (machineOf (a .machine)) (c .before .match .keys1)
+
+returns-2 : tie.Need-returns-2
+unfolding forms formOf formStep
+returns-2 c = let a = c .before .before .args in c .equate .ensures ∙ of-kind (recordView (a .given)) (machineOf (a .machine)) (c .before .match .keys2)
+
+returns-3 : tie.Need-returns-3
+unfolding forms formOf formStep
+returns-3 c = let a = c .before .before .args in c .impose-type .ensures ∙ of-kind (recordView (a .given)) (machineOf (a .machine)) (c .before .match .keys3)
+
+returns-4 : tie.Need-returns-4
+unfolding forms formOf formStep
+returns-4 c = let a = c .before .before .args in c .apply-func .ensures ∙ of-kind (recordView (a .given)) (machineOf (a .machine)) (c .before .match .keys4)
+
+returns-5 : tie.Need-returns-5
+unfolding forms formOf formStep
+returns-5 c = let a = c .before .before .args in c .apply-pred .ensures ∙ of-kind (recordView (a .given)) (machineOf (a .machine)) (c .before .match .keys5)
+
+returns-6 : tie.Need-returns-6
+unfolding forms formOf formStep
+returns-6 c = let a = c .before .before .args in c .bind-var .ensures ∙ of-kind (recordView (a .given)) (machineOf (a .machine)) (c .before .match .keys6)
+
+returns-7 : tie.Need-returns-7
+unfolding forms formOf formStep
+returns-7 c =
+    let start = c .before .before in
+    let a = start .args in
+    let not = c .before .match .rest in
+    c .bind-ambient .ensures ∙ of-kind (recordView (a .given)) (machineOf (a .machine)) (only-twelve (start .pre) (not .0 .0 .0 .0 .0 .1) (not .0 .0 .0 .0 .1) (not .0 .0 .0 .1) (not .0 .0 .1) (not .0 .1) (not .1))
+
+pub state-spec : {M : Type 1} → statement M
+state-spec =
+    tie.close
+    (tie.spec
+    push-el-requires
+    equate-requires
+    impose-type-requires
+    apply-func-requires
+    apply-pred-requires
+    bind-var-requires
+    bind-ambient-requires
+    returns
+    returns-2
+    returns-3
+    returns-4
+    returns-5
+    returns-6
+    returns-7)

@@ -1,0 +1,34 @@
+-- A machine, and what a record that is carried out answers, as the definitions speak of them.
+use mathlib.Core.List.{List}
+use mathlib.Core.Option.{Option, none, some}
+use Rattle.signature.specs.Model.{sigOf}
+use Rattle.semantics.specs.Conflicts.{Conflict}
+use Rattle.semantics.specs.Calls as calls
+use Rattle.semantics.specs.Sheet as sheet
+use Rattle.semantics.specs.Sheet.{Form}
+use Rattle.close.specs.View.{closedOf}
+use Rattle.structure.specs.View.{structureOf}
+use Rattle.conflicts.specs.View.{conflictsOf}
+use Rattle.carrying.specs.declared.Machine.{Machine}
+use Rattle.carrying.specs.declared.Answer.{Answer}
+use Rattle.carrying.specs.declared.Answer.the-variants as answers
+use Rattle.carrying.specs.declared.Carried.{Carried}
+
+abbrev pub machineOf : Machine → calls.Machine
+machineOf m = record { sig = sigOf (m .signature); structure = structureOf (m .structure) }
+
+abbrev pub answerOf : List Conflict → Answer → calls.Answer
+answerOf cs (answers.Number n) = calls.number n
+answerOf cs (answers.Says b) = calls.says b
+answerOf cs answers.Done = calls.done
+answerOf cs (answers.Closed c) = calls.closed (closedOf c)
+answerOf cs answers.Conflicting = calls.conflicting cs
+answerOf cs (answers.Refused n) = calls.refuse n
+
+abbrev pub stepOf : Carried → calls.Step
+stepOf r = record { answer = answerOf (conflictsOf (r .conflicts)) (r .answer); after = machineOf (r .machine) }
+
+-- what a record that fits its kind's form answers
+unfoldable pub formStep : Option Form → sheet.Record → calls.Machine → calls.Step
+formStep none r m = sheet.carryOut none m
+formStep (some f) r m = calls.step (f .call r) m

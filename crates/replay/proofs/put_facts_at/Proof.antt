@@ -1,0 +1,58 @@
+-- `put_facts_at` is safe and ends.
+use Prim.Native.Nat.{_-_}
+use borrow.Author.Needs.{needs}
+use Rattle.replay.proofs.put_facts_at.Statement.{statement}
+use Rattle.replay.proofs.put_facts_at.Tie as tie
+
+abbrev Inv-loop : tie.InvT-loop
+Inv-loop text₀ el facts n₀ first k i₀ text n i = Unit {0}
+
+abbrev μ-loop : tie.MeasureT-loop
+μ-loop text₀ el facts n₀ first k i₀ text n i = k - i
+
+size-requires : tie.Need-size-requires Inv-loop μ-loop
+size-requires c κs = search needs
+
+loop-holds : tie.Need-loop-holds Inv-loop μ-loop
+loop-holds c = tt
+
+mul-fact : tie.Need-mul-fact Inv-loop μ-loop
+mul-fact c = search needs
+
+element-copy-out-fact : tie.Need-element-copy-out-fact Inv-loop μ-loop
+element-copy-out-fact c = search needs
+
+returns : tie.Need-returns Inv-loop μ-loop
+returns c = tt
+
+put-fact-requires : tie.Need-put-fact-requires Inv-loop μ-loop
+put-fact-requires c κs = search needs
+
+add-i : tie.Need-add-i Inv-loop μ-loop
+add-i c = search needs
+
+loop-less : tie.Need-loop-less Inv-loop μ-loop
+loop-less c = search needs
+
+loop-again : tie.Need-loop-again Inv-loop μ-loop
+loop-again c = tt
+
+returns-2 : tie.Need-returns-2 Inv-loop μ-loop
+returns-2 c = tt
+
+pub put-facts-at-spec : {M : Type 1} → statement M
+put-facts-at-spec =
+    tie.close
+    (tie.spec
+    Inv-loop
+    μ-loop
+    size-requires
+    loop-holds
+    mul-fact
+    element-copy-out-fact
+    returns
+    put-fact-requires
+    add-i
+    loop-less
+    loop-again
+    returns-2)
