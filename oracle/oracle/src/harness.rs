@@ -66,6 +66,11 @@ impl Oracle {
         answer
     }
 
+    /// A copy of the structure, for a close to be timed on, and the signature.
+    pub fn parts(&self) -> (Structure, &Signature) {
+        (self.structure.clone(), &self.signature)
+    }
+
     /// The finds and the lookups. `root` shortens paths; nothing else changes.
     pub fn look_up(&mut self, record: &Record) -> Answer {
         match record.kind() {

@@ -17,5 +17,6 @@ pub mod record;
 mod scopes;
 mod sheet;
 pub mod stream;
+pub mod timing;
 
 use algebra::structure::harness::Oracle;

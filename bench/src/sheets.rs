@@ -1,0 +1,165 @@
+//! The sheets that are timed. Each is at most 1,024 records and ends with its close.
+
+/// The most elements of a structure.
+const ELS: u16 = 256;
+
+/// A sheet in the making: records of sixteen words, chained in order.
+#[derive(Default)]
+struct Sheet {
+    records: Vec<[u16; 16]>,
+}
+
+impl Sheet {
+    fn record(&mut self, kind: u16, a: u16, b: u16, parents: &[u16], args: &[u16]) {
+        let mut words = [0; 16];
+        words[1] = kind;
+        words[2] = a;
+        words[3] = b;
+        words[4] = parents.len() as u16;
+        words[5] = args.len() as u16;
+        words[6..6 + parents.len()].copy_from_slice(parents);
+        words[10..10 + args.len()].copy_from_slice(args);
+        self.records.push(words);
+    }
+
+    fn plain_type(&mut self, parents: &[u16]) {
+        self.record(1, 0, 0, parents, &[]);
+    }
+
+    fn model_type(&mut self) {
+        self.record(1, 1, 0, &[], &[]);
+    }
+
+    fn predicate(&mut self, parents: &[u16], arity: &[u16]) {
+        self.record(2, 0, 0, parents, arity);
+    }
+
+    fn function(&mut self, domain: &[u16], codomain: u16) {
+        self.record(3, 0, codomain, &[], domain);
+    }
+
+    fn elements(&mut self, count: u16) {
+        for _ in 0..count {
+            self.record(6, 0, 0, &[], &[]);
+        }
+    }
+
+    /// The same sheet with every element marked.
+    fn marked(mut self) -> Sheet {
+        for words in self.records.iter_mut().filter(|words| words[1] == 6) {
+            words[2] = 1;
+        }
+        self
+    }
+
+    fn equal(&mut self, a: u16, b: u16) {
+        self.record(7, a, b, &[], &[]);
+    }
+
+    /// Function 0 of each element of a run gives the next one.
+    fn chain(&mut self, first: u16, last: u16) {
+        for el in first..last {
+            self.record(9, 0, el + 1, &[], &[el]);
+        }
+    }
+
+    /// A predicate of four arguments holds of a run, four at a time.
+    fn holds(&mut self, predicate: u16, first: u16, count: u16) {
+        for el in (first..first + count).step_by(4) {
+            self.record(10, predicate, 0, &[], &[el, el + 1, el + 2, el + 3]);
+        }
+    }
+
+    /// The bytes, with a close at the end.
+    fn closed(mut self) -> Vec<u8> {
+        self.record(13, 0, 0, &[], &[]);
+        let count = self.records.len();
+        assert!(count <= 1024);
+        for (index, words) in self.records.iter_mut().enumerate() {
+            words[0] = ((index + 1) % count) as u16;
+        }
+        self.records.iter().flatten().flat_map(|word| word.to_le_bytes()).collect()
+    }
+}
+
+/// One type: each element of the chains gets one fact.
+fn one_type() -> Sheet {
+    let mut sheet = Sheet::default();
+    sheet.plain_type(&[]);
+    sheet.function(&[0], 0);
+    sheet.elements(ELS);
+    sheet
+}
+
+/// Four types: each element gets one as an argument, one as a result, and nearly each one from either predicate.
+fn four_types() -> Sheet {
+    let mut sheet = Sheet::default();
+    for _ in 0..4 {
+        sheet.plain_type(&[]);
+    }
+    sheet.predicate(&[], &[2; 4]);
+    sheet.predicate(&[], &[3; 4]);
+    sheet.function(&[0], 1);
+    sheet.elements(ELS);
+    sheet.holds(0, 0, 240);
+    sheet.holds(1, 0, 240);
+    sheet
+}
+
+/// Two chains of 128 whose heads are equal: each round merges the next two.
+fn two_chains(mut sheet: Sheet) -> Vec<u8> {
+    sheet.chain(0, ELS / 2 - 1);
+    sheet.chain(ELS / 2, ELS - 1);
+    sheet.equal(0, ELS / 2);
+    sheet.closed()
+}
+
+/// One chain of 256 whose first two are equal: each round merges the next one into the first.
+fn one_chain(mut sheet: Sheet) -> Vec<u8> {
+    sheet.chain(0, ELS - 1);
+    sheet.equal(0, 1);
+    sheet.closed()
+}
+
+pub fn two_chains_250() -> Vec<u8> {
+    two_chains(one_type())
+}
+
+pub fn two_chains_990() -> Vec<u8> {
+    two_chains(four_types())
+}
+
+pub fn two_chains_marked() -> Vec<u8> {
+    two_chains(four_types().marked())
+}
+
+pub fn one_chain_250() -> Vec<u8> {
+    one_chain(one_type())
+}
+
+pub fn one_chain_990() -> Vec<u8> {
+    one_chain(four_types())
+}
+
+/// One chain of 252, and 1,024 facts that all differ, since each predicate application has parents of its own;
+/// all of them gather in one class.
+pub fn gathering() -> Vec<u8> {
+    const PARENTS: u16 = 4;
+    let mut sheet = Sheet::default();
+    sheet.model_type();
+    for _ in 0..4 {
+        sheet.plain_type(&[0; 4]);
+    }
+    sheet.predicate(&[0; 4], &[1, 2, 3, 4]);
+    sheet.function(&[1], 1);
+    sheet.elements(ELS);
+    let chain = ELS - PARENTS;
+    for app in 0..256 {
+        let digit = |place: u32| chain + app / 4_u16.pow(place) % 4;
+        let el = app % chain;
+        sheet.record(10, 0, 0, &[digit(3), digit(2), digit(1), digit(0)], &[el; 4]);
+    }
+    sheet.chain(0, chain - 1);
+    sheet.equal(0, 1);
+    sheet.closed()
+}

@@ -1,0 +1,276 @@
+// A sheet built up to its first close, and that close run many times, for bench/ to time. It is no part of the port.
+use apps::FuncApp;
+use apps::PredApp;
+use bindings::AmbientEl;
+use bindings::VarEl;
+use close::CloseAnswer;
+use close::Closing;
+use facts::ConcreteType;
+use facts::Fact;
+use ids::ElId;
+use ids::ElIds;
+use ids::FuncId;
+use ids::PredId;
+use ids::TypeId;
+use ids::TypeIds;
+use signature::Declaring;
+use signature::Func;
+use signature::Pred;
+use signature::Signature;
+use signature::Type;
+use signature::TypeKind;
+use structure::Structure;
+
+pub struct Run {
+    pub signature: Signature,
+    pub structure: Structure,
+}
+
+fn wide(b: u8) -> u16 {
+    b as u16
+}
+
+// Word k of the record at an index; 0 where there is none.
+fn word(bytes: &[u8], index: u16, k: u16) -> u16 {
+    if 1023 < index {
+        return 0;
+    }
+    if 15 < k {
+        return 0;
+    }
+    let at = (index as usize) * 32 + (k as usize) * 2;
+    if bytes.len() <= at + 1 {
+        return 0;
+    }
+    let low = wide(bytes[at]) % 256;
+    let high = wide(bytes[at + 1]) % 256;
+    high * 256 + low
+}
+
+fn parents(bytes: &[u8], index: u16) -> ElIds {
+    let a = word(bytes, index, 6);
+    let b = word(bytes, index, 7);
+    let c = word(bytes, index, 8);
+    let d = word(bytes, index, 9);
+    ElIds {
+        ids: [ElId(a), ElId(b), ElId(c), ElId(d)],
+        len: word(bytes, index, 4),
+    }
+}
+
+fn args(bytes: &[u8], index: u16) -> ElIds {
+    let a = word(bytes, index, 10);
+    let b = word(bytes, index, 11);
+    let c = word(bytes, index, 12);
+    let d = word(bytes, index, 13);
+    ElIds {
+        ids: [ElId(a), ElId(b), ElId(c), ElId(d)],
+        len: word(bytes, index, 5),
+    }
+}
+
+fn types_in(els: ElIds) -> TypeIds {
+    let a = els.ids[0].0;
+    let b = els.ids[1].0;
+    let c = els.ids[2].0;
+    let d = els.ids[3].0;
+    TypeIds {
+        ids: [TypeId(a), TypeId(b), TypeId(c), TypeId(d)],
+        len: els.len,
+    }
+}
+
+fn kind_of(a: u16, b: u16) -> TypeKind {
+    match a {
+        0 => TypeKind::Plain,
+        1 => TypeKind::Model,
+        2 => TypeKind::Enum,
+        _ => TypeKind::Mor(TypeId(b)),
+    }
+}
+
+// Kinds 1 to 3.
+fn declare(run: Run, bytes: &[u8], index: u16) -> Signature {
+    let structure = run.structure;
+    let signature = run.signature;
+    let kind = word(bytes, index, 1);
+    let a = word(bytes, index, 2);
+    let b = word(bytes, index, 3);
+    let given = types_in(parents(bytes, index));
+    let listed = types_in(args(bytes, index));
+    let declaring: Declaring = match kind {
+        1 => declaring::push_type(
+            structure,
+            signature,
+            Type {
+                kind: kind_of(a, b),
+                parents: given,
+            },
+        ),
+        2 => declaring::push_pred(
+            structure,
+            signature,
+            Pred {
+                parents: given,
+                arity: listed,
+            },
+        ),
+        _ => declaring::push_func(
+            structure,
+            signature,
+            Func {
+                parents: given,
+                domain: listed,
+                codomain: TypeId(b),
+            },
+        ),
+    };
+    declaring.signature
+}
+
+// Kinds 6 to 12.
+fn state(run: Run, bytes: &[u8], index: u16) -> Structure {
+    let s = run.structure;
+    let signature = run.signature;
+    let kind = word(bytes, index, 1);
+    let a = word(bytes, index, 2);
+    let b = word(bytes, index, 3);
+    let given = parents(bytes, index);
+    let listed = args(bytes, index);
+    match kind {
+        6 => {
+            let r = s.push_el(a == 1);
+            r.structure
+        }
+        7 => {
+            let r = s.equate(ElId(a), ElId(b));
+            r.structure
+        }
+        8 => {
+            let r = inserting::impose_type(
+                s,
+                signature,
+                Fact {
+                    el: ElId(a),
+                    ct: ConcreteType {
+                        typ: TypeId(b),
+                        parents: given,
+                    },
+                },
+            );
+            r.structure
+        }
+        9 => {
+            let r = inserting::insert_func_app_or_equate(
+                s,
+                signature,
+                FuncApp {
+                    func: FuncId(a),
+                    parents: given,
+                    args: listed,
+                    result: ElId(b),
+                },
+            );
+            r.structure
+        }
+        10 => {
+            let r = inserting::insert_pred_app(
+                s,
+                signature,
+                PredApp {
+                    pred: PredId(a),
+                    parents: given,
+                    args: listed,
+                },
+            );
+            r.structure
+        }
+        11 => {
+            let r = s.insert_var_el(VarEl {
+                key: a,
+                el: ElId(b),
+            });
+            r.structure
+        }
+        12 => {
+            let r = s.insert_ambient_model_el(
+                signature,
+                AmbientEl {
+                    typ: TypeId(a),
+                    el: ElId(b),
+                },
+            );
+            r.structure
+        }
+        _ => s,
+    }
+}
+
+fn step(run: Run, bytes: &[u8], index: u16) -> Run {
+    let structure = run.structure;
+    let signature = run.signature;
+    if word(bytes, index, 1) < 6 {
+        let next = declare(run, bytes, index);
+        return Run {
+            signature: next,
+            structure,
+        };
+    }
+    let left = state(run, bytes, index);
+    Run {
+        signature,
+        structure: left,
+    }
+}
+
+// The records of a sheet before its first close, carried out.
+fn build(bytes: &[u8]) -> Run {
+    let mut run = Run {
+        signature: Signature::new(),
+        structure: Structure::new(),
+    };
+    let mut index: u16 = 0;
+    for _visited in 0..1024u16 {
+        if word(bytes, index, 1) == 13 {
+            return run;
+        }
+        let next = step(run, bytes, index);
+        run = next;
+        index = word(bytes, index, 0);
+        if index == 0 {
+            return run;
+        }
+    }
+    run
+}
+
+// Changed, merges, rounds and facts; a refusal's number with 2 for changed.
+fn report(closing: Closing, out: &mut [u64; 4]) {
+    let answer = closing.answer;
+    out[3] = closing.structure.els.len as u64;
+    match answer {
+        CloseAnswer::Closed(c) => {
+            out[0] = if c.changed { 1 } else { 0 };
+            out[1] = c.merges;
+            out[2] = c.rounds;
+        }
+        CloseAnswer::Refused(n) => {
+            out[0] = 2;
+            out[1] = n as u64;
+            out[2] = 0;
+        }
+    }
+}
+
+// Builds the sheet once and closes it so many times. The flag differs from one close to the next, so that none can be left out.
+#[no_mangle]
+pub extern "C" fn bench_close(bytes: &[u8], times: u64, out: &mut [u64; 4]) {
+    let run = build(bytes);
+    let signature = run.signature;
+    let mut structure = run.structure;
+    for i in 0..times {
+        structure.settled = i % 2 == 1;
+        let closing = close::close(structure, signature);
+        report(closing, out);
+    }
+}
