@@ -120,7 +120,7 @@ fn find_conflicts(unification: Unification, facts: Facts) -> TypeConflicts
         let types = canonical::concrete_types_of(unification, facts, el);
         let k = types.size();
         let a = types.items[0];
-        for j in 1..k {
+        'stored: for j in 1..k {
             let b = types.items[j];
             if a.ct.typ.0 != b.ct.typ.0 {
                 conflicts = conflicts.push(TypeConflict { el, a, b });
@@ -130,9 +130,9 @@ fn find_conflicts(unification: Unification, facts: Facts) -> TypeConflicts
             let qs = b.ct.parents;
             let length = ps.size();
             let other = qs.size();
-            for i in 0..length {
+            'paired: for i in 0..length {
                 if other <= i {
-                    continue;
+                    continue 'paired;
                 }
                 let p = unification.find(ps.ids[i]);
                 let q = unification.find(qs.ids[i]);

@@ -22,23 +22,23 @@ use borrow.Author.Needs.{needs}
 use Rattle.conflicts.proofs.find_conflicts.Statement.{statement}
 use Rattle.conflicts.proofs.find_conflicts.Tie as tie
 
-abbrev Inv-loop2 : tie.InvT-loop2
-Inv-loop2 unification facts n conflicts₀ e₀ number el types k a j b ps qs length other i₀ conflicts e i =
+abbrev Inv-paired : tie.InvT-paired
+Inv-paired unification facts n conflicts₀ e₀ number el types k a j b ps qs length other i₀ conflicts e i =
     (e ≡ e₀)
     × ((conflicts ≡ conflicts₀)
     × (parentsMatch (linksOf unification) (drop i (elsOf ps)) (drop i (elsOf qs)) ≡ parentsMatch (linksOf unification) (elsOf ps) (elsOf qs)))
 
-abbrev μ-loop2 : tie.MeasureT-loop2
-μ-loop2 unification facts n conflicts₀ e₀ number el types k a j b ps qs length other i₀ conflicts e i = length - i
+abbrev μ-paired : tie.MeasureT-paired
+μ-paired unification facts n conflicts₀ e₀ number el types k a j b ps qs length other i₀ conflicts e i = length - i
 
-abbrev Inv-loop : tie.InvT-loop
-Inv-loop unification facts n conflicts₀ e₀ number el types k a j₀ conflicts e j =
+abbrev Inv-stored : tie.InvT-stored
+Inv-stored unification facts n conflicts₀ e₀ number el types k a j₀ conflicts e j =
     (e ≡ e₀)
     × ((conflicts ≡ conflicts₀)
     × (firstConflict (linksOf unification) e₀ (factOf a) (drop j (factsOf types)) ≡ conflictAmong (linksOf unification) e₀ (factsOf types)))
 
-abbrev μ-loop : tie.MeasureT-loop
-μ-loop unification facts n conflicts₀ e₀ number el types k a j₀ conflicts e j = k - j
+abbrev μ-stored : tie.MeasureT-stored
+μ-stored unification facts n conflicts₀ e₀ number el types k a j₀ conflicts e j = k - j
 
 abbrev Inv-classes : tie.InvT-classes
 Inv-classes unification facts n conflicts₀ e₀ conflicts e =
@@ -47,43 +47,43 @@ Inv-classes unification facts n conflicts₀ e₀ conflicts e =
 abbrev μ-classes : tie.MeasureT-classes
 μ-classes unification facts n conflicts₀ e₀ conflicts e = n - e
 
-size-requires : tie.Need-size-requires Inv-loop2 μ-loop2 Inv-loop μ-loop Inv-classes μ-classes
+size-requires : tie.Need-size-requires Inv-paired μ-paired Inv-stored μ-stored Inv-classes μ-classes
 size-requires c κs = search needs
 
-new-requires : tie.Need-new-requires Inv-loop2 μ-loop2 Inv-loop μ-loop Inv-classes μ-classes
+new-requires : tie.Need-new-requires Inv-paired μ-paired Inv-stored μ-stored Inv-classes μ-classes
 new-requires c κs = search needs
 
-classes-holds : tie.Need-classes-holds Inv-loop2 μ-loop2 Inv-loop μ-loop Inv-classes μ-classes
+classes-holds : tie.Need-classes-holds Inv-paired μ-paired Inv-stored μ-stored Inv-classes μ-classes
 unfolding conflictsBelow
 classes-holds c =
     (omega arith, c .new .ensures)
 
-cast-number : tie.Need-cast-number Inv-loop2 μ-loop2 Inv-loop μ-loop Inv-classes μ-classes
+cast-number : tie.Need-cast-number Inv-paired μ-paired Inv-stored μ-stored Inv-classes μ-classes
 cast-number c = search needs
 
-find-requires : tie.Need-find-requires Inv-loop2 μ-loop2 Inv-loop μ-loop Inv-classes μ-classes
+find-requires : tie.Need-find-requires Inv-paired μ-paired Inv-stored μ-stored Inv-classes μ-classes
 find-requires c κs = search needs
 
-add-e : tie.Need-add-e Inv-loop2 μ-loop2 Inv-loop μ-loop Inv-classes μ-classes
+add-e : tie.Need-add-e Inv-paired μ-paired Inv-stored μ-stored Inv-classes μ-classes
 add-e c = search needs
 
-classes-less : tie.Need-classes-less Inv-loop2 μ-loop2 Inv-loop μ-loop Inv-classes μ-classes
+classes-less : tie.Need-classes-less Inv-paired μ-paired Inv-stored μ-stored Inv-classes μ-classes
 classes-less c = search needs
 
 -- What a place of the code knows, by the place where it was learnt.
 
 -- the structure whose conflicts are searched for
-abbrev given : tie.Start Inv-loop2 μ-loop2 Inv-loop μ-loop Inv-classes μ-classes → Structure
+abbrev given : tie.Start Inv-paired μ-paired Inv-stored μ-stored Inv-classes μ-classes → Structure
 given c = bare (linksOf (c .args .unification)) (factsOf (c .args .facts))
 
 -- an element that is a root
-root : (c : tie.Else1 Inv-loop2 μ-loop2 Inv-loop μ-loop Inv-classes μ-classes) →
+root : (c : tie.Else1 Inv-paired μ-paired Inv-stored μ-stored Inv-classes μ-classes) →
     let class = c .before .before .before .before .before in
     rootOf (given (class .before .before .before) .links) (class .classes .e) ≡ class .classes .e
 unfolding findOf
 root c = ap (λ (f : FindM). f .root) (sym (c .before .before .before .find .ensures)) ∙ c .if1 .left
 
-classes-again : tie.Need-classes-again Inv-loop2 μ-loop2 Inv-loop μ-loop Inv-classes μ-classes
+classes-again : tie.Need-classes-again Inv-paired μ-paired Inv-stored μ-stored Inv-classes μ-classes
 unfolding findOf
 classes-again c =
     let found = c .before .before .before in
@@ -92,16 +92,16 @@ classes-again c =
     (omega (arith, found .before .classes-test .taken), class-clear _ _ _ (class .classes .inv .1) none)
 
 count-at-requires :
-    tie.Need-count-at-requires Inv-loop2 μ-loop2 Inv-loop μ-loop Inv-classes μ-classes
+    tie.Need-count-at-requires Inv-paired μ-paired Inv-stored μ-stored Inv-classes μ-classes
 count-at-requires c κs = search needs
 
-add-e-2 : tie.Need-add-e-2 Inv-loop2 μ-loop2 Inv-loop μ-loop Inv-classes μ-classes
+add-e-2 : tie.Need-add-e-2 Inv-paired μ-paired Inv-stored μ-stored Inv-classes μ-classes
 add-e-2 c = search needs
 
-classes-less-2 : tie.Need-classes-less-2 Inv-loop2 μ-loop2 Inv-loop μ-loop Inv-classes μ-classes
+classes-less-2 : tie.Need-classes-less-2 Inv-paired μ-paired Inv-stored μ-stored Inv-classes μ-classes
 classes-less-2 c = search needs
 
-classes-again-2 : tie.Need-classes-again-2 Inv-loop2 μ-loop2 Inv-loop μ-loop Inv-classes μ-classes
+classes-again-2 : tie.Need-classes-again-2 Inv-paired μ-paired Inv-stored μ-stored Inv-classes μ-classes
 classes-again-2 c =
     let counted = c .before in
     let class = counted .before .before .before .before .before .before in
@@ -110,60 +110,60 @@ classes-again-2 c =
     (omega (arith, counted .before .before .before .before .before .classes-test .taken), class-clear _ _ _ (class .classes .inv .1) (few-facts s _ (root (counted .before)) few))
 
 concrete-types-of-requires :
-    tie.Need-concrete-types-of-requires Inv-loop2 μ-loop2 Inv-loop μ-loop Inv-classes μ-classes
+    tie.Need-concrete-types-of-requires Inv-paired μ-paired Inv-stored μ-stored Inv-classes μ-classes
 concrete-types-of-requires c κs = search needs
 
-size-requires-2 : tie.Need-size-requires-2 Inv-loop2 μ-loop2 Inv-loop μ-loop Inv-classes μ-classes
+size-requires-2 : tie.Need-size-requires-2 Inv-paired μ-paired Inv-stored μ-stored Inv-classes μ-classes
 size-requires-2 c κs = search needs
 
 element-copy-out-a :
-    tie.Need-element-copy-out-a Inv-loop2 μ-loop2 Inv-loop μ-loop Inv-classes μ-classes
+    tie.Need-element-copy-out-a Inv-paired μ-paired Inv-stored μ-stored Inv-classes μ-classes
 element-copy-out-a c = search needs
 
-loop-holds : tie.Need-loop-holds Inv-loop2 μ-loop2 Inv-loop μ-loop Inv-classes μ-classes
-loop-holds c =
+stored-holds : tie.Need-stored-holds Inv-paired μ-paired Inv-stored μ-stored Inv-classes μ-classes
+stored-holds c =
     let asked = c .before .before in
     let types = asked .concrete-types-of .result in
     (refl, (refl, facts-start _ _ (types .len) (types .items)))
 
-mul-b : tie.Need-mul-b Inv-loop2 μ-loop2 Inv-loop μ-loop Inv-classes μ-classes
+mul-b : tie.Need-mul-b Inv-paired μ-paired Inv-stored μ-stored Inv-classes μ-classes
 mul-b c = search needs
 
 element-copy-out-b :
-    tie.Need-element-copy-out-b Inv-loop2 μ-loop2 Inv-loop μ-loop Inv-classes μ-classes
+    tie.Need-element-copy-out-b Inv-paired μ-paired Inv-stored μ-stored Inv-classes μ-classes
 element-copy-out-b c = search needs
 
-push-requires : tie.Need-push-requires Inv-loop2 μ-loop2 Inv-loop μ-loop Inv-classes μ-classes
+push-requires : tie.Need-push-requires Inv-paired μ-paired Inv-stored μ-stored Inv-classes μ-classes
 push-requires c κs = search needs
 
-add-e-3 : tie.Need-add-e-3 Inv-loop2 μ-loop2 Inv-loop μ-loop Inv-classes μ-classes
+add-e-3 : tie.Need-add-e-3 Inv-paired μ-paired Inv-stored μ-stored Inv-classes μ-classes
 add-e-3 c = search needs
 
-classes-less-3 : tie.Need-classes-less-3 Inv-loop2 μ-loop2 Inv-loop μ-loop Inv-classes μ-classes
+classes-less-3 : tie.Need-classes-less-3 Inv-paired μ-paired Inv-stored μ-stored Inv-classes μ-classes
 classes-less-3 c = search needs
 
 -- the class whose facts are searched
-abbrev class-of : tie.At-loop Inv-loop2 μ-loop2 Inv-loop μ-loop Inv-classes μ-classes → tie.In-classes Inv-loop2 μ-loop2 Inv-loop μ-loop Inv-classes μ-classes
+abbrev class-of : tie.At-stored Inv-paired μ-paired Inv-stored μ-stored Inv-classes μ-classes → tie.In-classes Inv-paired μ-paired Inv-stored μ-stored Inv-classes μ-classes
 class-of c = c .before .before .before .before .before .before .before .before .before .before
 
-abbrev given-of : tie.At-loop Inv-loop2 μ-loop2 Inv-loop μ-loop Inv-classes μ-classes → Structure
+abbrev given-of : tie.At-stored Inv-paired μ-paired Inv-stored μ-stored Inv-classes μ-classes → Structure
 given-of c = given (class-of c .before .before .before .before)
 
-abbrev el-of : tie.At-loop Inv-loop2 μ-loop2 Inv-loop μ-loop Inv-classes μ-classes → ℕ
+abbrev el-of : tie.At-stored Inv-paired μ-paired Inv-stored μ-stored Inv-classes μ-classes → ℕ
 el-of c = class-of c .before .classes .e
 
-abbrev types-of : tie.At-loop Inv-loop2 μ-loop2 Inv-loop μ-loop Inv-classes μ-classes → Facts
+abbrev types-of : tie.At-stored Inv-paired μ-paired Inv-stored μ-stored Inv-classes μ-classes → Facts
 types-of c = c .before .before .before .concrete-types-of .result
 
 -- its first fact, and the fact j
-abbrev first-of : tie.At-loop Inv-loop2 μ-loop2 Inv-loop μ-loop Inv-classes μ-classes → code.Fact
+abbrev first-of : tie.At-stored Inv-paired μ-paired Inv-stored μ-stored Inv-classes μ-classes → code.Fact
 first-of c = getD (types-of c .items) 0 noFact
 
-abbrev fact-of : tie.At-loop Inv-loop2 μ-loop2 Inv-loop μ-loop Inv-classes μ-classes → code.Fact
-fact-of c = getD (types-of c .items) (c .loop .j) noFact
+abbrev fact-of : tie.At-stored Inv-paired μ-paired Inv-stored μ-stored Inv-classes μ-classes → code.Fact
+fact-of c = getD (types-of c .items) (c .stored .j) noFact
 
 -- its conflict is that among these facts
-among : (c : tie.At-loop Inv-loop2 μ-loop2 Inv-loop μ-loop Inv-classes μ-classes) → conflictAmong (given-of c .links) (el-of c) (factsOf (types-of c)) ≡ conflictAt (given-of c) (el-of c)
+among : (c : tie.At-stored Inv-paired μ-paired Inv-stored μ-stored Inv-classes μ-classes) → conflictAmong (given-of c .links) (el-of c) (factsOf (types-of c)) ≡ conflictAt (given-of c) (el-of c)
 among c =
     let asked = c .before .before .before in
     let counted = asked .before .before in
@@ -171,7 +171,7 @@ among c =
     ap (conflictAmong (given-of c .links) (el-of c)) (asked .concrete-types-of .ensures) ∙ two-facts (given-of c) (el-of c) (root (counted .before)) two
 
 -- a conflict is put at the end, and the class is done
-pushed : (c : tie.At-loop Inv-loop2 μ-loop2 Inv-loop μ-loop Inv-classes μ-classes) {x : Conflict} (out next : TypeConflicts) (e : ℕ) → e ≡ el-of c → out ≡ class-of c .before .classes .conflicts
+pushed : (c : tie.At-stored Inv-paired μ-paired Inv-stored μ-stored Inv-classes μ-classes) {x : Conflict} (out next : TypeConflicts) (e : ℕ) → e ≡ el-of c → out ≡ class-of c .before .classes .conflicts
     → conflictsOf next ≡ pushOf maxEls (conflictsOf out) x → x ∷ [] ≡ conflictAmong (given-of c .links) (el-of c) (factsOf (types-of c))
     → (e + 1 ≤ class-of c .before .before .before .size .result) × (conflictsOf next ≡ conflictsBelow (given-of c) (e + 1))
 pushed c {x} out next e here same p q =
@@ -183,104 +183,104 @@ pushed c {x} out next e here same p q =
     )
 
 -- the fact j is in the table
-at : (c : tie.In-loop Inv-loop2 μ-loop2 Inv-loop μ-loop Inv-classes μ-classes) → c .before .loop .j < length (factsOf (types-of (c .before)))
-at c = omega (arith, c .before .before .before .size2 .ensures .is, c .loop-test .taken)
+at : (c : tie.In-stored Inv-paired μ-paired Inv-stored μ-stored Inv-classes μ-classes) → c .before .stored .j < length (factsOf (types-of (c .before)))
+at c = omega (arith, c .before .before .before .size2 .ensures .is, c .stored-test .taken)
 
-classes-again-3 : tie.Need-classes-again-3 Inv-loop2 μ-loop2 Inv-loop μ-loop Inv-classes μ-classes
+classes-again-3 : tie.Need-classes-again-3 Inv-paired μ-paired Inv-stored μ-stored Inv-classes μ-classes
 classes-again-3 c =
     let other = c .before .before .before .before .before in
     let l = other .before in
     let f = factOf (first-of l) in
     let g = factOf (fact-of l) in
     let ls = given-of l .links in
-    let found = facts-conflict ls (el-of l) f (types-of l) _ (l .loop .inv .1 .1) (at other) (other-type ls f g (c .before .if3 .taken)) in
-    pushed l (l .loop .conflicts) (c .push .result) (l .loop .e) (l .loop .inv .0) (l .loop .inv .1 .0) (c .push .ensures) found
+    let found = facts-conflict ls (el-of l) f (types-of l) _ (l .stored .inv .1 .1) (at other) (other-type ls f g (c .before .if3 .taken)) in
+    pushed l (l .stored .conflicts) (c .push .result) (l .stored .e) (l .stored .inv .0) (l .stored .inv .1 .0) (c .push .ensures) found
 
-size-requires-3 : tie.Need-size-requires-3 Inv-loop2 μ-loop2 Inv-loop μ-loop Inv-classes μ-classes
+size-requires-3 : tie.Need-size-requires-3 Inv-paired μ-paired Inv-stored μ-stored Inv-classes μ-classes
 size-requires-3 c κs = search needs
 
-size-requires-4 : tie.Need-size-requires-4 Inv-loop2 μ-loop2 Inv-loop μ-loop Inv-classes μ-classes
+size-requires-4 : tie.Need-size-requires-4 Inv-paired μ-paired Inv-stored μ-stored Inv-classes μ-classes
 size-requires-4 c κs = search needs
 
-loop2-holds : tie.Need-loop2-holds Inv-loop2 μ-loop2 Inv-loop μ-loop Inv-classes μ-classes
-loop2-holds c = (refl, (refl, refl))
+paired-holds : tie.Need-paired-holds Inv-paired μ-paired Inv-stored μ-stored Inv-classes μ-classes
+paired-holds c = (refl, (refl, refl))
 
-add-i : tie.Need-add-i Inv-loop2 μ-loop2 Inv-loop μ-loop Inv-classes μ-classes
+add-i : tie.Need-add-i Inv-paired μ-paired Inv-stored μ-stored Inv-classes μ-classes
 add-i c = search needs
 
-loop2-less : tie.Need-loop2-less Inv-loop2 μ-loop2 Inv-loop μ-loop Inv-classes μ-classes
-loop2-less c = search needs
+paired-less : tie.Need-paired-less Inv-paired μ-paired Inv-stored μ-stored Inv-classes μ-classes
+paired-less c = search needs
 
 -- the search at which parents are compared, and the parents
-abbrev search-of : tie.At-loop2 Inv-loop2 μ-loop2 Inv-loop μ-loop Inv-classes μ-classes → tie.In-loop Inv-loop2 μ-loop2 Inv-loop μ-loop Inv-classes μ-classes
+abbrev search-of : tie.At-paired Inv-paired μ-paired Inv-stored μ-stored Inv-classes μ-classes → tie.In-stored Inv-paired μ-paired Inv-stored μ-stored Inv-classes μ-classes
 search-of c = c .before .before .before .before .before .before .before .before .before
 
-abbrev ps-of : tie.At-loop2 Inv-loop2 μ-loop2 Inv-loop μ-loop Inv-classes μ-classes → ElIds
+abbrev ps-of : tie.At-paired Inv-paired μ-paired Inv-stored μ-stored Inv-classes μ-classes → ElIds
 ps-of c = first-of (search-of c .before) .ct .parents
 
-abbrev qs-of : tie.At-loop2 Inv-loop2 μ-loop2 Inv-loop μ-loop Inv-classes μ-classes → ElIds
+abbrev qs-of : tie.At-paired Inv-paired μ-paired Inv-stored μ-stored Inv-classes μ-classes → ElIds
 qs-of c = fact-of (search-of c .before) .ct .parents
 
-abbrev links-of : tie.At-loop2 Inv-loop2 μ-loop2 Inv-loop μ-loop Inv-classes μ-classes → List ℕ
+abbrev links-of : tie.At-paired Inv-paired μ-paired Inv-stored μ-stored Inv-classes μ-classes → List ℕ
 links-of c = given-of (search-of c .before) .links
 
 abbrev noEl : ElId
 noEl = record { 0 = 0 }
 
-loop2-again : tie.Need-loop2-again Inv-loop2 μ-loop2 Inv-loop μ-loop Inv-classes μ-classes
-loop2-again c =
+paired-again : tie.Need-paired-again Inv-paired μ-paired Inv-stored μ-stored Inv-classes μ-classes
+paired-again c =
     let l = c .before .before in
-    let past : length (elsOf (qs-of l)) ≤ l .loop2 .i = omega (arith, l .before .size4 .ensures .is, c .if4 .taken) in
-    (l .loop2 .inv .0, (l .loop2 .inv .1 .0, parents-past (links-of l) (ps-of l) (qs-of l) _ (l .loop2 .inv .1 .1) past))
+    let past : length (elsOf (qs-of l)) ≤ l .paired .i = omega (arith, l .before .size4 .ensures .is, c .if4 .taken) in
+    (l .paired .inv .0, (l .paired .inv .1 .0, parents-past (links-of l) (ps-of l) (qs-of l) _ (l .paired .inv .1 .1) past))
 
-mul-find : tie.Need-mul-find Inv-loop2 μ-loop2 Inv-loop μ-loop Inv-classes μ-classes
+mul-find : tie.Need-mul-find Inv-paired μ-paired Inv-stored μ-stored Inv-classes μ-classes
 mul-find c = search needs
 
 element-copy-out-find :
-    tie.Need-element-copy-out-find Inv-loop2 μ-loop2 Inv-loop μ-loop Inv-classes μ-classes
+    tie.Need-element-copy-out-find Inv-paired μ-paired Inv-stored μ-stored Inv-classes μ-classes
 element-copy-out-find c = search needs
 
-find-requires-2 : tie.Need-find-requires-2 Inv-loop2 μ-loop2 Inv-loop μ-loop Inv-classes μ-classes
+find-requires-2 : tie.Need-find-requires-2 Inv-paired μ-paired Inv-stored μ-stored Inv-classes μ-classes
 find-requires-2 c κs = search needs
 
-mul-find-2 : tie.Need-mul-find-2 Inv-loop2 μ-loop2 Inv-loop μ-loop Inv-classes μ-classes
+mul-find-2 : tie.Need-mul-find-2 Inv-paired μ-paired Inv-stored μ-stored Inv-classes μ-classes
 mul-find-2 c = search needs
 
 element-copy-out-find-2 :
-    tie.Need-element-copy-out-find-2 Inv-loop2 μ-loop2 Inv-loop μ-loop Inv-classes μ-classes
+    tie.Need-element-copy-out-find-2 Inv-paired μ-paired Inv-stored μ-stored Inv-classes μ-classes
 element-copy-out-find-2 c = search needs
 
-find-requires-3 : tie.Need-find-requires-3 Inv-loop2 μ-loop2 Inv-loop μ-loop Inv-classes μ-classes
+find-requires-3 : tie.Need-find-requires-3 Inv-paired μ-paired Inv-stored μ-stored Inv-classes μ-classes
 find-requires-3 c κs = search needs
 
-push-requires-2 : tie.Need-push-requires-2 Inv-loop2 μ-loop2 Inv-loop μ-loop Inv-classes μ-classes
+push-requires-2 : tie.Need-push-requires-2 Inv-paired μ-paired Inv-stored μ-stored Inv-classes μ-classes
 push-requires-2 c κs = search needs
 
 -- the class is still the one that was searched
-abbrev parents-of : tie.After-push2 Inv-loop2 μ-loop2 Inv-loop μ-loop Inv-classes μ-classes → tie.At-loop2 Inv-loop2 μ-loop2 Inv-loop μ-loop Inv-classes μ-classes
+abbrev parents-of : tie.After-push2 Inv-paired μ-paired Inv-stored μ-stored Inv-classes μ-classes → tie.At-paired Inv-paired μ-paired Inv-stored μ-stored Inv-classes μ-classes
 parents-of c = c .before .before .before .before .before .before .before .before .before .before
 
-still : (c : tie.After-push2 Inv-loop2 μ-loop2 Inv-loop μ-loop Inv-classes μ-classes) → parents-of c .loop2 .e ≡ el-of (search-of (parents-of c) .before)
-still c = parents-of c .loop2 .inv .0 ∙ search-of (parents-of c) .before .loop .inv .0
+still : (c : tie.After-push2 Inv-paired μ-paired Inv-stored μ-stored Inv-classes μ-classes) → parents-of c .paired .e ≡ el-of (search-of (parents-of c) .before)
+still c = parents-of c .paired .inv .0 ∙ search-of (parents-of c) .before .stored .inv .0
 
-add-e-4 : tie.Need-add-e-4 Inv-loop2 μ-loop2 Inv-loop μ-loop Inv-classes μ-classes
+add-e-4 : tie.Need-add-e-4 Inv-paired μ-paired Inv-stored μ-stored Inv-classes μ-classes
 add-e-4 c =
     let class = class-of (search-of (parents-of c) .before) in
     omega (arith, still c, class .classes-test .taken, class .before .before .before .size .ensures .most)
 
-classes-less-4 : tie.Need-classes-less-4 Inv-loop2 μ-loop2 Inv-loop μ-loop Inv-classes μ-classes
+classes-less-4 : tie.Need-classes-less-4 Inv-paired μ-paired Inv-stored μ-stored Inv-classes μ-classes
 classes-less-4 c =
     let class = class-of (search-of (parents-of c) .before) in
     omega (arith, still c, class .classes-test .taken)
 
 -- both lists have a parent i
-ps-at : (c : tie.In-loop2 Inv-loop2 μ-loop2 Inv-loop μ-loop Inv-classes μ-classes) → c .before .loop2 .i < length (elsOf (ps-of (c .before)))
-ps-at c = omega (arith, c .before .before .before .size3 .ensures .is, c .loop2-test .taken)
+ps-at : (c : tie.In-paired Inv-paired μ-paired Inv-stored μ-stored Inv-classes μ-classes) → c .before .paired .i < length (elsOf (ps-of (c .before)))
+ps-at c = omega (arith, c .before .before .before .size3 .ensures .is, c .paired-test .taken)
 
-qs-at : (c : tie.Else4 Inv-loop2 μ-loop2 Inv-loop μ-loop Inv-classes μ-classes) → c .before .before .loop2 .i < length (elsOf (qs-of (c .before .before)))
+qs-at : (c : tie.Else4 Inv-paired μ-paired Inv-stored μ-stored Inv-classes μ-classes) → c .before .before .paired .i < length (elsOf (qs-of (c .before .before)))
 qs-at c = omega (arith, c .before .before .before .size4 .ensures .is, c .if4 .left)
 
-classes-again-4 : tie.Need-classes-again-4 Inv-loop2 μ-loop2 Inv-loop μ-loop Inv-classes μ-classes
+classes-again-4 : tie.Need-classes-again-4 Inv-paired μ-paired Inv-stored μ-stored Inv-classes μ-classes
 unfolding findOf
 classes-again-4 c =
     let found = c .before .before .before .before in
@@ -293,65 +293,65 @@ classes-again-4 c =
     let g = factOf (fact-of l) in
     let same-p = ap (λ (x : FindM). x .root) (found .before .before .find2 .ensures) in
     let same-q = ap (λ (x : FindM). x .root) (found .find3 .ensures) in
-    let differ = parents-differ ls (ps-of l2) (qs-of l2) _ (l2 .loop2 .inv .1 .1) noEl (ps-at (other .before)) (qs-at other) (λ h. c .before .if5 .taken (same-p ∙ h ∙ sym same-q)) in
+    let differ = parents-differ ls (ps-of l2) (qs-of l2) _ (l2 .paired .inv .1 .1) noEl (ps-at (other .before)) (qs-at other) (λ h. c .before .if5 .taken (same-p ∙ h ∙ sym same-q)) in
     let type = l2 .before .before .before .before .before .if3 .left in
-    let conflict = facts-conflict ls (el-of l) f (types-of l) _ (l .loop .inv .1 .1) (at so) (other-parents ls f g type differ) in
-    pushed l (l2 .loop2 .conflicts) (c .push2 .result) (l2 .loop2 .e) (l2 .loop2 .inv .0 ∙ l .loop .inv .0) (l2 .loop2 .inv .1 .0 ∙ l .loop .inv .1 .0) (c .push2 .ensures) conflict
+    let conflict = facts-conflict ls (el-of l) f (types-of l) _ (l .stored .inv .1 .1) (at so) (other-parents ls f g type differ) in
+    pushed l (l2 .paired .conflicts) (c .push2 .result) (l2 .paired .e) (l2 .paired .inv .0 ∙ l .stored .inv .0) (l2 .paired .inv .1 .0 ∙ l .stored .inv .1 .0) (c .push2 .ensures) conflict
 
-add-i-2 : tie.Need-add-i-2 Inv-loop2 μ-loop2 Inv-loop μ-loop Inv-classes μ-classes
+add-i-2 : tie.Need-add-i-2 Inv-paired μ-paired Inv-stored μ-stored Inv-classes μ-classes
 add-i-2 c = search needs
 
-loop2-less-2 : tie.Need-loop2-less-2 Inv-loop2 μ-loop2 Inv-loop μ-loop Inv-classes μ-classes
-loop2-less-2 c = search needs
+paired-less-2 : tie.Need-paired-less-2 Inv-paired μ-paired Inv-stored μ-stored Inv-classes μ-classes
+paired-less-2 c = search needs
 
-loop2-again-2 : tie.Need-loop2-again-2 Inv-loop2 μ-loop2 Inv-loop μ-loop Inv-classes μ-classes
+paired-again-2 : tie.Need-paired-again-2 Inv-paired μ-paired Inv-stored μ-stored Inv-classes μ-classes
 unfolding findOf
-loop2-again-2 c =
+paired-again-2 c =
     let found = c .before .before .before in
     let other = found .before .before .before .before in
     let l2 = other .before .before in
     let same-p = ap (λ (x : FindM). x .root) (found .before .before .find2 .ensures) in
     let same-q = ap (λ (x : FindM). x .root) (found .find3 .ensures) in
-    let match = parents-match (links-of l2) (ps-of l2) (qs-of l2) _ (l2 .loop2 .inv .1 .1) noEl (ps-at (other .before)) (qs-at other) (sym same-p ∙ c .if5 .left ∙ same-q) in
-    (l2 .loop2 .inv .0, (l2 .loop2 .inv .1 .0, match))
+    let match = parents-match (links-of l2) (ps-of l2) (qs-of l2) _ (l2 .paired .inv .1 .1) noEl (ps-at (other .before)) (qs-at other) (sym same-p ∙ c .if5 .left ∙ same-q) in
+    (l2 .paired .inv .0, (l2 .paired .inv .1 .0, match))
 
-add-j : tie.Need-add-j Inv-loop2 μ-loop2 Inv-loop μ-loop Inv-classes μ-classes
+add-j : tie.Need-add-j Inv-paired μ-paired Inv-stored μ-stored Inv-classes μ-classes
 add-j c = search needs
 
-loop-less : tie.Need-loop-less Inv-loop2 μ-loop2 Inv-loop μ-loop Inv-classes μ-classes
-loop-less c = search needs
+stored-less : tie.Need-stored-less Inv-paired μ-paired Inv-stored μ-stored Inv-classes μ-classes
+stored-less c = search needs
 
-loop-again : tie.Need-loop-again Inv-loop2 μ-loop2 Inv-loop μ-loop Inv-classes μ-classes
-loop-again c =
+stored-again : tie.Need-stored-again Inv-paired μ-paired Inv-stored μ-stored Inv-classes μ-classes
+stored-again c =
     let l2 = c .before in
     let so = search-of l2 in
     let l = so .before in
     let ls = links-of l2 in
     let f = factOf (first-of l) in
     let g = factOf (fact-of l) in
-    let done : length (elsOf (ps-of l2)) ≤ l2 .loop2 .i = omega (arith, l2 .before .before .size3 .ensures .is, c .loop2-test .left) in
+    let done : length (elsOf (ps-of l2)) ≤ l2 .paired .i = omega (arith, l2 .before .before .size3 .ensures .is, c .paired-test .left) in
     let type = l2 .before .before .before .before .before .if3 .left in
-    let agree = all-alike ls f g type (parents-done ls (ps-of l2) (qs-of l2) _ (l2 .loop2 .inv .1 .1) done) in
-    (l2 .loop2 .inv .0 ∙ l .loop .inv .0, (l2 .loop2 .inv .1 .0 ∙ l .loop .inv .1 .0, facts-agree ls (el-of l) f (types-of l) _ (l .loop .inv .1 .1) (at so) agree))
+    let agree = all-alike ls f g type (parents-done ls (ps-of l2) (qs-of l2) _ (l2 .paired .inv .1 .1) done) in
+    (l2 .paired .inv .0 ∙ l .stored .inv .0, (l2 .paired .inv .1 .0 ∙ l .stored .inv .1 .0, facts-agree ls (el-of l) f (types-of l) _ (l .stored .inv .1 .1) (at so) agree))
 
-add-e-5 : tie.Need-add-e-5 Inv-loop2 μ-loop2 Inv-loop μ-loop Inv-classes μ-classes
+add-e-5 : tie.Need-add-e-5 Inv-paired μ-paired Inv-stored μ-stored Inv-classes μ-classes
 add-e-5 c = search needs
 
-classes-less-5 : tie.Need-classes-less-5 Inv-loop2 μ-loop2 Inv-loop μ-loop Inv-classes μ-classes
+classes-less-5 : tie.Need-classes-less-5 Inv-paired μ-paired Inv-stored μ-stored Inv-classes μ-classes
 classes-less-5 c = search needs
 
-classes-again-5 : tie.Need-classes-again-5 Inv-loop2 μ-loop2 Inv-loop μ-loop Inv-classes μ-classes
+classes-again-5 : tie.Need-classes-again-5 Inv-paired μ-paired Inv-stored μ-stored Inv-classes μ-classes
 classes-again-5 c =
     let l = c .before in
     let class = class-of l in
-    let e = l .loop .inv .0 in
-    let done : length (factsOf (types-of l)) ≤ l .loop .j = omega (arith, l .before .before .size2 .ensures .is, c .loop-test .left) in
-    let none = facts-done (given-of l .links) (el-of l) (factOf (first-of l)) (types-of l) _ (l .loop .inv .1 .1) done ∙ among l in (
+    let e = l .stored .inv .0 in
+    let done : length (factsOf (types-of l)) ≤ l .stored .j = omega (arith, l .before .before .size2 .ensures .is, c .stored-test .left) in
+    let none = facts-done (given-of l .links) (el-of l) (factOf (first-of l)) (types-of l) _ (l .stored .inv .1 .1) done ∙ among l in (
       omega (arith, e, class .classes-test .taken),
-      ap (λ (t : TypeConflicts). conflictsOf t) (l .loop .inv .1 .0) ∙ class-clear _ _ _ (class .before .classes .inv .1) none ∙ ap (λ (k : ℕ). conflictsBelow (given-of l) (k + 1)) (sym e),
+      ap (λ (t : TypeConflicts). conflictsOf t) (l .stored .inv .1 .0) ∙ class-clear _ _ _ (class .before .classes .inv .1) none ∙ ap (λ (k : ℕ). conflictsBelow (given-of l) (k + 1)) (sym e),
     )
 
-returns : tie.Need-returns Inv-loop2 μ-loop2 Inv-loop μ-loop Inv-classes μ-classes
+returns : tie.Need-returns Inv-paired μ-paired Inv-stored μ-stored Inv-classes μ-classes
 unfolding conflictsIn typeConflicts
 returns c =
     let class = c .before in
@@ -363,10 +363,10 @@ pub find-conflicts-spec : {M : Type 1} → statement M
 find-conflicts-spec =
     tie.close
     (tie.spec
-    Inv-loop2
-    μ-loop2
-    Inv-loop
-    μ-loop
+    Inv-paired
+    μ-paired
+    Inv-stored
+    μ-stored
     Inv-classes
     μ-classes
     size-requires
@@ -384,7 +384,7 @@ find-conflicts-spec =
     concrete-types-of-requires
     size-requires-2
     element-copy-out-a
-    loop-holds
+    stored-holds
     mul-b
     element-copy-out-b
     push-requires
@@ -393,10 +393,10 @@ find-conflicts-spec =
     classes-again-3
     size-requires-3
     size-requires-4
-    loop2-holds
+    paired-holds
     add-i
-    loop2-less
-    loop2-again
+    paired-less
+    paired-again
     mul-find
     element-copy-out-find
     find-requires-2
@@ -408,11 +408,11 @@ find-conflicts-spec =
     classes-less-4
     classes-again-4
     add-i-2
-    loop2-less-2
-    loop2-again-2
+    paired-less-2
+    paired-again-2
     add-j
-    loop-less
-    loop-again
+    stored-less
+    stored-again
     add-e-5
     classes-less-5
     classes-again-5
