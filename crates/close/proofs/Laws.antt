@@ -142,67 +142,60 @@ module _ (g : Sig) (preds : List PredApp) where
   unfolding roundsFrom
   goes k t h = rw (h, roundsFrom)
 
-  -- The rounds on their way from the first, that left `first`: `count` ran, and the latest left `now`.
-  pub record Going (first now : closing.Turn) (count : ℕ) : Type 0 where
-    pub some : 1 ≤ count
-    pub few : count ≤ suc fuel
-    pub is : (k n : ℕ) → n + 1 ≡ count → k + n ≡ fuel → after n (roundsFrom k g preds now) ≡ roundsFrom fuel g preds first
+  -- the rounds end at a core, with so many that ran
+  abbrev pub ended : types.Core → List FuncApp → ℕ → closing.Rounds
+  ended core apps count = record { core = core; apps = apps; count = count }
 
-  pub begins : (first : closing.Turn) → Going first first 1
-  begins first = record {
-    some = omega arith;
+  -- The rounds on their way: `count` ran and left `core` and `apps`, and `again` says whether another follows.
+  pub record Going (whole : closing.Rounds) (core : types.Core) (apps : List FuncApp) (again : Bool) (count : ℕ) : Type 0 where
+    pub few : count ≤ suc fuel
+    pub more : again ≡ true → (k : ℕ) → k + count ≡ fuel → after count (roundsFrom k g preds (closing.round g preds apps core)) ≡ whole
+    -- the latest was idle, or met a number
+    pub stops : again ≡ false → ended core apps count ≡ whole
+    -- there are no more
+    pub spent : fuel < count → ended core apps count ≡ whole
+
+  pub begins : (core : types.Core) (apps : List FuncApp) → Going (closing.rounds g preds apps core) core apps true 0
+  unfolding closing.rounds
+  begins core apps = record {
     few = omega arith;
-    is = λ k n p q.
-        let z : n ≡ 0 = omega arith in
+    more = λ e k q.
         let f : k ≡ fuel = omega arith in
-        let r = roundsFrom fuel g preds first in
-        (λ i. after (z i) (roundsFrom (f i) g preds first)) ∙ (λ i. record { core = r .core; apps = r .apps; count = whole (r .count) i });
+        let r = roundsFrom fuel g preds (closing.round g preds apps core) in
+        (λ i. after 0 (roundsFrom (f i) g preds (closing.round g preds apps core)))
+        ∙ (λ i. record { core = r .core; apps = r .apps; count = none-before (r .count) i });
+    stops = λ e. let z : _≡_ {A = ℕ} 0 1 = cc e in absurd (omega arith);
+    spent = λ h. absurd (omega arith);
   }
     where
-      whole : (x : ℕ) → 0 + x ≡ x
-      whole x = omega arith
+      none-before : (x : ℕ) → 0 + x ≡ x
+      none-before x = omega arith
 
-  module _ {first now : closing.Turn} {count : ℕ} (so-far : Going first now count) where
+  module _ {whole : closing.Rounds} {core : types.Core} {apps : List FuncApp} {again : Bool} {count : ℕ} (so-far : Going whole core apps again count)
+      (h : again ≡ true) (l : count ≤ fuel) {next : closing.Turn} (e : next ≡ closing.round g preds apps core) where
+    from-next : (k : ℕ) → k + count ≡ fuel → after count (roundsFrom k g preds next) ≡ whole
+    from-next k q = ap (λ (t : closing.Turn). after count (roundsFrom k g preds t)) e ∙ so-far .more h k q
+
+    lasts : (k : ℕ) → k + count ≡ fuel → roundsFrom k g preds next ≡ lastRound next → ended (next .core) (next .apps) (count + 1) ≡ whole
+    unfolding lastRound
+    lasts k q last = sym (ap (after count) last) ∙ from-next k q
+
     -- one more
-    pub takes : (now .worked && isNone (now .core .met)) ≡ true → count ≤ fuel → {next : closing.Turn}
-        → next ≡ closing.round g preds (now .apps) (now .core) → Going first next (count + 1)
-    unfolding oneMore
-    takes h l {next} e = record {
-      some = omega arith;
+    pub takes : {then : Bool} → then ≡ (next .worked && isNone (next .core .met)) → Going whole (next .core) (next .apps) then (count + 1)
+    unfolding oneMore roundsFrom
+    takes t = record {
       few = omega arith;
-      is = λ k n p q.
-          let low : n ≡ (n - 1) + 1 = omega (arith, so-far .some) in
-          let r = roundsFrom k g preds (closing.round g preds (now .apps) (now .core)) in
-          ap (λ (t : closing.Turn). after n (roundsFrom k g preds t)) e
-          ∙ (λ i. record { core = r .core; apps = r .apps; count = regroup n (n - 1) (r .count) low i })
-          ∙ sym (ap (after (n - 1)) (goes k now h))
-          ∙ so-far .is (suc k) (n - 1) (omega arith) (omega arith);
+      more = λ p k q.
+          let r = roundsFrom k g preds (closing.round g preds (next .apps) (next .core)) in
+          (λ i. record { core = r .core; apps = r .apps; count = regroup (r .count) i })
+          ∙ sym (ap (after count) (goes k next (sym t ∙ p)))
+          ∙ from-next (suc k) (omega arith);
+      stops = λ p. lasts (fuel - count) (omega arith) (idle (fuel - count) next (sym t ∙ p));
+      spent = λ p. lasts 0 (omega arith) refl;
     }
       where
-        regroup : (n l x : ℕ) → n ≡ l + 1 → n + x ≡ l + suc x
-        regroup n l x h = omega arith
-
-    lasts : (k : ℕ) → k + (count - 1) ≡ fuel → roundsFrom k g preds now ≡ lastRound now
-        → _≡_ {A = closing.Rounds} (record { core = now .core; apps = now .apps; count = count }) (roundsFrom fuel g preds first)
-    unfolding lastRound
-    lasts k q e =
-        (λ i. record { core = now .core; apps = now .apps; count = whole (so-far .some) i })
-        ∙ sym (ap (after (count - 1)) e)
-        ∙ so-far .is k (count - 1) (omega (arith, so-far .some)) q
-      where
-        whole : 1 ≤ count → count ≡ (count - 1) + 1
-        whole h = omega arith
-
-    -- the latest was idle, or met a number
-    pub stops : (now .worked && isNone (now .core .met)) ≡ false
-        → _≡_ {A = closing.Rounds} (record { core = now .core; apps = now .apps; count = count }) (roundsFrom fuel g preds first)
-    stops h = lasts (fuel - (count - 1)) (omega (arith, so-far .some, so-far .few)) (idle (fuel - (count - 1)) now h)
-
-    -- there are no more
-    pub spent : fuel < count
-        → _≡_ {A = closing.Rounds} (record { core = now .core; apps = now .apps; count = count }) (roundsFrom fuel g preds first)
-    unfolding roundsFrom
-    spent h = lasts 0 (omega (arith, so-far .some, so-far .few)) refl
+        regroup : (x : ℕ) → (count + 1) + x ≡ count + suc x
+        regroup x = omega arith
 
 -- A close.
 

@@ -114,23 +114,22 @@ fn goes_on(worked: bool, met: u16) -> bool
 fn rounds(core: Core, signature: Signature, preds: PredApps, apps: FuncApps) -> Ran
     ensures { λ r. ⌜ Rounds (sigOf signature) (predAppsOf preds) (funcAppsOf apps) core r ⌝ }
 {
-    let first = round(core, signature, preds, apps);
-    let mut now = first.core;
-    let mut done = first.func_apps;
-    let mut worked = first.worked;
-    let mut merges = first.merges;
-    let mut added = first.added;
-    let mut count: u64 = 1;
+    let mut now = core;
+    let mut done = apps;
+    let mut again = true;
+    let mut merges: u64 = 0;
+    let mut added: u64 = 0;
+    let mut count: u64 = 0;
     while count <= Ran::FUEL {
-        if !goes_on(worked, now.met) {
+        if !again {
             break;
         }
         let next = round(now, signature, preds, done);
         let left = next.core;
         let table = next.func_apps;
+        again = goes_on(next.worked, left.met);
         now = left;
         done = table;
-        worked = next.worked;
         merges += next.merges;
         added += next.added;
         count += 1;

@@ -6,15 +6,21 @@ use facts::Facts;
 use facts::Impositions;
 use ids::ElId;
 use ids::ElIds;
+use ids::Ordering;
 use ids::Refusal;
 use merging::Core;
 use merging::Worked;
+use unification::Unification;
 ghost use mathlib.Core.Path.{_≡_};
+ghost use lib.ListN.{take};
 ghost use Rattle.ids.specs.Ids.{elsOf};
+ghost use Rattle.ids.specs.Table.{present};
+ghost use Rattle.semantics.specs.Structure.{compareFact};
 ghost use Rattle.facts.specs.View.{factOf, factsOf, impositionsOf};
 ghost use Rattle.semantics.specs.Types.{refine, refineParents, refineAll, insertFact, impose, imposeAll};
 ghost use Rattle.merging.specs.View.{Passes};
 ghost use Rattle.imposing.specs.Bounds.{onePair, oneList, oneFact, oneImposed, allImpositions};
+ghost use Rattle.imposing.specs.Idle.{Unmarked, PairKept, ParentsKept, TypesKept, Idle};
 
 // A pass that finds nothing to do.
 fn idle(core: Core) -> Worked
@@ -145,6 +151,121 @@ fn insert_fact(core: Core, fact: Fact) -> Worked
     }
 }
 
+// Whether an element in use is marked.
+fn any_marked(unification: Unification, marks: [bool; Unification::MAX_ELS]) -> bool
+    ensures { λ r. ⌜ Unmarked (take (unification .len) marks) r ⌝ }
+{
+    let n = unification.size();
+    for i in 0..n {
+        if marks[i] {
+            return true;
+        }
+    }
+    false
+}
+
+// Whether the fact is stored.
+fn holds(facts: Facts, entry: Fact) -> bool
+    ensures { λ r. ⌜ r ≡ present compareFact (factOf entry) (factsOf facts) ⌝ }
+{
+    let n = facts.size();
+    for i in 0..n {
+        let here = facts.items[i];
+        match here.compare(entry) {
+            Ordering::Less => {
+                continue;
+            }
+            Ordering::Equal => {
+                return true;
+            }
+            Ordering::Greater => {
+                return false;
+            }
+        }
+    }
+    false
+}
+
+// Whether two parents are not merged: their roots are one, or neither is marked.
+fn keeps_pair(core: Core, p: ElId, q: ElId) -> bool
+    ensures { λ r. ⌜ PairKept core (p .0) (q .0) r ⌝ }
+{
+    let u = core.unification;
+    let first = u.find(p);
+    let second = u.find(q);
+    let a = first.root;
+    let b = second.root;
+    if a.0 == b.0 {
+        return true;
+    }
+    if core.either_marked(a, b) {
+        return false;
+    }
+    true
+}
+
+// Whether no parents of two lists are merged.
+fn keeps_parents(core: Core, ps: ElIds, qs: ElIds) -> bool
+    ensures { λ r. ⌜ ParentsKept core (elsOf ps) (elsOf qs) r ⌝ }
+{
+    let n = ps.size();
+    let k = qs.size();
+    for i in 0..n {
+        if k <= i {
+            return true;
+        }
+        let p = ps.ids[i];
+        let q = qs.ids[i];
+        if !keeps_pair(core, p, q) {
+            return false;
+        }
+    }
+    true
+}
+
+// Whether no type that the element has is refined.
+fn keeps_types(core: Core, fact: Fact) -> bool
+    ensures { λ r. ⌜ TypesKept core (factOf fact) r ⌝ }
+{
+    let u = core.unification;
+    let found = u.find(fact.el);
+    let root = found.root.0;
+    let facts = core.facts;
+    let n = facts.size();
+    let parents = fact.ct.parents;
+    for i in 0..n {
+        let here = facts.items[i];
+        if here.el.0 != root {
+            continue;
+        }
+        if here.ct.typ.0 != fact.ct.typ.0 {
+            continue;
+        }
+        let known = here.ct.parents;
+        if !keeps_parents(core, known, parents) {
+            return false;
+        }
+    }
+    true
+}
+
+// Whether imposing a fact changes nothing: it is stored, and no type is refined. The test writes no table.
+pub fn is_idle(core: Core, fact: Fact) -> bool
+    ensures { λ r. ⌜ Idle core (factOf fact) r ⌝ }
+{
+    let u = core.unification;
+    let entry = canonical::canonical_fact(u, fact);
+    let facts = core.facts;
+    if !holds(facts, entry) {
+        return false;
+    }
+    let marks = core.marks;
+    if !any_marked(u, marks) {
+        return true;
+    }
+    keeps_types(core, fact)
+}
+
 pub fn impose_concrete_type(core: Core, fact: Fact) -> Worked
     ensures { λ r. ⌜ Passes core r oneImposed (impose (factOf fact)) ⌝ }
 {
@@ -171,6 +292,9 @@ pub fn apply_pending_type_impositions(core: Core, impositions: Impositions) -> W
     let mut added: u64 = 0;
     for i in 0..n {
         let fact = impositions.items[i];
+        if is_idle(now, fact) {
+            continue;
+        }
         let imposed = impose_concrete_type(now, fact);
         let next = imposed.core;
         now = next;

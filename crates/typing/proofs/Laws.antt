@@ -23,8 +23,9 @@ use Rattle.semantics.specs.Close.{demanded, demandedAt, demandedArgs, funcArgs,
 use Rattle.semantics.proofs.Imposed.{imposeAll-none, imposeAll-one, imposeAll-append}
 use Rattle.merging.specs.declared.Core.{Core}
 use Rattle.merging.specs.declared.Worked.{Worked}
-use Rattle.merging.specs.View.{Toward, Passes}
+use Rattle.merging.specs.View.{coreOf, Toward, Passes}
 use Rattle.merging.proofs.Laws.{leaves, first, turn, idle-turn}
+use Rattle.imposing.proofs.Nothing.{idle-here}
 
 -- a list whose length is cut, or is not
 pub cut : (l : ElIds) (n : ℕ) → n ≤ l .len → map elOf (take n (l .ids)) ≡ take n (elsOf l)
@@ -55,6 +56,15 @@ module _ (g : Sig) (t : ℕ) (ps : List ℕ) (e : ℕ) {ts : List TypeM} {given 
       let fact : List ℕ → Fact = λ l. record { el = e; typ = typ .0; parents = l } in
       let one : demandedAt g t ps e ≡ fact qs ∷ [] = looked-up found ∙ ap (λ (l : List ℕ). fact l ∷ []) (sym leading) in
       first p (λ w. sym (imposeAll-one (fact qs) w) ∙ ap (λ (l : List Fact). imposeAll l w) (sym one))
+
+  -- its fact changes nothing
+  pub type-idle : {w : types.Core} {count : ℕ} {typ : TypeId} {qs : List ℕ} → typed ≡ At typ count → qs ≡ take count ps
+      → impose (record { el = e; typ = typ .0; parents = qs }) w ≡ w → w ≡ imposeAll (demandedAt g t ps e) w
+  unfolding demanded
+  type-idle {w = w} {typ = typ} {qs = qs} found leading idle =
+      let fact : List ℕ → Fact = λ l. record { el = e; typ = typ .0; parents = l } in
+      let one : demandedAt g t ps e ≡ fact qs ∷ [] = looked-up found ∙ ap (λ (l : List ℕ). fact l ∷ []) (sym leading) in
+      sym idle ∙ sym (imposeAll-one (fact qs) w) ∙ ap (λ (l : List Fact). imposeAll l w) (sym one)
 
 -- What entries demand, one after the other: each by itself, and all.
 pub record Each {X : Type 0} (one : X → List Fact) (all : List X → List Fact) : Type 0 where
@@ -133,6 +143,14 @@ module _ (g : Sig) (ts : TypeIds) (ps : List ℕ) (xs : ElIds) (i per : ℕ)
     arg-untyped none =
         idle-turn per i so-far
         (λ w. ap (λ (l : List Fact). imposeAll (l ++ next) w) (sym none) ∙ ap (λ (l : List Fact). imposeAll l w) (sym here-and-next))
+
+    -- its type changes nothing
+    pub arg-idle : ((m a : ℕ) → coreOf now m a ≡ imposeAll here (coreOf now m a)) → Toward before now merges added ((i + 1) * per) (imposeAll next) whole
+    arg-idle idle =
+        idle-here per i so-far
+        (λ m a.
+        let w = coreOf now m a in
+        ap (imposeAll next) (idle m a) ∙ sym (imposeAll-append here next w) ∙ ap (λ (l : List Fact). imposeAll l w) (sym here-and-next))
 
   -- there is none
   pub no-arg : length (elsOf xs) ≤ i → Toward before now merges added ((i + 1) * per) (imposeAll next) whole

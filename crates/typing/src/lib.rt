@@ -65,6 +65,9 @@ fn type_args(
                 parents: leading(parents, count),
             },
         };
+        if imposing::is_idle(now, fact) {
+            continue;
+        }
         let imposed = imposing::impose_concrete_type(now, fact);
         let next = imposed.core;
         now = next;
@@ -103,6 +106,13 @@ fn type_result(
             parents: leading(parents, count),
         },
     };
+    if imposing::is_idle(core, fact) {
+        return Worked {
+            core,
+            merges: 0,
+            added: 0,
+        };
+    }
     imposing::impose_concrete_type(core, fact)
 }
 

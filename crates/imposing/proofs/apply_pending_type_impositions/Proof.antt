@@ -3,10 +3,11 @@ use Prim.Native.Nat.{_≤_, _<_, _*_, _-_}
 use native.Mathlib.Omega.{arith}
 use lib.ListN.{length, drop}
 use Rattle.semantics.specs.Types.{imposeAll}
-use Rattle.facts.specs.View.{impositionsOf}
-use Rattle.merging.specs.View.{Toward}
+use Rattle.facts.specs.View.{impositionsOf, noFact}
+use Rattle.merging.specs.View.{coreOf, Toward}
 use Rattle.imposing.specs.Bounds.{oneImposed}
 use Rattle.merging.proofs.Laws.{begins, leaves, turn}
+use Rattle.imposing.proofs.Nothing.{idle-here, impositions-idle}
 use Rattle.imposing.proofs.Laws.{impositions-next, impositions-done}
 use borrow.Author.Needs.{needs}
 use Rattle.imposing.proofs.apply_pending_type_impositions.Statement.{statement}
@@ -32,22 +33,8 @@ mul-fact c = search needs
 element-copy-out-fact : tie.Need-element-copy-out-fact Inv-loop μ-loop
 element-copy-out-fact c = search needs
 
-impose-concrete-type-requires : tie.Need-impose-concrete-type-requires Inv-loop μ-loop
-impose-concrete-type-requires c κs = search needs
-
-add-merges : tie.Need-add-merges Inv-loop μ-loop
-add-merges c =
-    let made = c .before .before in
-    let test = made .before .before in
-    let l = test .before .loop in
-    omega (arith, l .inv .1 .merges-most, made .impose-concrete-type .ensures .merges-most, test .loop-test .taken, test .before .before .size .ensures .most)
-
-add-added : tie.Need-add-added Inv-loop μ-loop
-add-added c =
-    let made = c .before .before .before in
-    let test = made .before .before in
-    let l = test .before .loop in
-    omega (arith, l .inv .1 .added-most, made .impose-concrete-type .ensures .added-most, test .loop-test .taken, test .before .before .size .ensures .most)
+is-idle-requires : tie.Need-is-idle-requires Inv-loop μ-loop
+is-idle-requires c κs = search needs
 
 add-i : tie.Need-add-i Inv-loop μ-loop
 add-i c = search needs
@@ -55,10 +42,46 @@ add-i c = search needs
 loop-less : tie.Need-loop-less Inv-loop μ-loop
 loop-less c = search needs
 
+-- it changes nothing
 loop-again : tie.Need-loop-again Inv-loop μ-loop
 loop-again c =
+    let asked = c .before in
+    let test = asked .before .before in
+    let sized = test .before .before in
+    let t = sized .before .args .t2 in
+    let l = test .before .loop in
+    let at : l .i < length (impositionsOf t) = omega (arith, sized .size .ensures .is, test .loop-test .taken) in (
+      omega (arith, test .loop-test .taken),
+      idle-here oneImposed (l .i) (l .inv .1) (λ m n. impositions-idle t (l .i) noFact at (coreOf (l .now) m n) (asked .is-idle .ensures (c .if1 .taken) m n)),
+    )
+
+impose-concrete-type-requires : tie.Need-impose-concrete-type-requires Inv-loop μ-loop
+impose-concrete-type-requires c κs = search needs
+
+add-merges : tie.Need-add-merges Inv-loop μ-loop
+add-merges c =
+    let made = c .before .before in
+    let test = made .before .before .before .before in
+    let l = test .before .loop in
+    omega (arith, l .inv .1 .merges-most, made .impose-concrete-type .ensures .merges-most, test .loop-test .taken, test .before .before .size .ensures .most)
+
+add-added : tie.Need-add-added Inv-loop μ-loop
+add-added c =
     let made = c .before .before .before in
-    let test = made .before .before in
+    let test = made .before .before .before .before in
+    let l = test .before .loop in
+    omega (arith, l .inv .1 .added-most, made .impose-concrete-type .ensures .added-most, test .loop-test .taken, test .before .before .size .ensures .most)
+
+add-i-2 : tie.Need-add-i-2 Inv-loop μ-loop
+add-i-2 c = search needs
+
+loop-less-2 : tie.Need-loop-less-2 Inv-loop μ-loop
+loop-less-2 c = search needs
+
+loop-again-2 : tie.Need-loop-again-2 Inv-loop μ-loop
+loop-again-2 c =
+    let made = c .before .before .before in
+    let test = made .before .before .before .before in
     let sized = test .before .before in
     let t = sized .before .args .t2 in
     let l = test .before .loop in
@@ -85,10 +108,14 @@ apply-pending-type-impositions-spec =
     loop-holds
     mul-fact
     element-copy-out-fact
-    impose-concrete-type-requires
-    add-merges
-    add-added
+    is-idle-requires
     add-i
     loop-less
     loop-again
+    impose-concrete-type-requires
+    add-merges
+    add-added
+    add-i-2
+    loop-less-2
+    loop-again-2
     returns)

@@ -11,7 +11,7 @@ use Rattle.semantics.specs.Close.{demandedArgs}
 use Rattle.merging.specs.View.{Toward}
 use Rattle.imposing.specs.Bounds.{oneImposed}
 use Rattle.merging.proofs.Laws.{begins}
-use Rattle.typing.proofs.Laws.{type-absent, type-imposed, arg-typed, arg-untyped, no-arg, types-end}
+use Rattle.typing.proofs.Laws.{type-absent, type-imposed, type-idle, arg-typed, arg-untyped, arg-idle, no-arg, types-end}
 use borrow.Author.Needs.{needs}
 use Rattle.typing.proofs.type_args.Statement.{statement}
 use Rattle.typing.proofs.type_args.Tie as tie
@@ -105,13 +105,44 @@ loop-again-2 c =
 leading-requires : tie.Need-leading-requires Inv-loop μ-loop
 leading-requires c κs = search needs
 
+is-idle-requires : tie.Need-is-idle-requires Inv-loop μ-loop
+is-idle-requires c κs = search needs
+
+add-i-3 : tie.Need-add-i-3 Inv-loop μ-loop
+add-i-3 c = search needs
+
+loop-less-3 : tie.Need-loop-less-3 Inv-loop μ-loop
+loop-less-3 c = search needs
+
+-- it changes nothing
+loop-again-3 : tie.Need-loop-again-3 Inv-loop μ-loop
+loop-again-3 c =
+    let asked = c .before in
+    let led = asked .before in
+    let known = led .before .before in
+    let looked = known .before .before in
+    let inside = looked .before .before .before in
+    let test = inside .before in
+    let sized = test .before .before in
+    let a = sized .before .before .before .before .args in
+    let l = test .before .loop in
+    let ht : l .i < length (typesOf (a .t3)) = omega (arith, sized .before .before .size .ensures .is, test .loop-test .taken) in
+    let hx : l .i < length (elsOf (a .t5)) = omega (arith, sized .before .size2 .ensures .is, inside .if1 .left) in (
+      omega (arith, test .loop-test .taken),
+      λ g same.
+          arg-idle g (a .t3) (elsOf (a .parents)) (a .t5) (l .i) oneImposed (l .inv .1 g same) (record { 0 = 0 }) (record { 0 = 0 }) ht hx
+          (λ m n.
+          type-idle g _ (elsOf (a .parents)) _ (looked .concrete-type-at .ensures) same (sized .size3 .ensures .is)
+          (known .typ .given .1) (led .leading .ensures) (asked .is-idle .ensures (c .if2 .taken) m n)),
+    )
+
 impose-concrete-type-requires : tie.Need-impose-concrete-type-requires Inv-loop μ-loop
 impose-concrete-type-requires c κs = search needs
 
 add-merges : tie.Need-add-merges Inv-loop μ-loop
 add-merges c =
     let made = c .before .before in
-    let test = made .before .before .before .before .before .before .before .before .before in
+    let test = made .before .before .before .before .before .before .before .before .before .before .before in
     let sized = test .before .before in
     let l = test .before .loop in
     let so-far = l .inv .1 (sigOf (sized .before .before .before .before .args .signature)) refl in
@@ -126,7 +157,7 @@ add-merges c =
 add-added : tie.Need-add-added Inv-loop μ-loop
 add-added c =
     let made = c .before .before .before in
-    let test = made .before .before .before .before .before .before .before .before .before in
+    let test = made .before .before .before .before .before .before .before .before .before .before .before in
     let sized = test .before .before in
     let l = test .before .loop in
     let so-far = l .inv .1 (sigOf (sized .before .before .before .before .args .signature)) refl in
@@ -138,20 +169,20 @@ add-added c =
       sized .before .before .size .ensures .most,
     )
 
-add-i-3 : tie.Need-add-i-3 Inv-loop μ-loop
-add-i-3 c =
-    let test = c .before .before .before .before .before .before .before .before .before .before .before .before in
+add-i-4 : tie.Need-add-i-4 Inv-loop μ-loop
+add-i-4 c =
+    let test = c .before .before .before .before .before .before .before .before .before .before .before .before .before .before in
     omega (arith, test .loop-test .taken, test .before .before .before .before .size .ensures .most)
 
-loop-less-3 : tie.Need-loop-less-3 Inv-loop μ-loop
-loop-less-3 c =
-    let test = c .before .before .before .before .before .before .before .before .before .before .before .before in
+loop-less-4 : tie.Need-loop-less-4 Inv-loop μ-loop
+loop-less-4 c =
+    let test = c .before .before .before .before .before .before .before .before .before .before .before .before .before .before in
     omega (arith, test .loop-test .taken)
 
-loop-again-3 : tie.Need-loop-again-3 Inv-loop μ-loop
-loop-again-3 c =
+loop-again-4 : tie.Need-loop-again-4 Inv-loop μ-loop
+loop-again-4 c =
     let made = c .before .before .before in
-    let led = made .before in
+    let led = made .before .before .before in
     let known = led .before .before in
     let looked = known .before .before in
     let inside = looked .before .before .before in
@@ -202,10 +233,14 @@ type-args-spec =
     loop-less-2
     loop-again-2
     leading-requires
-    impose-concrete-type-requires
-    add-merges
-    add-added
+    is-idle-requires
     add-i-3
     loop-less-3
     loop-again-3
+    impose-concrete-type-requires
+    add-merges
+    add-added
+    add-i-4
+    loop-less-4
+    loop-again-4
     returns)

@@ -8,8 +8,8 @@ use Rattle.semantics.specs.Structure.{Fact}
 use Rattle.semantics.specs.Types.{imposeAll}
 use Rattle.semantics.specs.Close.{demandedAt}
 use Rattle.semantics.proofs.Imposed.{imposeAll-none}
-use Rattle.merging.proofs.Laws.{begins, leaves}
-use Rattle.typing.proofs.Laws.{type-absent, type-imposed}
+use Rattle.merging.proofs.Laws.{begins, leaves, leaves-here}
+use Rattle.typing.proofs.Laws.{type-absent, type-imposed, type-idle}
 use borrow.Author.Needs.{needs}
 use Rattle.typing.proofs.type_result.Statement.{statement}
 use Rattle.typing.proofs.type_result.Tie as tie
@@ -42,12 +42,29 @@ returns c =
 leading-requires : tie.Need-leading-requires
 leading-requires c κs = search needs
 
+is-idle-requires : tie.Need-is-idle-requires
+is-idle-requires c κs = search needs
+
+-- it changes nothing
+returns-2 : tie.Need-returns-2
+returns-2 c =
+    let asked = c .before in
+    let led = asked .before in
+    let looked = led .before .before .before .before in
+    let sized = looked .before in
+    let a = sized .before .before .args in
+    let g = sigOf (a .signature) in
+    leaves-here (begins (a .core) (imposeAll (demandedAt g (a .codomain .0) (elsOf (a .parents)) (a .el .0)))) (omega arith)
+    (λ m n.
+    type-idle g (a .codomain .0) (elsOf (a .parents)) (a .el .0) (looked .concrete-type-at .ensures) refl (sized .size .ensures .is)
+    (led .before .before .typ .given .1) (led .leading .ensures) (asked .is-idle .ensures (c .if1 .taken) m n))
+
 impose-concrete-type-requires : tie.Need-impose-concrete-type-requires
 impose-concrete-type-requires c κs = search needs
 
-returns-2 : tie.Need-returns-2
-returns-2 c =
-    let led = c .before in
+returns-3 : tie.Need-returns-3
+returns-3 c =
+    let led = c .before .before .before in
     let looked = led .before .before .before .before in
     let sized = looked .before in
     let a = sized .before .before .args in
@@ -65,5 +82,7 @@ type-result-spec =
     enum-told
     returns
     leading-requires
+    is-idle-requires
+    returns-2
     impose-concrete-type-requires
-    returns-2)
+    returns-3)

@@ -1,0 +1,109 @@
+-- Laws of an imposing that changes nothing.
+use mathlib.Core.Path.{_≡_, refl, sym, ap, _∙_}
+use mathlib.Core.Logic.{⊎-elim}
+use mathlib.Core.Bool.{Bool, true, false, not, _&&_, _||_}
+use mathlib.Core.List.{List, [], _∷_}
+use Prim.Native.Nat.{ℕ, _+_, _*_, _≤_, _<_}
+use native.Mathlib.Nat.{add-mul}
+use native.Mathlib.Omega.{arith}
+use lib.ListN.{length, take, drop, getD, length-take, List·getD-eq-default}
+use lib.Seq.{getD-take}
+use lib.Dec.{eqb}
+use Rattle.ids.specs.declared.Ordering.{Ordering}
+use Rattle.ids.specs.declared.Ordering.the-variants.{Less, Equal, Greater}
+use Rattle.ids.specs.Table.{present}
+use Rattle.ids.proofs.Answers.{and-right}
+use Rattle.unification.specs.Roots.{rootOf}
+use Rattle.unification.proofs.Numbers.{less-or}
+use Rattle.semantics.specs.Structure.{Fact, compareFact, canonicalFact}
+use Rattle.semantics.specs.Types as types
+use Rattle.semantics.specs.Types.{imposeAll, marked, refineRoots, refine, refineParents, refineAll, insertFact, insertCanonical, concreteTypesOf, impose}
+use Rattle.facts.specs.declared.Fact as code
+use Rattle.facts.specs.declared.Impositions.{Impositions}
+use Rattle.facts.specs.View.{factOf, impositionsOf}
+use Rattle.merging.specs.declared.Core.{Core}
+use Rattle.merging.specs.View.{coreOf, Toward}
+use Rattle.merging.proofs.Laws.{leaves-here}
+use Rattle.imposing.proofs.Laws.{impositions-next}
+
+-- The search for a mark, by the elements that it passed.
+
+pub unmarked-next : (ms : List Bool) (i : ℕ) → ((e : ℕ) → e < i → getD ms e false ≡ false) → getD ms i false ≡ false
+    → (e : ℕ) → e < i + 1 → getD ms e false ≡ false
+unmarked-next ms i so-far h e l =
+    ⊎-elim (so-far e) (λ g. let same : e ≡ i = omega arith in ap (λ (k : ℕ). getD ms k false) same ∙ h) (less-or e i)
+
+pub unmarked-all : (ms : List Bool) (n i : ℕ) → ((e : ℕ) → e < i → getD ms e false ≡ false) → length (take n ms) ≤ i
+    → (e : ℕ) → marked (take n ms) e ≡ false
+unmarked-all ms n i so-far h e =
+    ⊎-elim
+    (λ l. let used : e < n = omega (arith, length-take n ms) in
+    let first : e < i = omega (arith, h) in getD-take n ms e false used ∙ so-far e first)
+    (λ g. List·getD-eq-default (take n ms) false g)
+    (less-or e (length (take n ms)))
+
+-- a mark was found
+pub never : {A : Type 0} → true ≡ false → A
+never e = let z : _≡_ {A = ℕ} 0 1 = cc e in absurd (omega arith)
+
+-- The search for a fact, in a table whose entry y comes next.
+
+module _ (x y : Fact) (ys : List Fact) {p : Bool} (so-far : present compareFact x (y ∷ ys) ≡ p) where
+  pub past : compareFact y x ≡ Less → present compareFact x ys ≡ p
+  unfolding present
+  past e = rw (e, present) at so-far
+
+  pub here : compareFact y x ≡ Equal → true ≡ p
+  unfolding present
+  here e = rw (e, present) at so-far
+
+  pub passed : compareFact y x ≡ Greater → false ≡ p
+  unfolding present
+  passed e = rw (e, present) at so-far
+
+-- No element is marked.
+module _ (w : types.Core) (none : (e : ℕ) → marked (w .marks) e ≡ false) where
+  refine-still : (p q : ℕ) → refine p q w ≡ w
+  unfolding refine refineRoots
+  refine-still p q =
+      let a = rootOf (w .links) p in
+      let b = rootOf (w .links) q in
+      rw (none a, none b, and-right (not (eqb a b)) {b = false} refl, refineRoots)
+
+  parents-still : (ps qs : List ℕ) → refineParents ps qs w ≡ w
+  unfolding refineParents
+  parents-still [] qs = refl
+  parents-still (p ∷ ps) [] = refl
+  parents-still (p ∷ ps) (q ∷ qs) = ap (refineParents ps qs) (refine-still p q) ∙ parents-still ps qs
+
+  pub all-still : (gs : List Fact) (f : Fact) → refineAll gs f w ≡ w
+  unfolding refineAll
+  all-still [] f = refl
+  all-still (g ∷ gs) f = ap (refineAll gs f) (go (eqb (g .typ) (f .typ))) ∙ all-still gs f
+    where
+      go : (b : Bool) → _≡_ {A = types.Core} (elim b [ true ↦ refineParents (g .parents) (f .parents) w | false ↦ w ]) w
+      go true = parents-still (g .parents) (f .parents)
+      go false = refl
+
+-- what is stored is not inserted
+insert-stored : (f : Fact) (w : types.Core) → present compareFact f (w .facts) ≡ true → insertFact f w ≡ w
+unfolding insertFact
+insert-stored f w e = rw (e, insertFact)
+
+-- no type is refined, and the fact is stored
+pub imposes-nothing : (f : Fact) (w : types.Core) → refineAll (concreteTypesOf (w .links) (w .facts) (f .el)) f w ≡ w
+    → {x : Fact} → x ≡ canonicalFact (w .links) f → present compareFact x (w .facts) ≡ true → impose f w ≡ w
+unfolding impose insertCanonical
+imposes-nothing f w still {x} is stored =
+    ap (insertCanonical f) still ∙ insert-stored (canonicalFact (w .links) f) w (ap (λ (y : Fact). present compareFact y (w .facts)) (sym is) ∙ stored)
+
+-- A turn of a loop that changes nothing where it is.
+pub idle-here : {before now : Core} {merges added : ℕ} (per : ℕ) {rest whole : types.Core → types.Core} (i : ℕ)
+    → Toward before now merges added (i * per) rest whole → {then : types.Core → types.Core}
+    → ((m a : ℕ) → then (coreOf now m a) ≡ rest (coreOf now m a)) → Toward before now merges added ((i + 1) * per) then whole
+idle-here per i so-far e = leaves-here so-far (omega (arith, add-mul i 1 per)) e
+
+-- an imposition that changes nothing
+pub impositions-idle : (t : Impositions) (i : ℕ) (d : code.Fact) → i < length (impositionsOf t) → (w : types.Core)
+    → impose (factOf (getD (t .items) i d)) w ≡ w → imposeAll (drop (i + 1) (impositionsOf t)) w ≡ imposeAll (drop i (impositionsOf t)) w
+impositions-idle t i d h w idle = ap (imposeAll (drop (i + 1) (impositionsOf t))) (sym idle) ∙ impositions-next t i d h w
