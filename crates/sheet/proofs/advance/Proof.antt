@@ -1,0 +1,21 @@
+-- `advance` meets its contract.
+use Rattle.sheet.proofs.Laws.{reads}
+use denote.Ref.{now}
+use borrow.Author.Needs.{needs}
+use Rattle.sheet.proofs.advance.Statement.{statement}
+use Rattle.sheet.proofs.advance.Tie as tie
+
+record-at-requires : tie.Need-record-at-requires
+record-at-requires c κs = search needs
+
+step-requires : tie.Need-step-requires
+step-requires c κs = search needs
+
+returns : tie.Need-returns
+returns c =
+    let sheet = c .before .before in
+    let a = sheet .before .args in
+    c .step .ensures (now (a .bytes)) (reads (now (a .bytes)) (a .progress .index) (sheet .sheet .given .0) (c .before .record-at .ensures))
+
+pub advance-spec : {M : Type 1} → statement M
+advance-spec = tie.close (tie.spec record-at-requires step-requires returns)

@@ -1,0 +1,103 @@
+-- `after_record` meets its contract.
+use Rattle.sheet.proofs.Laws.{after-refusal, after-close, after-conflicts, after-pass}
+use mathlib.Core.Path.{refl}
+use Rattle.semantics.specs.Sheet.{printAnswer}
+use borrow.Author.Needs.{needs}
+use Rattle.sheet.proofs.after_record.Statement.{statement}
+use Rattle.sheet.proofs.after_record.Tie as tie
+
+enum-known-answer : tie.Need-enum-known-answer
+enum-known-answer c = search needs
+
+refuse-requires : tie.Need-refuse-requires
+refuse-requires c κs = search needs
+
+enum-known-answer-2 : tie.Need-enum-known-answer-2
+enum-known-answer-2 c = search needs
+
+close-line-requires : tie.Need-close-line-requires
+close-line-requires c κs = search needs
+
+follow-requires : tie.Need-follow-requires
+follow-requires c κs = search needs
+
+enum-told : tie.Need-enum-told
+enum-told c = search needs
+
+new-requires : tie.Need-new-requires
+new-requires c κs = search needs
+
+enum-known-answer-3 : tie.Need-enum-known-answer-3
+enum-known-answer-3 c = search needs
+
+pass-requires : tie.Need-pass-requires
+pass-requires c κs = search needs
+
+enum-known-answer-4 : tie.Need-enum-known-answer-4
+enum-known-answer-4 c = search needs
+
+pass-requires-2 : tie.Need-pass-requires-2
+pass-requires-2 c κs = search needs
+
+enum-told-2 : tie.Need-enum-told-2
+enum-told-2 c = search needs
+
+pass-requires-3 : tie.Need-pass-requires-3
+pass-requires-3 c κs = search needs
+
+returns : tie.Need-returns
+returns c =
+    let a = c .before .before .before .before .before .before .args in
+    after-refusal (a .carried) (a .index) (a .count) (a .next) (a .done) (c .before .before .answer .given .1) (c .refuse .ensures)
+
+returns-2 : tie.Need-returns-2
+returns-2 c =
+    let a = c .before .before .before .before .before .before .before .args in
+    after-close (a .carried) (a .index) (a .count) (a .next) (a .done) (c .before .before .before .answer2 .given .1) refl (c .before .close-line .ensures) (c .follow .ensures)
+
+returns-3 : tie.Need-returns-3
+returns-3 c =
+    let a = c .before .before .before .before .before .args in
+    after-conflicts (a .carried) (a .index) (a .count) (a .next) (a .done) (c .before .enum-told .given .1) (c .new .ensures) refl
+
+returns-4 : tie.Need-returns-4
+unfolding printAnswer
+returns-4 c =
+    let a = c .before .before .before .before .before .before .args in
+    after-pass (a .carried) (a .index) (a .count) (a .next) (a .done) (c .before .before .answer3 .given .1) (λ r. refl) (c .pass .ensures)
+
+returns-5 : tie.Need-returns-5
+unfolding printAnswer
+returns-5 c =
+    let a = c .before .before .before .before .before .before .args in
+    after-pass (a .carried) (a .index) (a .count) (a .next) (a .done) (c .before .before .answer4 .given .1) (λ r. refl) (c .pass2 .ensures)
+
+returns-6 : tie.Need-returns-6
+unfolding printAnswer
+returns-6 c =
+    let a = c .before .before .before .before .before .args in
+    after-pass (a .carried) (a .index) (a .count) (a .next) (a .done) (c .before .enum-told2 .given .1) (λ r. refl) (c .pass3 .ensures)
+
+pub after-record-spec : {M : Type 1} → statement M
+after-record-spec =
+    tie.close
+    (tie.spec
+    enum-known-answer
+    refuse-requires
+    enum-known-answer-2
+    close-line-requires
+    follow-requires
+    enum-told
+    new-requires
+    enum-known-answer-3
+    pass-requires
+    enum-known-answer-4
+    pass-requires-2
+    enum-told-2
+    pass-requires-3
+    returns
+    returns-2
+    returns-3
+    returns-4
+    returns-5
+    returns-6)
