@@ -15,7 +15,7 @@ ghost use Rattle.semantics.specs.Sheet.{stops, refusedLine, chainBroken, carrie
 ghost use Rattle.lines.specs.View.{lineOf};
 ghost use Rattle.records.specs.View.{recordView};
 ghost use Rattle.carrying.specs.View.{machineOf, stepOf};
-ghost use Rattle.sheet.specs.View.{doneBefore, following, piecesFollowing, restAt, piecesAt, standing, Started, Became, Follows, Passes, Visited, Steps, Advanced};
+ghost use Rattle.sheet.specs.View.{maxPieces, doneBefore, following, piecesFollowing, restAt, piecesAt, standing, Started, Became, Follows, Passes, Visited, Steps, Advanced};
 ghost use Rattle.sheet.specs.declared.Stage.the-variants as stages;
 
 // What the next piece is of: the refusal of a sheet whose length is bad, a record, a line of conflicts, the last line,
@@ -52,6 +52,13 @@ impl Progress {
     // At most this many pieces come until a sheet has ended: for each record a visit, the conflicts and their number,
     // and the last line.
     pub const MAX_PIECES: usize = (Structure::MAX_ELS + 2) * Record::MAX_RECORDS + 1;
+
+    // The constant is the number that the theorem on pieces speaks of.
+    pub fn max_pieces() -> usize
+        ensures { λ r. ⌜ r ≡ maxPieces ⌝ }
+    {
+        Progress::MAX_PIECES
+    }
 }
 
 fn at_stage(stage: Stage, machine: Machine, count: u16, index: u16, done: u16) -> Progress
