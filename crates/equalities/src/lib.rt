@@ -73,9 +73,9 @@ impl Pairs {
 pub fn equate(unification: Unification, pairs: Pairs, a: ElId, b: ElId) -> Equated
     ensures { λ r. ⌜ equatedOf r ≡ equateIn (linksOf unification) (pairsOf pairs) (a .0) (b .0) ⌝ }
 {
-    let first = unification.shorten(a);
+    let first = unification::root_value(unification, a);
     let once = first.unification;
-    let second = once.shorten(b);
+    let second = unification::root_value(once, b);
     let twice = second.unification;
     let x = first.find.root.0;
     let y = second.find.root.0;

@@ -1,5 +1,5 @@
 // The link table of the elements (unification.rs): roots, and the classes that merges make.
-// `root_const` and `root` are the public finds; the other functions serve our own crates.
+// `Unification::root_const` and `Unification::root` are the public finds; the other functions serve our own crates.
 use ids::ElId;
 use ids::ElIds;
 use ids::Refusal;
@@ -106,7 +106,7 @@ impl Unification {
     }
 
     // The root of `el`. Each element passed then links to what its former link linked to.
-    pub fn shorten(self, el: ElId) -> Shortened
+    fn shorten(self, el: ElId) -> Shortened
         ensures { λ r. ⌜ shortened r ≡ shortenedOf (linksOf self) (el .0) ⌝ }
     {
         let mut u = self;
@@ -206,12 +206,35 @@ impl Unification {
                 unification: self,
             };
         }
-        let s = self.shorten(el);
+        let s = root_value(self, el);
         let find = s.find;
         let unification = s.unification;
         Rooted {
             find: Finding::Found(find),
             unification,
         }
+    }
+}
+
+// The root of `el`, with the path shortened in the table that is lent.
+// A function that takes `&mut` of a struct is proved by hand, so this one only takes the table out and stores it back.
+pub fn root(unification: &mut Unification, el: ElId) -> Find
+    ensures { λ r. ⌜ record { find = found r; links = linksOf (now (unification .exit)) }
+        ≡ shortenedOf (linksOf (now (unification .entry))) (el .0) ⌝ }
+{
+    let s = Unification::shorten(*unification, el);
+    *unification = s.unification;
+    s.find
+}
+
+// The same with plain parameters, through `root`, so that no caller needs a proof by hand.
+pub fn root_value(unification: Unification, el: ElId) -> Shortened
+    ensures { λ r. ⌜ shortened r ≡ shortenedOf (linksOf unification) (el .0) ⌝ }
+{
+    let mut u = unification;
+    let find = root(&mut u, el);
+    Shortened {
+        find,
+        unification: u,
     }
 }

@@ -4,11 +4,11 @@ use borrow.Author.Needs.{needs}
 use Rattle.equalities.proofs.equate.Statement.{statement}
 use Rattle.equalities.proofs.equate.Tie as tie
 
-shorten-requires : tie.Need-shorten-requires
-shorten-requires c κs = search needs
+root-value-requires : tie.Need-root-value-requires
+root-value-requires c κs = search needs
 
-shorten-requires-2 : tie.Need-shorten-requires-2
-shorten-requires-2 c κs = search needs
+root-value-requires-2 : tie.Need-root-value-requires-2
+root-value-requires-2 c κs = search needs
 
 push-requires : tie.Need-push-requires
 push-requires c κs = search needs
@@ -17,7 +17,7 @@ returns : tie.Need-returns
 returns c =
     let second = c .before .before in
     let first = second .before .before in
-    equated _ _ _ _ _ (first .shorten .ensures) (second .shorten2 .ensures) (c .push .ensures)
+    equated _ _ _ _ _ (first .root-value .ensures) (second .root-value2 .ensures) (c .push .ensures)
 
 pub equate-spec : {M : Type 1} → statement M
-equate-spec = tie.close (tie.spec shorten-requires shorten-requires-2 push-requires returns)
+equate-spec = tie.close (tie.spec root-value-requires root-value-requires-2 push-requires returns)

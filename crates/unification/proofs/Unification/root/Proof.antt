@@ -14,11 +14,11 @@ size-requires c κs = search needs
 returns : tie.Need-returns
 returns c = root-refused _ _ (omega (arith, c .before .size .ensures .is))
 
-shorten-requires : tie.Need-shorten-requires
-shorten-requires c κs = search needs
+root-value-requires : tie.Need-root-value-requires
+root-value-requires c κs = search needs
 
 returns-2 : tie.Need-returns-2
-returns-2 c = root-found _ _ _ (c .before .before .shorten .ensures) (omega (arith, c .before .before .before .before .size .ensures .is))
+returns-2 c = root-found _ _ _ (c .before .before .root-value .ensures) (omega (arith, c .before .before .before .before .size .ensures .is))
 
 pub root-spec : {M : Type 1} → statement M
-root-spec = tie.close (tie.spec cast-at size-requires returns shorten-requires returns-2)
+root-spec = tie.close (tie.spec cast-at size-requires returns root-value-requires returns-2)
