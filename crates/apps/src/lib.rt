@@ -9,7 +9,7 @@ ghost use mathlib.Core.Path.{_≡_};
 ghost use mathlib.Core.List.{_++_, [], _∷_};
 ghost use Prim.Native.Nat.{_+_, _≤_, _<_};
 ghost use lib.ListN.{take, drop};
-ghost use Rattle.ids.specs.Table.{Sized, positionFrom, insertOf, lookupOf};
+ghost use Rattle.ids.specs.Table.{Sized, goesLast, positionFrom, insertOf, lookupOf};
 ghost use Rattle.semantics.specs.Structure.{maxFuncApps, maxPredApps, compareFuncApp, comparePredApp};
 ghost use Rattle.apps.specs.View.{funcAppOf, funcAppsOf, insertedFuncApp, resultOf, found, predAppOf, predAppsOf, insertedPredApp};
 
@@ -80,6 +80,23 @@ impl FuncApp {
             }
         }
     }
+
+    // Whether it goes after `last`, the last of n entries in order, where there is room.
+    pub fn goes_last(self, n: usize, last: FuncApp) -> bool
+        ensures { λ r. ⌜ r ≡ goesLast compareFuncApp maxFuncApps n (funcAppOf last) (funcAppOf self) ⌝ }
+    {
+        if FuncApps::MAX_LEN <= n {
+            return false;
+        }
+        if n == 0 {
+            return true;
+        }
+        match last.compare(self) {
+            Ordering::Less => true,
+            Ordering::Equal => false,
+            Ordering::Greater => false,
+        }
+    }
 }
 
 impl PredApp {
@@ -102,6 +119,23 @@ impl PredApp {
                     }
                 }
             }
+        }
+    }
+
+    // Whether it goes after `last`, the last of n entries in order, where there is room.
+    pub fn goes_last(self, n: usize, last: PredApp) -> bool
+        ensures { λ r. ⌜ r ≡ goesLast comparePredApp maxPredApps n (predAppOf last) (predAppOf self) ⌝ }
+    {
+        if PredApps::MAX_LEN <= n {
+            return false;
+        }
+        if n == 0 {
+            return true;
+        }
+        match last.compare(self) {
+            Ordering::Less => true,
+            Ordering::Equal => false,
+            Ordering::Greater => false,
         }
     }
 }

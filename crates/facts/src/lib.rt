@@ -8,7 +8,7 @@ ghost use mathlib.Core.Path.{_≡_};
 ghost use mathlib.Core.List.{_++_, [], _∷_};
 ghost use Prim.Native.Nat.{_+_, _≤_, _<_};
 ghost use lib.ListN.{take, drop};
-ghost use Rattle.ids.specs.Table.{Sized, positionFrom, insertOf, pushOf};
+ghost use Rattle.ids.specs.Table.{Sized, goesLast, positionFrom, insertOf, pushOf};
 ghost use Rattle.semantics.specs.Structure.{maxFacts, maxImpositions, compareFact};
 ghost use Rattle.semantics.specs.Calls.{isImposed};
 ghost use Rattle.facts.specs.View.{factOf, factsOf, inserted, impositionsOf};
@@ -58,6 +58,23 @@ impl Fact {
                     p.compare(q)
                 }
             },
+        }
+    }
+
+    // Whether it goes after `last`, the last of n entries in order, where there is room.
+    pub fn goes_last(self, n: usize, last: Fact) -> bool
+        ensures { λ r. ⌜ r ≡ goesLast compareFact maxFacts n (factOf last) (factOf self) ⌝ }
+    {
+        if Facts::MAX_LEN <= n {
+            return false;
+        }
+        if n == 0 {
+            return true;
+        }
+        match last.compare(self) {
+            Ordering::Less => true,
+            Ordering::Equal => false,
+            Ordering::Greater => false,
         }
     }
 }

@@ -3,9 +3,9 @@ pub mod Orders
 pub mod Shift
 pub mod Tables
 pub mod Sorted
-pub mod Rounds
 pub mod Lists
 pub mod Answers
 pub mod Judging
 pub mod Tests
 pub mod Counted
+pub mod Appending

@@ -16,6 +16,7 @@ use Rattle.ids.specs.declared.Place.{Place}
 use Rattle.ids.specs.declared.Place.the-variants.{Before, At}
 use Rattle.ids.proofs.Answers.{and-right}
 use Rattle.ids.proofs.Views.{view-next, view-done}
+use Rattle.ids.proofs.Sorted.{placed-present}
 use Rattle.ids.specs.Table.{Grown, positionFrom, present, placed, insertOf, lookupOf, pushOf, rewriteInto}
 
 -- x goes before the k-th entry of a list ys, whose first entry has the index i; p and q are `present` and `placed` of ys
@@ -158,30 +159,6 @@ present-found {A} cmp x (y ∷ ys) = go (cmp y x) (present-found cmp x ys)
 
 -- Tables: whether an entry was there decides what its insertion does.
 module _ {A : Type 0} (cmp : A → A → Ordering) (x : A) where
-  -- an entry that is there is not put again
-  pub placed-present : (ys : List A) → present cmp x ys ≡ true → placed cmp x ys ≡ ys
-  unfolding present placed
-  placed-present [] e = let z : _≡_ {A = ℕ} 0 1 = cc e in absurd (omega arith)
-  placed-present (y ∷ ys) e = go (cmp y x) (placed-present ys) e
-    where
-      go : (o : Ordering) → (present cmp x ys ≡ true → placed cmp x ys ≡ ys)
-          → _≡_ {A = Bool} (elim o [ Less ↦ present cmp x ys | Equal ↦ true | Greater ↦ false ]) true
-          → _≡_ {A = List A} (elim o [ Less ↦ y ∷ placed cmp x ys | Equal ↦ y ∷ ys | Greater ↦ x ∷ y ∷ ys ]) (y ∷ ys)
-      go Less ih h = ap (λ (l : List A). y ∷ l) (ih h)
-      go Equal ih h = refl
-      go Greater ih h = let z : _≡_ {A = ℕ} 0 1 = cc in absurd (omega arith)
-
-  pub placed-length : (ys : List A) → length (placed cmp x ys) ≤ suc (length ys)
-  unfolding placed
-  placed-length [] = omega arith
-  placed-length (y ∷ ys) = go (cmp y x) (placed-length ys)
-    where
-      go : (o : Ordering) → length (placed cmp x ys) ≤ suc (length ys)
-          → length {A = A} (elim o [ Less ↦ y ∷ placed cmp x ys | Equal ↦ y ∷ ys | Greater ↦ x ∷ y ∷ ys ]) ≤ suc (length (y ∷ ys))
-      go Less h = omega arith
-      go Equal h = omega arith
-      go Greater h = omega arith
-
   module _ (cap : ℕ) (ys : List A) where
     -- no room: it is not there, and the table is at its limit
     pub insert-needs : insertOf cmp x cap ys .full ≡ (not (present cmp x ys) && leb cap (length ys))
@@ -200,7 +177,7 @@ module _ {A : Type 0} (cmp : A → A → Ordering) (x : A) where
       where
         go : (p : Bool) → present cmp x ys ≡ p → (q : Bool) → leb cap (length ys) ≡ q
             → insertOf cmp x cap ys ≡ record { grew = not (present cmp x ys); full = false; items = placed cmp x ys }
-        go true e q k = insert-present cmp x cap ys e ∙ sym (rw (e, placed-present ys e))
+        go true e q k = insert-present cmp x cap ys e ∙ sym (rw (e, placed-present cmp x ys e))
         go false e false k = insert-new cmp x cap ys e (leb-false _ _ k) ∙ sym (rw e)
         go false e true k =
             let none : insertOf cmp x cap ys .full ≡ true = insert-needs ∙ rw (e, k) in

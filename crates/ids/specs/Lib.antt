@@ -4,5 +4,4 @@ pub mod Order
 pub mod Table
 pub mod Sorted
 pub mod Count
-pub mod Rounds
 pub mod Ids

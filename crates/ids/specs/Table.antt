@@ -5,7 +5,7 @@ use mathlib.Core.Bool.{Bool, true, false}
 use mathlib.Core.List.{List, [], _∷_, _++_}
 use mathlib.Core.Option.{Option, some, none}
 use lib.ListN.{length}
-use lib.Dec.{leb, ltb}
+use lib.Dec.{leb, ltb, eqb}
 use Rattle.ids.specs.declared.Ordering.{Ordering}
 use Rattle.ids.specs.declared.Ordering.the-variants.{Less, Equal, Greater}
 use Rattle.ids.specs.declared.Place.{Place}
@@ -58,6 +58,14 @@ module _ {A : Type 0} (cmp : A → A → Ordering) (x : A) where
 -- x added at the end of a table of at most `cap` entries
 unfoldable pub pushOf : {A : Type 0} → ℕ → List A → A → List A
 pushOf cap ys x = elim (ltb (length ys) cap) [ true ↦ ys ++ (x ∷ []) | false ↦ ys ]
+
+-- whether x goes after y, the last of a sorted table's n entries: there is room, and y is smaller or there is none
+unfoldable pub goesLast : {A : Type 0} → (A → A → Ordering) → ℕ → ℕ → A → A → Bool
+goesLast cmp cap n y x =
+    elim (ltb n cap) [
+      | true ↦ elim (eqb n 0) [ true ↦ true | false ↦ elim (cmp y x) [ Less ↦ true | Equal ↦ false | Greater ↦ false ] ]
+      | false ↦ false
+    ]
 
 -- each entry rewritten by f into the table `done`, in order: of entries that become equal the first stays
 unfoldable pub rewriteInto : {A : Type 0} → (A → A → Ordering) → (A → A) → List A → List A → List A

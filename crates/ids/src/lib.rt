@@ -1,6 +1,7 @@
 // The numbers of elements, types, predicates and functions, and lists of at most four of them.
 ghost use mathlib.Core.Path.{_≡_};
 ghost use mathlib.Core.List.{[]};
+ghost use Prim.Native.Nat.{_-_};
 ghost use Rattle.ids.specs.Limits.{maxList};
 ghost use Rattle.ids.specs.Table.{Sized};
 ghost use Rattle.ids.specs.Order.{orderOf, lexOf};
@@ -75,6 +76,16 @@ pub fn compare_numbers(a: u16, b: u16) -> Ordering
         return Ordering::Greater;
     }
     Ordering::Equal
+}
+
+// The index of the last of n entries; 0 where there are none.
+pub fn last_index(n: usize) -> usize
+    ensures { λ r. ⌜ r ≡ n - 1 ⌝ }
+{
+    if n == 0 {
+        return 0;
+    }
+    n - 1
 }
 
 impl ElIds {

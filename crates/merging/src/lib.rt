@@ -48,6 +48,14 @@ fn move_facts(facts: Facts, keep: ElId, drop: ElId) -> Facts
     for i in 0..n {
         let here = facts.items[i];
         let entry = moved_fact(here, keep, drop);
+        let k = moved.size();
+        let at = ids::last_index(k);
+        let last = moved.items[at];
+        if entry.goes_last(k, last) {
+            moved.items[k] = entry;
+            moved.len = (k + 1) as u16;
+            continue;
+        }
         let inserted = moved.insert(entry);
         let next = inserted.facts;
         moved = next;

@@ -9,11 +9,12 @@ use native.Mathlib.Omega.{arith}
 use lib.ListN.{length, take, drop, getD, set}
 use lib.Seq.{take-suc, take-suc-set, take-all}
 use borrow.Author.Tests.{lt-ltb, eq-eqb, ne-eqb}
-use Rattle.ids.specs.declared.Ordering.{Ordering}
-use Rattle.ids.specs.Table.{Sized, Grown, placed, lookupOf, insertOf, rewriteInto}
-use Rattle.ids.proofs.Tables.{placed-length, insert-room, rewrite-next, rewrite-done}
+use Rattle.ids.specs.Table.{Sized, Grown, placed, lookupOf, insertOf}
+use Rattle.ids.proofs.Sorted.{Sorted, placed-length, placed-sorted}
+use Rattle.ids.proofs.Tables.{insert-room}
 use Rattle.ids.proofs.Views.{view-next, view-done}
 use Rattle.semantics.specs.Structure.{FuncApp, Pair, maxPairs, maxFuncApps, compareFuncApp, canonicalFuncApp}
+use Rattle.semantics.proofs.Orders.{func-app-ordered}
 use Rattle.semantics.specs.Close.{Rewritten, enterAt, enter, enterAll}
 use Rattle.apps.specs.declared.FuncApp as code
 use Rattle.apps.specs.declared.FuncApps.{FuncApps}
@@ -23,31 +24,6 @@ use Rattle.bindings.specs.View.{slotsFrom}
 use Rattle.bindings.proofs.Slots.{slot-given, slot-empty}
 use Rattle.equalities.specs.View.{queuedOf}
 use Rattle.rewriting.specs.View.{nothing}
-
--- The first i entries of a table are rewritten, into `done`.
-pub record Turned {B : Type 0} (cmp : B → B → Ordering) (f : B → B) (whole : List B) (i : ℕ) (done : List B) : Type 0 where
-  pub few : length done ≤ i
-  pub rest : rewriteInto cmp f (drop i whole) done ≡ rewriteInto cmp f whole []
-
-pub turned-none : {B : Type 0} (cmp : B → B → Ordering) (f : B → B) (whole : List B) {done : List B} → done ≡ [] → Turned cmp f whole 0 done
-turned-none {B} cmp f whole e = record { few = omega (arith, ap (length {A = B}) e); rest = ap (rewriteInto cmp f whole) e }
-
-module _ {A B : Type 0} {cmp : B → B → Ordering} {f : B → B} (view : A → B) (n : ℕ) (xs : List A) {cap size i : ℕ} {done : List B}
-    (sized : Sized (map view (take n xs)) cap size) (now : Turned cmp f (map view (take n xs)) i done) where
-  -- the entry i is rewritten and inserted
-  pub turned-more : (d : A) {x : B} {g : Grown B} → i < size → x ≡ f (view (getD xs i d)) → g ≡ insertOf cmp x cap done
-      → Turned cmp f (map view (take n xs)) (i + 1) (g .items)
-  turned-more d {x} {g} h is made =
-      let room : length done < cap = omega (arith, now .few, sized .most) in
-      let put : g .items ≡ placed cmp x done = ap (λ (w : Grown B). w .items) made ∙ insert-room cmp x cap done room in
-      let next : g .items ≡ placed cmp (f (view (getD xs i d))) done = put ∙ ap (λ (y : B). placed cmp y done) is in record {
-        few = omega (arith, now .few, ap (length {A = B}) put, placed-length cmp x done);
-        rest = rewrite-next cmp f view n xs i done (now .rest) d (g .items) (omega (arith, sized .is)) next;
-      }
-
-  -- all are
-  pub turned-all : size ≤ i → done ≡ rewriteInto cmp f (map view (take n xs)) []
-  turned-all h = rewrite-done cmp f view n xs i done (now .rest) (omega (arith, sized .is))
 
 -- a pair is queued where there is room
 pub queue-room : (ps : List Pair) (p : Pair) → length ps < maxPairs → queuedOf ps p ≡ p ∷ ps
@@ -94,6 +70,7 @@ module _ (z : FuncApp) (t : Rewritten) where
 -- The first i applications of a table are entered.
 pub record Entered (ls : List ℕ) (whole : List FuncApp) (i : ℕ) (t : Rewritten) : Type 0 where
   pub few : length (t .apps) ≤ i
+  pub sorted : Sorted compareFuncApp (t .apps)
   pub short : length (t .pairs) ≤ i
   pub rest : enterAll ls (drop i whole) t ≡ enterAll ls whole nothing
 
@@ -101,6 +78,7 @@ pub entered-none : (ls : List ℕ) (whole : List FuncApp) {apps : List FuncApp} 
     → Entered ls whole 0 (record { apps = apps; pairs = pairs; queued = false })
 entered-none ls whole p q = record {
   few = omega (arith, ap (length {A = FuncApp}) p);
+  sorted = rw p tt;
   short = omega (arith, ap (length {A = Pair}) q);
   rest = λ k. enterAll ls whole (record { apps = p k; pairs = q k; queued = false });
 }
@@ -116,19 +94,25 @@ module _ {ls : List ℕ} (apps : FuncApps) {size i : ℕ} {t : Rewritten} (sized
         ∙ ap (λ (l : List FuncApp). enterAll ls l t) (sym (view-next funcAppOf (apps .len) (apps .items) i d (omega (arith, sized .is))))
         ∙ now .rest
 
+    pub entered-placed : {next : List FuncApp} → next ≡ placed compareFuncApp z (t .apps) → none ≡ resultOf (lookupOf compareFuncApp z (t .apps))
+        → Entered ls (funcAppsOf apps) (i + 1) (record { apps = next; pairs = t .pairs; queued = t .queued })
+    entered-placed put absent = record {
+      few = omega (arith, now .few, ap (length {A = FuncApp}) put, placed-length compareFuncApp z (t .apps));
+      sorted = rw put (placed-sorted func-app-ordered z (t .apps) (now .sorted));
+      short = omega (arith, now .short);
+      rest = on ((λ k. record { apps = put k; pairs = t .pairs; queued = t .queued }) ∙ enter-new z t absent);
+    }
+
     pub entered-new : {g : Grown FuncApp} → g ≡ insertOf compareFuncApp z maxFuncApps (t .apps) → none ≡ resultOf (lookupOf compareFuncApp z (t .apps))
         → Entered ls (funcAppsOf apps) (i + 1) (record { apps = g .items; pairs = t .pairs; queued = t .queued })
-    entered-new {g} made absent =
+    entered-new made absent =
         let room : length (t .apps) < maxFuncApps = omega (arith, now .few, sized .most) in
-        let put : g .items ≡ placed compareFuncApp z (t .apps) = ap (λ (w : Grown FuncApp). w .items) made ∙ insert-room compareFuncApp z maxFuncApps (t .apps) room in record {
-          few = omega (arith, now .few, ap (length {A = FuncApp}) put, placed-length compareFuncApp z (t .apps));
-          short = omega (arith, now .short);
-          rest = on ((λ k. record { apps = put k; pairs = t .pairs; queued = t .queued }) ∙ enter-new z t absent);
-        }
+        entered-placed (ap (λ (w : Grown FuncApp). w .items) made ∙ insert-room compareFuncApp z maxFuncApps (t .apps) room) absent
 
     pub entered-same : (e : ℕ) → some e ≡ resultOf (lookupOf compareFuncApp z (t .apps)) → e ≡ z .result → Entered ls (funcAppsOf apps) (i + 1) t
     entered-same e found same = record {
       few = omega (arith, now .few);
+      sorted = now .sorted;
       short = omega (arith, now .short);
       rest = on (enter-same z t e found same);
     }
@@ -140,6 +124,7 @@ module _ {ls : List ℕ} (apps : FuncApps) {size i : ℕ} {t : Rewritten} (sized
         let room : length (t .pairs) < maxPairs = omega (arith, now .short, sized .most) in
         let put : ps ≡ record { left = e; right = z .result } ∷ t .pairs = made ∙ queue-room (t .pairs) (record { left = e; right = z .result }) room in record {
           few = omega (arith, now .few);
+          sorted = now .sorted;
           short = omega (arith, now .short, ap (length {A = Pair}) put);
           rest = on ((λ k. record { apps = t .apps; pairs = put k; queued = true }) ∙ enter-other z t e found differ);
         }

@@ -39,6 +39,14 @@ pub fn functionality(unification: Unification, apps: FuncApps) -> Rewritten
         let here = apps.items[i];
         let entry = canonical::canonical_func_app(unification, here);
         let result = entry.result;
+        let k = done.size();
+        let at = ids::last_index(k);
+        let last = done.items[at];
+        if entry.goes_last(k, last) {
+            done.items[k] = entry;
+            done.len = (k + 1) as u16;
+            continue;
+        }
         let Stored::Result(existing) = done.get(entry) else {
             let inserted = done.insert(entry);
             let next = inserted.func_apps;
@@ -69,6 +77,14 @@ pub fn canonical_pred_apps(unification: Unification, apps: PredApps) -> PredApps
     for i in 0..n {
         let here = apps.items[i];
         let entry = canonical::canonical_pred_app(unification, here);
+        let k = done.size();
+        let at = ids::last_index(k);
+        let last = done.items[at];
+        if entry.goes_last(k, last) {
+            done.items[k] = entry;
+            done.len = (k + 1) as u16;
+            continue;
+        }
         let inserted = done.insert(entry);
         let next = inserted.pred_apps;
         done = next;
@@ -84,6 +100,14 @@ pub fn canonical_facts(unification: Unification, facts: Facts) -> Facts
     for i in 0..n {
         let here = facts.items[i];
         let entry = canonical::canonical_fact(unification, here);
+        let k = done.size();
+        let at = ids::last_index(k);
+        let last = done.items[at];
+        if entry.goes_last(k, last) {
+            done.items[k] = entry;
+            done.len = (k + 1) as u16;
+            continue;
+        }
         let inserted = done.insert(entry);
         let next = inserted.facts;
         done = next;

@@ -9,7 +9,8 @@ use Rattle.unification.specs.Roots.{linksOf, FindM, findOf}
 use Rattle.semantics.specs.Structure.{Fact, maxFacts, compareFact, canonicalFact}
 use Rattle.semantics.specs.Types.{factsAt}
 use Rattle.facts.specs.View.{factOf, factsOf}
-use Rattle.ids.proofs.Tables.{placed-length, insert-room}
+use Rattle.ids.proofs.Sorted.{placed-length}
+use Rattle.ids.proofs.Tables.{insert-room}
 use Rattle.canonical.proofs.Laws.{other-el, this-el, collected}
 use borrow.Author.Needs.{needs}
 use Rattle.canonical.proofs.concrete_types_of.Statement.{statement}

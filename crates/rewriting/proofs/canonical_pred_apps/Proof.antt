@@ -1,18 +1,23 @@
 -- `canonical_pred_apps` meets its contract.
+use mathlib.Core.Path.{_≡_, _∙_}
 use Prim.Native.Nat.{_-_}
+use lib.ListN.{length, length-set}
 use Rattle.unification.specs.Roots.{linksOf}
-use Rattle.semantics.specs.Structure.{comparePredApp, canonicalPredApp}
+use Rattle.ids.proofs.Views.{long}
+use Rattle.ids.proofs.Appending.{append-room, appended, Turned, turned-none, turned-placed, turned-more, turned-all}
+use Rattle.semantics.specs.Structure.{maxPredApps, comparePredApp, canonicalPredApp}
+use Rattle.semantics.proofs.Orders.{pred-app-ordered}
 use Rattle.apps.specs.View.{predAppOf, predAppsOf, noPredApp}
-use Rattle.rewriting.proofs.Laws.{Turned, turned-none, turned-more, turned-all}
 use borrow.Author.Needs.{needs}
 use Rattle.rewriting.proofs.canonical_pred_apps.Statement.{statement}
 use Rattle.rewriting.proofs.canonical_pred_apps.Tie as tie
 
 abbrev Inv-loop : tie.InvT-loop
-Inv-loop unification apps n done₀ i₀ done i = Turned comparePredApp (canonicalPredApp (linksOf unification)) (predAppsOf apps) i (predAppsOf done)
+Inv-loop unification table n done₀ i₀ done i =
+    (length (done .items) ≡ maxPredApps) × Turned comparePredApp (canonicalPredApp (linksOf unification)) (predAppsOf table) i (predAppsOf done)
 
 abbrev μ-loop : tie.MeasureT-loop
-μ-loop unification apps n done₀ i₀ done i = n - i
+μ-loop unification table n done₀ i₀ done i = n - i
 
 size-requires : tie.Need-size-requires Inv-loop μ-loop
 size-requires c κs = search needs
@@ -21,7 +26,7 @@ new-requires : tie.Need-new-requires Inv-loop μ-loop
 new-requires c κs = search needs
 
 loop-holds : tie.Need-loop-holds Inv-loop μ-loop
-loop-holds c = turned-none _ _ _ (c .new .ensures)
+loop-holds c = (long _ (c .new .result .items) _ (c .new .ok .1 .1 .0 .1 .0 .1), turned-none _ _ _ (c .new .ensures))
 
 mul-here : tie.Need-mul-here Inv-loop μ-loop
 mul-here c = search needs
@@ -32,8 +37,38 @@ element-copy-out-here c = search needs
 canonical-pred-app-requires : tie.Need-canonical-pred-app-requires Inv-loop μ-loop
 canonical-pred-app-requires c κs = search needs
 
-insert-requires : tie.Need-insert-requires Inv-loop μ-loop
-insert-requires c κs = search needs
+size-requires-2 : tie.Need-size-requires-2 Inv-loop μ-loop
+size-requires-2 c κs = search needs
+
+last-index-requires : tie.Need-last-index-requires Inv-loop μ-loop
+last-index-requires c κs = search needs
+
+mul-last : tie.Need-mul-last Inv-loop μ-loop
+mul-last c = search needs
+
+element-copy-out-last : tie.Need-element-copy-out-last Inv-loop μ-loop
+element-copy-out-last c = search needs
+
+goes-last-requires : tie.Need-goes-last-requires Inv-loop μ-loop
+goes-last-requires c κs = search needs
+
+mul-entry : tie.Need-mul-entry Inv-loop μ-loop
+mul-entry c = search needs
+
+element-set-from-entry : tie.Need-element-set-from-entry Inv-loop μ-loop
+element-set-from-entry c =
+    let asked = c .before in
+    let index = asked .before .before in
+    let counted = index .before in
+    let entry = counted .before in
+    append-room comparePredApp maxPredApps (counted .size2 .result) predAppOf (entry .before .before .before .loop .done .items) noPredApp (entry .canonical-pred-app .result)
+    (index .last-index .result) (asked .goes-last .ensures) (c .if1 .taken)
+
+add-done : tie.Need-add-done Inv-loop μ-loop
+add-done c = search needs
+
+cast-done : tie.Need-cast-done Inv-loop μ-loop
+cast-done c = search needs
 
 add-i : tie.Need-add-i Inv-loop μ-loop
 add-i c = search needs
@@ -43,19 +78,46 @@ loop-less c = search needs
 
 loop-again : tie.Need-loop-again Inv-loop μ-loop
 loop-again c =
-    let made = c .before in
-    let entry = made .before in
+    let asked = c .before in
+    let index = asked .before .before in
+    let counted = index .before in
+    let entry = counted .before in
     let test = entry .before .before in
     let sized = test .before .before .before in
     let a = sized .before .args in
-    turned-more predAppOf (a .t2 .len) (a .t2 .items) (sized .size .ensures) (test .before .loop .inv) noPredApp
-    (test .loop-test .taken) (entry .canonical-pred-app .ensures) (made .insert .ensures)
+    let l = test .before .loop in
+    (length-set (l .done .items) (counted .size2 .result) (entry .canonical-pred-app .result) ∙ l .inv .0,
+    turned-placed pred-app-ordered predAppOf (a .t2 .len) (a .t2 .items) (sized .size .ensures) (l .inv .1) noPredApp
+    (test .loop-test .taken) (entry .canonical-pred-app .ensures)
+    (appended comparePredApp maxPredApps (counted .size2 .result) predAppOf (l .done .items) noPredApp (entry .canonical-pred-app .result) (index .last-index .result) (asked .goes-last .ensures) (c .if1 .taken)
+    pred-app-ordered (l .done .len) (counted .size2 .ensures) (l .inv .1 .sorted) (index .last-index .ensures) (l .inv .0)))
+
+insert-requires : tie.Need-insert-requires Inv-loop μ-loop
+insert-requires c κs = search needs
+
+add-i-2 : tie.Need-add-i-2 Inv-loop μ-loop
+add-i-2 c = search needs
+
+loop-less-2 : tie.Need-loop-less-2 Inv-loop μ-loop
+loop-less-2 c = search needs
+
+loop-again-2 : tie.Need-loop-again-2 Inv-loop μ-loop
+loop-again-2 c =
+    let made = c .before in
+    let asked = made .before .before in
+    let entry = asked .before .before .before .before in
+    let test = entry .before .before in
+    let sized = test .before .before .before in
+    let a = sized .before .args in
+    (long _ (made .insert .result .«pred_apps» .items) _ (made .insert .ok .1 .1 .1 .1 .0 .1 .1 .0 .1 .0 .1),
+    turned-more pred-app-ordered predAppOf (a .t2 .len) (a .t2 .items) (sized .size .ensures) (test .before .loop .inv .1) noPredApp
+    (test .loop-test .taken) (entry .canonical-pred-app .ensures) (made .insert .ensures))
 
 returns : tie.Need-returns Inv-loop μ-loop
 returns c =
     let sized = c .before .before .before in
     let a = sized .before .args in
-    turned-all predAppOf (a .t2 .len) (a .t2 .items) (sized .size .ensures) (c .before .loop .inv) (c .loop-test .left)
+    turned-all pred-app-ordered predAppOf (a .t2 .len) (a .t2 .items) (sized .size .ensures) (c .before .loop .inv .1) (c .loop-test .left)
 
 pub canonical-pred-apps-spec : {M : Type 1} → statement M
 canonical-pred-apps-spec =
@@ -69,8 +131,20 @@ canonical-pred-apps-spec =
     mul-here
     element-copy-out-here
     canonical-pred-app-requires
-    insert-requires
+    size-requires-2
+    last-index-requires
+    mul-last
+    element-copy-out-last
+    goes-last-requires
+    mul-entry
+    element-set-from-entry
+    add-done
+    cast-done
     add-i
     loop-less
     loop-again
+    insert-requires
+    add-i-2
+    loop-less-2
+    loop-again-2
     returns)
