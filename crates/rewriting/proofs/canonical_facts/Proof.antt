@@ -85,12 +85,13 @@ loop-again c =
     let test = entry .before .before in
     let sized = test .before .before .before in
     let a = sized .before .args in
-    let l = test .before .loop in
-    (length-set (l .done .items) (counted .size2 .result) (entry .canonical-fact .result) ∙ l .inv .0,
-    turned-placed fact-ordered factOf (a .t2 .len) (a .t2 .items) (sized .size .ensures) (l .inv .1) noFact
-    (test .loop-test .taken) (entry .canonical-fact .ensures)
-    (appended compareFact maxFacts (counted .size2 .result) factOf (l .done .items) noFact (entry .canonical-fact .result) (index .last-index .result) (asked .goes-last .ensures) (c .if1 .taken)
-    fact-ordered (l .done .len) (counted .size2 .ensures) (l .inv .1 .sorted) (index .last-index .ensures) (l .inv .0)))
+    let l = test .before .loop in (
+      length-set (l .done .items) (counted .size2 .result) (entry .canonical-fact .result) ∙ l .inv .0,
+      turned-placed fact-ordered factOf (a .t2 .len) (a .t2 .items) (sized .size .ensures) (l .inv .1) noFact
+          (test .loop-test .taken) (entry .canonical-fact .ensures)
+          (appended compareFact maxFacts (counted .size2 .result) factOf (l .done .items) noFact (entry .canonical-fact .result) (index .last-index .result) (asked .goes-last .ensures) (c .if1 .taken)
+          fact-ordered (l .done .len) (counted .size2 .ensures) (l .inv .1 .sorted) (index .last-index .ensures) (l .inv .0)),
+    )
 
 insert-requires : tie.Need-insert-requires Inv-loop μ-loop
 insert-requires c κs = search needs
@@ -108,10 +109,11 @@ loop-again-2 c =
     let entry = asked .before .before .before .before in
     let test = entry .before .before in
     let sized = test .before .before .before in
-    let a = sized .before .args in
-    (long _ (made .insert .result .facts .items) _ (made .insert .ok .1 .1 .1 .1 .0 .1 .1 .0 .1 .0 .1),
-    turned-more fact-ordered factOf (a .t2 .len) (a .t2 .items) (sized .size .ensures) (test .before .loop .inv .1) noFact
-    (test .loop-test .taken) (entry .canonical-fact .ensures) (made .insert .ensures))
+    let a = sized .before .args in (
+      long _ (made .insert .result .facts .items) _ (made .insert .ok .1 .1 .1 .1 .0 .1 .1 .0 .1 .0 .1),
+      turned-more fact-ordered factOf (a .t2 .len) (a .t2 .items) (sized .size .ensures) (test .before .loop .inv .1) noFact
+          (test .loop-test .taken) (entry .canonical-fact .ensures) (made .insert .ensures),
+    )
 
 returns : tie.Need-returns Inv-loop μ-loop
 returns c =

@@ -85,12 +85,13 @@ loop-again c =
     let test = entry .before .before in
     let sized = test .before .before .before in
     let a = sized .before .args in
-    let l = test .before .loop in
-    (length-set (l .done .items) (counted .size2 .result) (entry .canonical-pred-app .result) ∙ l .inv .0,
-    turned-placed pred-app-ordered predAppOf (a .t2 .len) (a .t2 .items) (sized .size .ensures) (l .inv .1) noPredApp
-    (test .loop-test .taken) (entry .canonical-pred-app .ensures)
-    (appended comparePredApp maxPredApps (counted .size2 .result) predAppOf (l .done .items) noPredApp (entry .canonical-pred-app .result) (index .last-index .result) (asked .goes-last .ensures) (c .if1 .taken)
-    pred-app-ordered (l .done .len) (counted .size2 .ensures) (l .inv .1 .sorted) (index .last-index .ensures) (l .inv .0)))
+    let l = test .before .loop in (
+      length-set (l .done .items) (counted .size2 .result) (entry .canonical-pred-app .result) ∙ l .inv .0,
+      turned-placed pred-app-ordered predAppOf (a .t2 .len) (a .t2 .items) (sized .size .ensures) (l .inv .1) noPredApp
+          (test .loop-test .taken) (entry .canonical-pred-app .ensures)
+          (appended comparePredApp maxPredApps (counted .size2 .result) predAppOf (l .done .items) noPredApp (entry .canonical-pred-app .result) (index .last-index .result) (asked .goes-last .ensures) (c .if1 .taken)
+          pred-app-ordered (l .done .len) (counted .size2 .ensures) (l .inv .1 .sorted) (index .last-index .ensures) (l .inv .0)),
+    )
 
 insert-requires : tie.Need-insert-requires Inv-loop μ-loop
 insert-requires c κs = search needs
@@ -108,10 +109,11 @@ loop-again-2 c =
     let entry = asked .before .before .before .before in
     let test = entry .before .before in
     let sized = test .before .before .before in
-    let a = sized .before .args in
-    (long _ (made .insert .result .«pred_apps» .items) _ (made .insert .ok .1 .1 .1 .1 .0 .1 .1 .0 .1 .0 .1),
-    turned-more pred-app-ordered predAppOf (a .t2 .len) (a .t2 .items) (sized .size .ensures) (test .before .loop .inv .1) noPredApp
-    (test .loop-test .taken) (entry .canonical-pred-app .ensures) (made .insert .ensures))
+    let a = sized .before .args in (
+      long _ (made .insert .result .«pred_apps» .items) _ (made .insert .ok .1 .1 .1 .1 .0 .1 .1 .0 .1 .0 .1),
+      turned-more pred-app-ordered predAppOf (a .t2 .len) (a .t2 .items) (sized .size .ensures) (test .before .loop .inv .1) noPredApp
+          (test .loop-test .taken) (entry .canonical-pred-app .ensures) (made .insert .ensures),
+    )
 
 returns : tie.Need-returns Inv-loop μ-loop
 returns c =

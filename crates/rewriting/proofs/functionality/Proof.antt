@@ -93,14 +93,15 @@ loop-again c =
     let sized = test .before .before .before .before in
     let l = test .before .loop in
     let z = entry .canonical-func-app .result in
-    let told = asked .goes-last .ensures in
-    (length-set (l .done .items) (counted .size2 .result) z ∙ l .inv .0,
-    entered-placed (sized .before .args .t2) (sized .size .ensures) (l .inv .1) noFuncApp _ (test .loop-test .taken) (entry .canonical-func-app .ensures)
-    (appended compareFuncApp maxFuncApps (counted .size2 .result) funcAppOf (l .done .items) noFuncApp z (index .last-index .result) told (c .if1 .taken)
-    func-app-ordered (l .done .len) (counted .size2 .ensures) (l .inv .1 .sorted) (index .last-index .ensures) (l .inv .0))
-    (sym (ap resultOf
-    (appended-new compareFuncApp maxFuncApps (counted .size2 .result) funcAppOf (l .done .items) noFuncApp z (index .last-index .result) told (c .if1 .taken)
-    func-app-ordered (l .done .len) (counted .size2 .ensures) (l .inv .1 .sorted) (index .last-index .ensures)))))
+    let told = asked .goes-last .ensures in (
+      length-set (l .done .items) (counted .size2 .result) z ∙ l .inv .0,
+      entered-placed (sized .before .args .t2) (sized .size .ensures) (l .inv .1) noFuncApp _ (test .loop-test .taken) (entry .canonical-func-app .ensures)
+          (appended compareFuncApp maxFuncApps (counted .size2 .result) funcAppOf (l .done .items) noFuncApp z (index .last-index .result) told (c .if1 .taken)
+          func-app-ordered (l .done .len) (counted .size2 .ensures) (l .inv .1 .sorted) (index .last-index .ensures) (l .inv .0))
+          (sym (ap resultOf
+          (appended-new compareFuncApp maxFuncApps (counted .size2 .result) funcAppOf (l .done .items) noFuncApp z (index .last-index .result) told (c .if1 .taken)
+          func-app-ordered (l .done .len) (counted .size2 .ensures) (l .inv .1 .sorted) (index .last-index .ensures)))),
+    )
 
 get-requires : tie.Need-get-requires Inv-loop μ-loop
 get-requires c κs = search needs
@@ -127,10 +128,11 @@ loop-again-2 c =
     let entry = got .before .before .before .before .before .before .before in
     let test = entry .before .before in
     let sized = test .before .before .before .before in
-    let nothing = sym (ap found (made .before .enum-told .given .1)) ∙ got .get .ensures in
-    (long _ (made .insert .result .«func_apps» .items) _ (made .insert .ok .1 .1 .1 .1 .0 .1 .1 .0 .1 .0 .1),
-    entered-new (sized .before .args .t2) (sized .size .ensures) (test .before .loop .inv .1) noFuncApp _
-    (test .loop-test .taken) (entry .canonical-func-app .ensures) (made .insert .ensures) nothing)
+    let nothing = sym (ap found (made .before .enum-told .given .1)) ∙ got .get .ensures in (
+      long _ (made .insert .result .«func_apps» .items) _ (made .insert .ok .1 .1 .1 .1 .0 .1 .1 .0 .1 .0 .1),
+      entered-new (sized .before .args .t2) (sized .size .ensures) (test .before .loop .inv .1) noFuncApp _
+          (test .loop-test .taken) (entry .canonical-func-app .ensures) (made .insert .ensures) nothing,
+    )
 
 add-i-3 : tie.Need-add-i-3 Inv-loop μ-loop
 add-i-3 c = search needs
@@ -145,10 +147,11 @@ loop-again-3 c =
     let entry = got .before .before .before .before .before .before .before in
     let test = entry .before .before in
     let sized = test .before .before .before .before in
-    let stored = sym (ap found (existing .existing .given .1)) ∙ got .get .ensures in
-    (test .before .loop .inv .0,
-    entered-same (sized .before .args .t2) (sized .size .ensures) (test .before .loop .inv .1) noFuncApp _
-    (test .loop-test .taken) (entry .canonical-func-app .ensures) _ stored (c .if2 .taken))
+    let stored = sym (ap found (existing .existing .given .1)) ∙ got .get .ensures in (
+      test .before .loop .inv .0,
+      entered-same (sized .before .args .t2) (sized .size .ensures) (test .before .loop .inv .1) noFuncApp _
+          (test .loop-test .taken) (entry .canonical-func-app .ensures) _ stored (c .if2 .taken),
+    )
 
 push-requires : tie.Need-push-requires Inv-loop μ-loop
 push-requires c κs = search needs
@@ -167,10 +170,11 @@ loop-again-4 c =
     let entry = got .before .before .before .before .before .before .before in
     let test = entry .before .before in
     let sized = test .before .before .before .before in
-    let stored = sym (ap found (existing .existing .given .1)) ∙ got .get .ensures in
-    (test .before .loop .inv .0,
-    entered-other (sized .before .args .t2) (sized .size .ensures) (test .before .loop .inv .1) noFuncApp _
-    (test .loop-test .taken) (entry .canonical-func-app .ensures) _ (c .push .ensures) stored (other .if2 .left))
+    let stored = sym (ap found (existing .existing .given .1)) ∙ got .get .ensures in (
+      test .before .loop .inv .0,
+      entered-other (sized .before .args .t2) (sized .size .ensures) (test .before .loop .inv .1) noFuncApp _
+          (test .loop-test .taken) (entry .canonical-func-app .ensures) _ (c .push .ensures) stored (other .if2 .left),
+    )
 
 returns : tie.Need-returns Inv-loop μ-loop
 returns c =
