@@ -152,7 +152,7 @@ fn insert_fact(core: Core, fact: Fact) -> Worked
 }
 
 // Whether an element in use is marked.
-fn any_marked(unification: Unification, marks: [bool; Unification::MAX_ELS]) -> bool
+pub fn any_marked(unification: Unification, marks: [bool; Unification::MAX_ELS]) -> bool
     ensures { λ r. ⌜ Unmarked (take (unification .len) marks) r ⌝ }
 {
     let n = unification.size();

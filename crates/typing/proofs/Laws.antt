@@ -1,8 +1,8 @@
--- Laws that the typing passes cite: of a type demanded at an element, and of a turn of their loops.
+-- Laws that the typing passes cite: of a type demanded at an element, and of a turn of the loop over the elements of a row.
 use mathlib.Core.Path.{_≡_, refl, sym, ap, _∙_}
 use mathlib.Core.List.{List, [], _∷_, _++_, map}
 use Prim.Native.Nat.{ℕ, _+_, _*_, _≤_, _<_}
-use native.Mathlib.Nat.{mul-le-mul-right}
+use native.Mathlib.Nat.{add-mul}
 use native.Mathlib.Omega.{arith}
 use lib.ListN.{length, take, drop, getD}
 use lib.Seq.{take-take, take-all}
@@ -14,18 +14,17 @@ use Rattle.ids.specs.Ids.{elOf, typeOf, elsOf, typesOf}
 use Rattle.ids.proofs.Views.{length-view, map-take, view-next, view-done}
 use Rattle.signature.specs.declared.Typed.{Typed}
 use Rattle.signature.specs.declared.Typed.the-variants.{At, Absent}
-use Rattle.signature.specs.Model.{Sig, TypeM, predAt, funcAt}
+use Rattle.signature.specs.Model.{Sig, TypeM}
 use Rattle.signature.specs.Calls.{TypedM, typedOf, concreteTypeAt}
-use Rattle.semantics.specs.Structure.{Fact, FuncApp, PredApp}
+use Rattle.semantics.specs.Structure.{Fact}
 use Rattle.semantics.specs.Types as types
 use Rattle.semantics.specs.Types.{impose, imposeAll}
-use Rattle.semantics.specs.Close.{demanded, demandedAt, demandedArgs, funcArgs, predArgs, funcResults}
+use Rattle.semantics.specs.Close.{demanded, demandedAt, demandedArgs}
 use Rattle.semantics.proofs.Imposed.{imposeAll-none, imposeAll-one, imposeAll-append}
 use Rattle.merging.specs.declared.Core.{Core}
 use Rattle.merging.specs.declared.Worked.{Worked}
 use Rattle.merging.specs.View.{coreOf, Toward, Passes}
-use Rattle.merging.proofs.Laws.{leaves, first, turn, idle-turn}
-use Rattle.imposing.proofs.Nothing.{idle-here}
+use Rattle.merging.proofs.Laws.{takes, leaves, leaves-here, first}
 
 -- a list whose length is cut, or is not
 pub cut : (l : ElIds) (n : ℕ) → n ≤ l .len → map elOf (take n (l .ids)) ≡ take n (elsOf l)
@@ -33,6 +32,10 @@ cut l n h = ap (map elOf) (sym (take-take n (l .len) (l .ids) h)) ∙ map-take e
 
 pub uncut : (l : ElIds) (n : ℕ) → l .len ≤ n → elsOf l ≡ take n (elsOf l)
 uncut l n h = sym (take-all n (elsOf l) (omega (arith, length-view elOf (l .len) (l .ids))))
+
+-- some signature with these types
+abbrev pub onlyTypes : List TypeM → Sig
+onlyTypes ts = record { types = ts; preds = []; funcs = []; models = []; mor-apps = [] }
 
 -- A type that is looked up at an element, with as many parents given as there are.
 module _ (g : Sig) (t : ℕ) (ps : List ℕ) (e : ℕ) {ts : List TypeM} {given : ℕ} {typed : Typed} (looked : typedOf typed ≡ concreteTypeAt ts t given)
@@ -66,42 +69,6 @@ module _ (g : Sig) (t : ℕ) (ps : List ℕ) (e : ℕ) {ts : List TypeM} {given 
       let one : demandedAt g t ps e ≡ fact qs ∷ [] = looked-up found ∙ ap (λ (l : List ℕ). fact l ∷ []) (sym leading) in
       sym idle ∙ sym (imposeAll-one (fact qs) w) ∙ ap (λ (l : List Fact). imposeAll l w) (sym one)
 
--- What entries demand, one after the other: each by itself, and all.
-pub record Each {X : Type 0} (one : X → List Fact) (all : List X → List Fact) : Type 0 where
-  pub none : all [] ≡ []
-  pub more : (x : X) (xs : List X) → all (x ∷ xs) ≡ one x ++ all xs
-
-pub each-func-args : (g : Sig) → Each (λ (x : FuncApp). demandedArgs g (funcAt g (x .func) .domain) (x .parents) (x .args)) (funcArgs g)
-unfolding funcArgs
-each-func-args g = record { none = refl; more = λ x xs. refl }
-
-pub each-pred-args : (g : Sig) → Each (λ (x : PredApp). demandedArgs g (predAt g (x .pred) .arity) (x .parents) (x .args)) (predArgs g)
-unfolding predArgs
-each-pred-args g = record { none = refl; more = λ x xs. refl }
-
-pub each-func-results : (g : Sig) → Each (λ (x : FuncApp). demandedAt g (funcAt g (x .func) .codomain) (x .parents) (x .result)) (funcResults g)
-unfolding funcResults
-each-func-results g = record { none = refl; more = λ x xs. refl }
-
--- A loop over the entries of a table, at the entry i.
-module _ {A X : Type 0} {one : X → List Fact} {all : List X → List Fact} (each : Each one all) (f : A → X) (n : ℕ) (xs : List A) (i per : ℕ)
-    {before now : Core} {merges added : ℕ} {whole : types.Core → types.Core}
-    (so-far : Toward before now merges added (i * per) (imposeAll (all (drop i (map f (take n xs))))) whole) where
-  -- what the entry demands is imposed
-  pub entry : (d : A) → i < length (map f (take n xs)) → (r : Worked) {ys : List Fact} → Passes now r per (imposeAll ys) → ys ≡ one (f (getD xs i d))
-      → Toward before (r .core) (merges + r .merges) (added + r .added) ((i + 1) * per) (imposeAll (all (drop (i + 1) (map f (take n xs))))) whole
-  entry d h r {ys} p e =
-      let rest = drop (i + 1) (map f (take n xs)) in
-      let now-and-rest : all (drop i (map f (take n xs))) ≡ ys ++ all rest =
-      ap all (view-next f n xs i d h) ∙ each .more (f (getD xs i d)) rest ∙ ap (λ (l : List Fact). l ++ all rest) (sym e) in
-      turn per i so-far r p (λ w. sym (imposeAll-append ys (all rest) w) ∙ ap (λ (l : List Fact). imposeAll l w) (sym now-and-rest))
-
-  -- no entry is left
-  pub through : (cap : ℕ) → length (map f (take n xs)) ≤ i → i ≤ cap → Toward before now merges added (cap * per) (λ w. w) whole
-  through cap h most =
-      leaves so-far (mul-le-mul-right per most)
-      (λ w. sym (imposeAll-none w) ∙ ap (λ (l : List Fact). imposeAll l w) (sym (ap all (view-done f n xs i h) ∙ each .none)))
-
 -- Arguments against the types of a domain or arity, where either list ends or both go on.
 no-types : (g : Sig) (ps xs : List ℕ) → demandedArgs g [] ps xs ≡ []
 unfolding demandedArgs
@@ -116,10 +83,10 @@ next-arg : (g : Sig) (t x : ℕ) (ts ps xs : List ℕ) → demandedArgs g (t ∷
 unfolding demandedArgs
 next-arg g t x ts ps xs = refl
 
--- The loop over them, at the argument i.
-module _ (g : Sig) (ts : TypeIds) (ps : List ℕ) (xs : ElIds) (i per : ℕ)
+-- The loop over them, at the argument i: `after` comes after all of them, and `base` was counted before.
+module _ (g : Sig) (ts : TypeIds) (ps : List ℕ) (xs : ElIds) (i per base : ℕ) (after : types.Core → types.Core)
     {before now : Core} {merges added : ℕ} {whole : types.Core → types.Core}
-    (so-far : Toward before now merges added (i * per) (imposeAll (demandedArgs g (drop i (typesOf ts)) ps (drop i (elsOf xs)))) whole) where
+    (so-far : Toward before now merges added (base + i * per) (λ w. after (imposeAll (demandedArgs g (drop i (typesOf ts)) ps (drop i (elsOf xs))) w)) whole) where
   abbrev next : List Fact
   next = demandedArgs g (drop (i + 1) (typesOf ts)) ps (drop (i + 1) (elsOf xs))
 
@@ -134,35 +101,39 @@ module _ (g : Sig) (ts : TypeIds) (ps : List ℕ) (xs : ElIds) (i per : ℕ)
 
     -- it gets its type
     pub arg-typed : (r : Worked) → Passes now r per (imposeAll here)
-        → Toward before (r .core) (merges + r .merges) (added + r .added) ((i + 1) * per) (imposeAll next) whole
+        → Toward before (r .core) (merges + r .merges) (added + r .added) (base + (i + 1) * per) (λ w. after (imposeAll next w)) whole
     arg-typed r p =
-        turn per i so-far r p (λ w. sym (imposeAll-append here next w) ∙ ap (λ (l : List Fact). imposeAll l w) (sym here-and-next))
+        leaves
+        (takes so-far r p (λ w. ap after (sym (imposeAll-append here next w) ∙ ap (λ (l : List Fact). imposeAll l w) (sym here-and-next))))
+        (omega (arith, add-mul i 1 per))
+        (λ w. refl)
 
     -- its type is absent
-    pub arg-untyped : here ≡ [] → Toward before now merges added ((i + 1) * per) (imposeAll next) whole
+    pub arg-untyped : here ≡ [] → Toward before now merges added (base + (i + 1) * per) (λ w. after (imposeAll next w)) whole
     arg-untyped none =
-        idle-turn per i so-far
-        (λ w. ap (λ (l : List Fact). imposeAll (l ++ next) w) (sym none) ∙ ap (λ (l : List Fact). imposeAll l w) (sym here-and-next))
+        leaves so-far (omega (arith, add-mul i 1 per))
+        (λ w. ap after (ap (λ (l : List Fact). imposeAll (l ++ next) w) (sym none) ∙ ap (λ (l : List Fact). imposeAll l w) (sym here-and-next)))
 
     -- its type changes nothing
-    pub arg-idle : ((m a : ℕ) → coreOf now m a ≡ imposeAll here (coreOf now m a)) → Toward before now merges added ((i + 1) * per) (imposeAll next) whole
+    pub arg-idle : ((m a : ℕ) → coreOf now m a ≡ imposeAll here (coreOf now m a))
+        → Toward before now merges added (base + (i + 1) * per) (λ w. after (imposeAll next w)) whole
     arg-idle idle =
-        idle-here per i so-far
+        leaves-here so-far (omega (arith, add-mul i 1 per))
         (λ m a.
         let w = coreOf now m a in
-        ap (imposeAll next) (idle m a) ∙ sym (imposeAll-append here next w) ∙ ap (λ (l : List Fact). imposeAll l w) (sym here-and-next))
+        ap after (ap (imposeAll next) (idle m a) ∙ sym (imposeAll-append here next w) ∙ ap (λ (l : List Fact). imposeAll l w) (sym here-and-next)))
 
   -- there is none
-  pub no-arg : length (elsOf xs) ≤ i → Toward before now merges added ((i + 1) * per) (imposeAll next) whole
+  pub no-arg : length (elsOf xs) ≤ i → Toward before now merges added (base + (i + 1) * per) (λ w. after (imposeAll next w)) whole
   no-arg h =
       let none : (k : ℕ) → length (elsOf xs) ≤ k → (l : List ℕ) → demandedArgs g l ps (drop k (elsOf xs)) ≡ [] =
       λ k past l. ap (demandedArgs g l ps) (view-done elOf (xs .len) (xs .ids) k past) ∙ no-args g l ps in
-      idle-turn per i so-far
-      (λ w. ap (λ (l : List Fact). imposeAll l w) (none (i + 1) (omega (arith, h)) (drop (i + 1) (typesOf ts)) ∙ sym (none i h (drop i (typesOf ts)))))
+      leaves so-far (omega (arith, add-mul i 1 per))
+      (λ w. ap (λ (l : List Fact). after (imposeAll l w)) (none (i + 1) (omega (arith, h)) (drop (i + 1) (typesOf ts)) ∙ sym (none i h (drop i (typesOf ts)))))
 
   -- the types end
-  pub types-end : (cap : ℕ) → length (typesOf ts) ≤ i → i ≤ cap → Toward before now merges added (cap * per) (λ w. w) whole
-  types-end cap h most =
+  pub types-end : (limit : ℕ) → length (typesOf ts) ≤ i → base + i * per ≤ limit → Toward before now merges added limit after whole
+  types-end limit h most =
       let none : demandedArgs g (drop i (typesOf ts)) ps (drop i (elsOf xs)) ≡ [] =
       ap (λ (l : List ℕ). demandedArgs g l ps (drop i (elsOf xs))) (view-done typeOf (ts .len) (ts .ids) i h) ∙ no-types g ps (drop i (elsOf xs)) in
-      leaves so-far (mul-le-mul-right per most) (λ w. sym (imposeAll-none w) ∙ ap (λ (l : List Fact). imposeAll l w) (sym none))
+      leaves so-far most (λ w. ap after (sym (imposeAll-none w) ∙ ap (λ (l : List Fact). imposeAll l w) (sym none)))

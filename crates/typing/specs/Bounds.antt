@@ -4,18 +4,13 @@ use Rattle.ids.specs.Limits.{maxList}
 use Rattle.semantics.specs.Structure.{maxFuncApps, maxPredApps}
 use Rattle.imposing.specs.Bounds.{oneImposed}
 
--- the arguments of an application
-abbrev pub oneArgs : ℕ
-oneArgs = maxList * oneImposed
+-- the elements of a row
+abbrev pub oneRow : ℕ
+oneRow = maxList * oneImposed
 
-abbrev pub allFuncArgs : ℕ
-allFuncArgs = maxFuncApps * oneArgs
-
-abbrev pub allPredArgs : ℕ
-allPredArgs = maxPredApps * oneArgs
-
-abbrev pub allFuncResults : ℕ
-allFuncResults = maxFuncApps * oneImposed
+-- arguments of function applications, arguments of predicate applications, results
+abbrev pub allRows : ℕ
+allRows = maxFuncApps + maxPredApps + maxFuncApps
 
 abbrev pub allDemands : ℕ
-allDemands = allFuncArgs + allPredArgs + allFuncResults
+allDemands = allRows * oneRow

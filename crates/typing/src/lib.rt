@@ -1,5 +1,7 @@
 // The facts that the signature demands of the arguments and results of applications (structure.rs, `typing`).
+use apps::FuncApp;
 use apps::FuncApps;
+use apps::PredApp;
 use apps::PredApps;
 use facts::ConcreteType;
 use facts::Fact;
@@ -9,18 +11,28 @@ use ids::TypeId;
 use ids::TypeIds;
 use merging::Core;
 use merging::Worked;
+use signature::Funcs;
+use signature::Preds;
 use signature::Signature;
 use signature::Typed;
+use signature::Types;
 ghost use mathlib.Core.Path.{_≡_};
 ghost use lib.ListN.{take};
-ghost use Rattle.ids.specs.Ids.{elsOf, typesOf};
-ghost use Rattle.signature.specs.Model.{sigOf};
+ghost use Rattle.ids.specs.Ids.{elsOf};
+ghost use Rattle.signature.specs.Model.{sigOf, viewFuncs, viewPreds};
 ghost use Rattle.semantics.specs.Types.{imposeAll};
-ghost use Rattle.semantics.specs.Close.{demandedAt, demandedArgs, funcArgs, predArgs, funcResults, demands};
-ghost use Rattle.apps.specs.View.{funcAppsOf, predAppsOf};
+ghost use Rattle.semantics.specs.Close.{demands};
+ghost use Rattle.apps.specs.View.{funcAppOf, predAppOf, funcAppsOf, predAppsOf};
 ghost use Rattle.merging.specs.View.{Passes};
-ghost use Rattle.imposing.specs.Bounds.{oneImposed};
-ghost use Rattle.typing.specs.Bounds.{oneArgs, allFuncArgs, allPredArgs, allFuncResults, allDemands};
+ghost use Rattle.typing.specs.Bounds.{allDemands};
+ghost use Rattle.typing.specs.Rows.{rowOf, funcRow, predRow, resultRow, IsRow, FuncIndex, PredIndex, RowAt, RowImposed};
+
+// What one application is asked: the types that elements are to have, with the parents that are given.
+pub struct Row {
+    pub expected: TypeIds,
+    pub parents: ElIds,
+    pub els: ElIds,
+}
 
 // The leading parents, as many as a type has.
 fn leading(parents: ElIds, n: u16) -> ElIds
@@ -33,19 +45,115 @@ fn leading(parents: ElIds, n: u16) -> ElIds
     first
 }
 
-// Arguments with the types of a domain or arity: an argument past its end gets none.
-fn type_args(
-    core: Core,
-    signature: Signature,
-    expected: TypeIds,
-    parents: ElIds,
-    args: ElIds,
-) -> Worked
-    ensures { λ r. ⌜ Passes core r oneArgs (imposeAll (demandedArgs (sigOf signature) (typesOf expected) (elsOf parents) (elsOf args))) ⌝ }
+// The function application that row k is of; 0 where it is of a predicate application.
+fn func_index(n: usize, m: usize, k: usize) -> usize
+    requires { ⌜ IsRow n m k ⌝ }
+    ensures { λ r. ⌜ FuncIndex n m k r ⌝ }
 {
-    let types = signature.types;
+    if k < n {
+        return k;
+    }
+    if k < n + m {
+        return 0;
+    }
+    k - n - m
+}
+
+// The predicate application that row k is of; 0 where it is of a function application.
+fn pred_index(n: usize, m: usize, k: usize) -> usize
+    requires { ⌜ IsRow n m k ⌝ }
+    ensures { λ r. ⌜ PredIndex n m k r ⌝ }
+{
+    if k < n {
+        return 0;
+    }
+    if k < n + m {
+        return k - n;
+    }
+    0
+}
+
+fn func_row(funcs: Funcs, app: FuncApp) -> Row
+    ensures { λ r. ⌜ rowOf r ≡ funcRow (viewFuncs funcs) (funcAppOf app) ⌝ }
+{
+    let func = funcs.get(app.func);
+    let expected = func.domain;
+    let parents = app.parents;
+    let els = app.args;
+    Row {
+        expected,
+        parents,
+        els,
+    }
+}
+
+fn pred_row(preds: Preds, app: PredApp) -> Row
+    ensures { λ r. ⌜ rowOf r ≡ predRow (viewPreds preds) (predAppOf app) ⌝ }
+{
+    let pred = preds.get(app.pred);
+    let expected = pred.arity;
+    let parents = app.parents;
+    let els = app.args;
+    Row {
+        expected,
+        parents,
+        els,
+    }
+}
+
+fn result_row(funcs: Funcs, app: FuncApp) -> Row
+    ensures { λ r. ⌜ rowOf r ≡ resultRow (viewFuncs funcs) (funcAppOf app) ⌝ }
+{
+    let func = funcs.get(app.func);
+    let codomain = func.codomain;
+    let expected = TypeIds {
+        ids: [codomain; TypeIds::MAX_LEN],
+        len: 1,
+    };
+    let parents = app.parents;
+    let result = app.result;
+    let els = ElIds {
+        ids: [result; ElIds::MAX_LEN],
+        len: 1,
+    };
+    Row {
+        expected,
+        parents,
+        els,
+    }
+}
+
+// Row k: arguments of function applications, arguments of predicate applications, results.
+fn row_of(
+    funcs: Funcs,
+    preds: Preds,
+    n: usize,
+    m: usize,
+    k: usize,
+    app: FuncApp,
+    pred: PredApp,
+) -> Row
+    requires { ⌜ IsRow n m k ⌝ }
+    ensures { λ r. ⌜ RowAt (viewFuncs funcs) (viewPreds preds) n m k (funcAppOf app) (predAppOf pred) (rowOf r) ⌝ }
+{
+    if k < n {
+        return func_row(funcs, app);
+    }
+    if k < n + m {
+        return pred_row(preds, pred);
+    }
+    result_row(funcs, app)
+}
+
+// The elements of a row with the types that are expected: an element past their end gets none.
+fn type_row(core: Core, types: Types, row: Row) -> Worked
+    ensures { λ r. ⌜ RowImposed types row core r ⌝ }
+{
+    let expected = row.expected;
+    let parents = row.parents;
+    let els = row.els;
     let n = expected.size();
-    let k = args.size();
+    let k = els.size();
     let given = parents.size() as u16;
     let mut now = core;
     let mut merges: u64 = 0;
@@ -54,7 +162,7 @@ fn type_args(
         if k <= i {
             continue;
         }
-        let el = args.ids[i];
+        let el = els.ids[i];
         let Typed::At(typ, count) = types.concrete_type_at(expected.ids[i], given) else {
             continue;
         };
@@ -81,110 +189,23 @@ fn type_args(
     }
 }
 
-fn type_result(
-    core: Core,
-    signature: Signature,
-    codomain: TypeId,
-    parents: ElIds,
-    el: ElId,
-) -> Worked
-    ensures { λ r. ⌜ Passes core r oneImposed (imposeAll (demandedAt (sigOf signature) (codomain .0) (elsOf parents) (el .0))) ⌝ }
+// The demands imposed row by row.
+fn impose_demands(core: Core, signature: Signature, apps: FuncApps, preds: PredApps) -> Worked
+    ensures { λ r. ⌜ Passes core r allDemands (imposeAll (demands (sigOf signature) (funcAppsOf apps) (predAppsOf preds))) ⌝ }
 {
     let types = signature.types;
-    let given = parents.size() as u16;
-    let Typed::At(typ, count) = types.concrete_type_at(codomain, given) else {
-        return Worked {
-            core,
-            merges: 0,
-            added: 0,
-        };
-    };
-    let fact = Fact {
-        el,
-        ct: ConcreteType {
-            typ,
-            parents: leading(parents, count),
-        },
-    };
-    if imposing::is_idle(core, fact) {
-        return Worked {
-            core,
-            merges: 0,
-            added: 0,
-        };
-    }
-    imposing::impose_concrete_type(core, fact)
-}
-
-fn type_func_args(core: Core, signature: Signature, apps: FuncApps) -> Worked
-    ensures { λ r. ⌜ Passes core r allFuncArgs (imposeAll (funcArgs (sigOf signature) (funcAppsOf apps))) ⌝ }
-{
     let funcs = signature.funcs;
-    let n = apps.size();
-    let mut now = core;
-    let mut merges: u64 = 0;
-    let mut added: u64 = 0;
-    for i in 0..n {
-        let app = apps.items[i];
-        let func = funcs.get(app.func);
-        let domain = func.domain;
-        let parents = app.parents;
-        let args = app.args;
-        let typed = type_args(now, signature, domain, parents, args);
-        let next = typed.core;
-        now = next;
-        merges += typed.merges;
-        added += typed.added;
-    }
-    Worked {
-        core: now,
-        merges,
-        added,
-    }
-}
-
-fn type_pred_args(core: Core, signature: Signature, preds: PredApps) -> Worked
-    ensures { λ r. ⌜ Passes core r allPredArgs (imposeAll (predArgs (sigOf signature) (predAppsOf preds))) ⌝ }
-{
     let declared = signature.preds;
-    let n = preds.size();
-    let mut now = core;
-    let mut merges: u64 = 0;
-    let mut added: u64 = 0;
-    for i in 0..n {
-        let app = preds.items[i];
-        let pred = declared.get(app.pred);
-        let arity = pred.arity;
-        let parents = app.parents;
-        let args = app.args;
-        let typed = type_args(now, signature, arity, parents, args);
-        let next = typed.core;
-        now = next;
-        merges += typed.merges;
-        added += typed.added;
-    }
-    Worked {
-        core: now,
-        merges,
-        added,
-    }
-}
-
-fn type_func_results(core: Core, signature: Signature, apps: FuncApps) -> Worked
-    ensures { λ r. ⌜ Passes core r allFuncResults (imposeAll (funcResults (sigOf signature) (funcAppsOf apps))) ⌝ }
-{
-    let funcs = signature.funcs;
     let n = apps.size();
+    let m = preds.size();
     let mut now = core;
     let mut merges: u64 = 0;
     let mut added: u64 = 0;
-    for i in 0..n {
-        let app = apps.items[i];
-        let func = funcs.get(app.func);
-        let codomain = func.codomain;
-        let parents = app.parents;
-        let result = app.result;
-        let typed = type_result(now, signature, codomain, parents, result);
+    for k in 0..n + m + n {
+        let f = func_index(n, m, k);
+        let p = pred_index(n, m, k);
+        let row = row_of(funcs, declared, n, m, k, apps.items[f], preds.items[p]);
+        let typed = type_row(now, types, row);
         let next = typed.core;
         now = next;
         merges += typed.merges;
@@ -201,15 +222,5 @@ fn type_func_results(core: Core, signature: Signature, apps: FuncApps) -> Worked
 pub fn typing(core: Core, signature: Signature, apps: FuncApps, preds: PredApps) -> Worked
     ensures { λ r. ⌜ Passes core r allDemands (imposeAll (demands (sigOf signature) (funcAppsOf apps) (predAppsOf preds))) ⌝ }
 {
-    let first = type_func_args(core, signature, apps);
-    let once = first.core;
-    let second = type_pred_args(once, signature, preds);
-    let twice = second.core;
-    let third = type_func_results(twice, signature, apps);
-    let left = third.core;
-    Worked {
-        core: left,
-        merges: first.merges + second.merges + third.merges,
-        added: first.added + second.added + third.added,
-    }
+    impose_demands(core, signature, apps, preds)
 }

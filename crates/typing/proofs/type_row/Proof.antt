@@ -1,31 +1,32 @@
--- `type_args` meets its contract.
+-- `type_row` meets its contract.
 use mathlib.Core.Path.{_≡_, refl}
-use Prim.Native.Nat.{_*_, _≤_, _<_, _-_}
+use Prim.Native.Nat.{_+_, _*_, _≤_, _<_, _-_}
 use native.Mathlib.Omega.{arith}
 use lib.ListN.{length, drop}
-use Rattle.ids.specs.Limits.{maxList}
 use Rattle.ids.specs.Ids.{elsOf, typesOf}
-use Rattle.signature.specs.Model.{Sig, viewTypes, sigOf}
+use Rattle.signature.specs.Model.{Sig, viewTypes}
 use Rattle.semantics.specs.Types.{imposeAll}
 use Rattle.semantics.specs.Close.{demandedArgs}
 use Rattle.merging.specs.View.{Toward}
 use Rattle.imposing.specs.Bounds.{oneImposed}
-use Rattle.merging.proofs.Laws.{begins}
-use Rattle.typing.proofs.Laws.{type-absent, type-imposed, type-idle, arg-typed, arg-untyped, arg-idle, no-arg, types-end}
+use Rattle.merging.proofs.Laws.{begins, leaves}
+use Rattle.typing.specs.Bounds.{oneRow}
+use Rattle.typing.proofs.Laws.{onlyTypes, type-absent, type-imposed, type-idle, arg-typed, arg-untyped, arg-idle, no-arg, types-end}
 use borrow.Author.Needs.{needs}
-use Rattle.typing.proofs.type_args.Statement.{statement}
-use Rattle.typing.proofs.type_args.Tie as tie
+use Rattle.typing.proofs.type_row.Statement.{statement}
+use Rattle.typing.proofs.type_row.Tie as tie
 
 -- for every signature with the types that are copied out of it
 abbrev Inv-loop : tie.InvT-loop
-Inv-loop parents expected args types n k given now₀ merges₀ added₀ i₀ now merges added i =
+Inv-loop types expected parents els n k given now₀ merges₀ added₀ i₀ now merges added i =
     (i ≤ n)
     × ((g : Sig) → g .types ≡ viewTypes types
-    → Toward now₀ now merges added (i * oneImposed) (imposeAll (demandedArgs g (drop i (typesOf expected)) (elsOf parents) (drop i (elsOf args))))
-    (imposeAll (demandedArgs g (typesOf expected) (elsOf parents) (elsOf args))))
+    → Toward now₀ now merges added (0 + i * oneImposed)
+    (λ w. imposeAll (demandedArgs g (drop i (typesOf expected)) (elsOf parents) (drop i (elsOf els))) w)
+    (imposeAll (demandedArgs g (typesOf expected) (elsOf parents) (elsOf els))))
 
 abbrev μ-loop : tie.MeasureT-loop
-μ-loop parents expected args types n k given now₀ merges₀ added₀ i₀ now merges added i = n - i
+μ-loop types expected parents els n k given now₀ merges₀ added₀ i₀ now merges added i = n - i
 
 size-requires : tie.Need-size-requires Inv-loop μ-loop
 size-requires c κs = search needs
@@ -41,8 +42,11 @@ cast-given c = search needs
 
 loop-holds : tie.Need-loop-holds Inv-loop μ-loop
 loop-holds c =
-    let a = c .before .before .before .before .args in
-    (omega arith, λ g same. begins (a .core) (imposeAll (demandedArgs g (typesOf (a .t3)) (elsOf (a .parents)) (elsOf (a .t5)))))
+    let a = c .before .before .before .before .before .before .args in (
+      omega arith,
+      λ g same.
+          leaves (begins (a .core) (imposeAll (demandedArgs g (typesOf (a .row .expected)) (elsOf (a .row .parents)) (elsOf (a .row .els))))) (omega arith) (λ w. refl),
+    )
 
 add-i : tie.Need-add-i Inv-loop μ-loop
 add-i c = search needs
@@ -54,10 +58,10 @@ loop-again : tie.Need-loop-again Inv-loop μ-loop
 loop-again c =
     let test = c .before in
     let sized = test .before .before in
-    let a = sized .before .before .before .before .args in
+    let a = sized .before .before .before .before .before .before .args in
     let l = test .before .loop in
-    let past : length (elsOf (a .t5)) ≤ l .i = omega (arith, sized .before .size2 .ensures .is, c .if1 .taken) in
-    (omega (arith, test .loop-test .taken), λ g same. no-arg g (a .t3) (elsOf (a .parents)) (a .t5) (l .i) oneImposed (l .inv .1 g same) past)
+    let past : length (elsOf (a .row .els)) ≤ l .i = omega (arith, sized .before .size2 .ensures .is, c .if1 .taken) in
+    (omega (arith, test .loop-test .taken), λ g same. no-arg g (a .row .expected) (elsOf (a .row .parents)) (a .row .els) (l .i) oneImposed 0 (λ w. w) (l .inv .1 g same) past)
 
 mul-el : tie.Need-mul-el Inv-loop μ-loop
 mul-el c = search needs
@@ -92,14 +96,14 @@ loop-again-2 c =
     let inside = looked .before .before .before in
     let test = inside .before in
     let sized = test .before .before in
-    let a = sized .before .before .before .before .args in
+    let a = sized .before .before .before .before .before .before .args in
     let l = test .before .loop in
-    let ht : l .i < length (typesOf (a .t3)) = omega (arith, sized .before .before .size .ensures .is, test .loop-test .taken) in
-    let hx : l .i < length (elsOf (a .t5)) = omega (arith, sized .before .size2 .ensures .is, inside .if1 .left) in (
+    let ht : l .i < length (typesOf (a .row .expected)) = omega (arith, sized .before .before .size .ensures .is, test .loop-test .taken) in
+    let hx : l .i < length (elsOf (a .row .els)) = omega (arith, sized .before .size2 .ensures .is, inside .if1 .left) in (
       omega (arith, test .loop-test .taken),
       λ g same.
-          arg-untyped g (a .t3) (elsOf (a .parents)) (a .t5) (l .i) oneImposed (l .inv .1 g same) (record { 0 = 0 }) (record { 0 = 0 }) ht hx
-          (type-absent g _ (elsOf (a .parents)) _ (looked .concrete-type-at .ensures) same (sized .size3 .ensures .is) (c .enum-told .given .1)),
+          arg-untyped g (a .row .expected) (elsOf (a .row .parents)) (a .row .els) (l .i) oneImposed 0 (λ w. w) (l .inv .1 g same) (record { 0 = 0 }) (record { 0 = 0 }) ht hx
+          (type-absent g _ (elsOf (a .row .parents)) _ (looked .concrete-type-at .ensures) same (sized .size3 .ensures .is) (c .enum-told .given .1)),
     )
 
 leading-requires : tie.Need-leading-requires Inv-loop μ-loop
@@ -124,15 +128,15 @@ loop-again-3 c =
     let inside = looked .before .before .before in
     let test = inside .before in
     let sized = test .before .before in
-    let a = sized .before .before .before .before .args in
+    let a = sized .before .before .before .before .before .before .args in
     let l = test .before .loop in
-    let ht : l .i < length (typesOf (a .t3)) = omega (arith, sized .before .before .size .ensures .is, test .loop-test .taken) in
-    let hx : l .i < length (elsOf (a .t5)) = omega (arith, sized .before .size2 .ensures .is, inside .if1 .left) in (
+    let ht : l .i < length (typesOf (a .row .expected)) = omega (arith, sized .before .before .size .ensures .is, test .loop-test .taken) in
+    let hx : l .i < length (elsOf (a .row .els)) = omega (arith, sized .before .size2 .ensures .is, inside .if1 .left) in (
       omega (arith, test .loop-test .taken),
       λ g same.
-          arg-idle g (a .t3) (elsOf (a .parents)) (a .t5) (l .i) oneImposed (l .inv .1 g same) (record { 0 = 0 }) (record { 0 = 0 }) ht hx
+          arg-idle g (a .row .expected) (elsOf (a .row .parents)) (a .row .els) (l .i) oneImposed 0 (λ w. w) (l .inv .1 g same) (record { 0 = 0 }) (record { 0 = 0 }) ht hx
           (λ m n.
-          type-idle g _ (elsOf (a .parents)) _ (looked .concrete-type-at .ensures) same (sized .size3 .ensures .is)
+          type-idle g _ (elsOf (a .row .parents)) _ (looked .concrete-type-at .ensures) same (sized .size3 .ensures .is)
           (known .typ .given .1) (led .leading .ensures) (asked .is-idle .ensures (c .if2 .taken) m n)),
     )
 
@@ -145,7 +149,7 @@ add-merges c =
     let test = made .before .before .before .before .before .before .before .before .before .before .before in
     let sized = test .before .before in
     let l = test .before .loop in
-    let so-far = l .inv .1 (sigOf (sized .before .before .before .before .args .signature)) refl in
+    let so-far = l .inv .1 (onlyTypes (viewTypes (sized .before .before .before .before .before .before .args .types))) refl in
     omega (
       arith,
       so-far .merges-most,
@@ -160,7 +164,7 @@ add-added c =
     let test = made .before .before .before .before .before .before .before .before .before .before .before in
     let sized = test .before .before in
     let l = test .before .loop in
-    let so-far = l .inv .1 (sigOf (sized .before .before .before .before .args .signature)) refl in
+    let so-far = l .inv .1 (onlyTypes (viewTypes (sized .before .before .before .before .before .before .args .types))) refl in
     omega (
       arith,
       so-far .added-most,
@@ -188,28 +192,29 @@ loop-again-4 c =
     let inside = looked .before .before .before in
     let test = inside .before in
     let sized = test .before .before in
-    let a = sized .before .before .before .before .args in
+    let a = sized .before .before .before .before .before .before .args in
     let l = test .before .loop in
-    let ht : l .i < length (typesOf (a .t3)) = omega (arith, sized .before .before .size .ensures .is, test .loop-test .taken) in
-    let hx : l .i < length (elsOf (a .t5)) = omega (arith, sized .before .size2 .ensures .is, inside .if1 .left) in (
+    let ht : l .i < length (typesOf (a .row .expected)) = omega (arith, sized .before .before .size .ensures .is, test .loop-test .taken) in
+    let hx : l .i < length (elsOf (a .row .els)) = omega (arith, sized .before .size2 .ensures .is, inside .if1 .left) in (
       omega (arith, test .loop-test .taken),
       λ g same.
-          arg-typed g (a .t3) (elsOf (a .parents)) (a .t5) (l .i) oneImposed (l .inv .1 g same) (record { 0 = 0 }) (record { 0 = 0 }) ht hx (made .impose-concrete-type .result)
-          (type-imposed g _ (elsOf (a .parents)) _ (looked .concrete-type-at .ensures) same (sized .size3 .ensures .is)
+          arg-typed g (a .row .expected) (elsOf (a .row .parents)) (a .row .els) (l .i) oneImposed 0 (λ w. w) (l .inv .1 g same) (record { 0 = 0 }) (record { 0 = 0 }) ht hx (made .impose-concrete-type .result)
+          (type-imposed g _ (elsOf (a .row .parents)) _ (looked .concrete-type-at .ensures) same (sized .size3 .ensures .is)
           (made .impose-concrete-type .result) (known .typ .given .1) (led .leading .ensures) (made .impose-concrete-type .ensures)),
     )
 
 returns : tie.Need-returns Inv-loop μ-loop
 returns c =
     let sized = c .before .before in
-    let a = sized .before .before .before .before .args in
+    let a = sized .before .before .before .before .before .before .args in
     let l = c .before .loop in
-    types-end (sigOf (a .signature)) (a .t3) (elsOf (a .parents)) (a .t5) (l .i) oneImposed (l .inv .1 (sigOf (a .signature)) refl) maxList
+    λ g same.
+    types-end g (a .row .expected) (elsOf (a .row .parents)) (a .row .els) (l .i) oneImposed 0 (λ w. w) (l .inv .1 g same) oneRow
     (omega (arith, sized .before .before .size .ensures .is, c .loop-test .left))
     (omega (arith, l .inv .0, sized .before .before .size .ensures .most))
 
-pub type-args-spec : {M : Type 1} → statement M
-type-args-spec =
+pub type-row-spec : {M : Type 1} → statement M
+type-row-spec =
     tie.close
     (tie.spec
     Inv-loop
