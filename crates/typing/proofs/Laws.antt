@@ -1,8 +1,8 @@
 -- Laws that the typing passes cite: of a type demanded at an element, and of a turn of the loop over the elements of a row.
-use mathlib.Core.Path.{_≡_, refl, sym, ap, _∙_}
+use mathlib.Core.Path.{_≡_, refl, sym, ap, subst, _∙_}
 use mathlib.Core.List.{List, [], _∷_, _++_, map}
 use Prim.Native.Nat.{ℕ, _+_, _*_, _≤_, _<_}
-use native.Mathlib.Nat.{add-mul}
+use native.Mathlib.Nat.{add-mul, add-zero}
 use native.Mathlib.Omega.{arith}
 use lib.ListN.{length, take, drop, getD}
 use lib.Seq.{take-take, take-all}
@@ -68,6 +68,13 @@ module _ (g : Sig) (t : ℕ) (ps : List ℕ) (e : ℕ) {ts : List TypeM} {given 
       let fact : List ℕ → Fact = λ l. record { el = e; typ = typ .0; parents = l } in
       let one : demandedAt g t ps e ≡ fact qs ∷ [] = looked-up found ∙ ap (λ (l : List ℕ). fact l ∷ []) (sym leading) in
       sym idle ∙ sym (imposeAll-one (fact qs) w) ∙ ap (λ (l : List Fact). imposeAll l w) (sym one)
+
+-- nothing was counted
+pub uncounted : {before now : Core} {merges added most : ℕ} {rest whole : types.Core → types.Core}
+    → Toward before now (merges + 0) (added + 0) most rest whole → Toward before now merges added most rest whole
+uncounted {before} {now} {merges} {added} {most} {rest} {whole} p =
+    subst (λ (a : ℕ). Toward before now merges a most rest whole) (add-zero added)
+    (subst (λ (m : ℕ). Toward before now m (added + 0) most rest whole) (add-zero merges) p)
 
 -- Arguments against the types of a domain or arity, where either list ends or both go on.
 no-types : (g : Sig) (ps xs : List ℕ) → demandedArgs g [] ps xs ≡ []

@@ -5,8 +5,11 @@ use apps::PredApp;
 use apps::PredApps;
 use facts::ConcreteType;
 use facts::Fact;
+use facts::Facts;
 use ids::ElId;
 use ids::ElIds;
+use ids::Ordering;
+use ids::Refusal;
 use ids::TypeId;
 use ids::TypeIds;
 use merging::Core;
@@ -23,9 +26,9 @@ ghost use Rattle.signature.specs.Model.{sigOf, viewFuncs, viewPreds};
 ghost use Rattle.semantics.specs.Types.{imposeAll};
 ghost use Rattle.semantics.specs.Close.{demands};
 ghost use Rattle.apps.specs.View.{funcAppOf, predAppOf, funcAppsOf, predAppsOf};
-ghost use Rattle.merging.specs.View.{Passes};
+ghost use Rattle.merging.specs.View.{metOf, Passes};
 ghost use Rattle.typing.specs.Bounds.{allDemands};
-ghost use Rattle.typing.specs.Rows.{rowOf, funcRow, predRow, resultRow, IsRow, FuncIndex, PredIndex, RowAt, RowImposed};
+ghost use Rattle.typing.specs.Rows.{rowOf, funcRow, predRow, resultRow, IsRow, FuncIndex, PredIndex, RowAt, RowImposed, fullMet, NoneMarked};
 
 // What one application is asked: the types that elements are to have, with the parents that are given.
 pub struct Row {
@@ -218,9 +221,111 @@ fn impose_demands(core: Core, signature: Signature, apps: FuncApps, preds: PredA
     }
 }
 
+// The number met when a fact has no room: the first stays.
+fn met_full(met: u16) -> u16
+    ensures { λ r. ⌜ metOf r ≡ fullMet (metOf met) ⌝ }
+{
+    if met == 0 {
+        return Refusal::TOO_MANY_FACTS;
+    }
+    met
+}
+
+// The demands where no element is marked: a fact is inserted and nothing else happens, so links, marks and pairs stay. The search and the
+// shift stand here, in the loops, so that the table of facts is not copied for each demand.
+fn insert_demands(core: Core, signature: Signature, apps: FuncApps, preds: PredApps) -> Worked
+    requires { ⌜ NoneMarked core ⌝ }
+    ensures { λ r. ⌜ Passes core r allDemands (imposeAll (demands (sigOf signature) (funcAppsOf apps) (predAppsOf preds))) ⌝ }
+{
+    let types = signature.types;
+    let funcs = signature.funcs;
+    let declared = signature.preds;
+    let u = core.unification;
+    let n = apps.size();
+    let m = preds.size();
+    let mut facts = core.facts;
+    let mut met = core.met;
+    let mut added: u64 = 0;
+    'rows: for k in 0..n + m + n {
+        let f = func_index(n, m, k);
+        let p = pred_index(n, m, k);
+        let row = row_of(funcs, declared, n, m, k, apps.items[f], preds.items[p]);
+        let expected = row.expected;
+        let parents = row.parents;
+        let els = row.els;
+        let asked = expected.size();
+        let many = els.size();
+        let given = parents.size() as u16;
+        'each: for j in 0..asked {
+            if many <= j {
+                continue;
+            }
+            let el = els.ids[j];
+            let Typed::At(typ, count) = types.concrete_type_at(expected.ids[j], given) else {
+                continue;
+            };
+            let fact = Fact {
+                el,
+                ct: ConcreteType {
+                    typ,
+                    parents: leading(parents, count),
+                },
+            };
+            let entry = canonical::canonical_fact(u, fact);
+            let size = facts.size();
+            let mut at = 0;
+            let mut end = size;
+            let mut there = false;
+            'search: while at < end {
+                let here = facts.items[at];
+                match here.compare(entry) {
+                    Ordering::Less => {
+                        at += 1;
+                    }
+                    Ordering::Equal => {
+                        there = true;
+                        end = at;
+                    }
+                    Ordering::Greater => {
+                        end = at;
+                    }
+                }
+            }
+            if there {
+                continue;
+            }
+            if Facts::MAX_LEN <= size {
+                met = met_full(met);
+                continue;
+            }
+            let mut i = size;
+            'shift: while at < i {
+                let moved = facts.items[i - 1];
+                facts.items[i] = moved;
+                i -= 1;
+            }
+            facts.items[at] = entry;
+            facts.len = (size + 1) as u16;
+            added += 1;
+        }
+    }
+    let mut next = core;
+    next.facts = facts;
+    next.met = met;
+    Worked {
+        core: next,
+        merges: 0,
+        added,
+    }
+}
+
 // Function arguments, predicate arguments, function results.
 pub fn typing(core: Core, signature: Signature, apps: FuncApps, preds: PredApps) -> Worked
     ensures { λ r. ⌜ Passes core r allDemands (imposeAll (demands (sigOf signature) (funcAppsOf apps) (predAppsOf preds))) ⌝ }
 {
-    impose_demands(core, signature, apps, preds)
+    let marks = core.marks;
+    if imposing::any_marked(core.unification, marks) {
+        return impose_demands(core, signature, apps, preds);
+    }
+    insert_demands(core, signature, apps, preds)
 }
