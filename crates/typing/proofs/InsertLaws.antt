@@ -135,6 +135,7 @@ module _ (c : Core) (none : NoneMarked c) (t : Facts) (met : ℕ) (f : Fact) {x 
     put-placed s h e =
         does
         (grown (withFacts c t met) x (record { grew = true; full = false; facts = s })
-        (ap {B = Grown Fact} (λ (l : List Fact). record { grew = true; full = false; items = l }) e ∙ sym (insert-new compareFact x maxFacts (factsOf t) absent h))
+        (ap {B = Grown Fact} (λ (l : List Fact). record { grew = true; full = false; items = l }) e
+        ∙ sym (insert-new compareFact x maxFacts (factsOf t) absent h))
         refl refl)
         (omega arith) plain

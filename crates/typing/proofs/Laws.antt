@@ -93,7 +93,8 @@ next-arg g t x ts ps xs = refl
 -- The loop over them, at the argument i: `after` comes after all of them, and `base` was counted before.
 module _ (g : Sig) (ts : TypeIds) (ps : List ℕ) (xs : ElIds) (i per base : ℕ) (after : types.Core → types.Core)
     {before now : Core} {merges added : ℕ} {whole : types.Core → types.Core}
-    (so-far : Toward before now merges added (base + i * per) (λ w. after (imposeAll (demandedArgs g (drop i (typesOf ts)) ps (drop i (elsOf xs))) w)) whole) where
+    (so-far : Toward before now merges added (base + i * per)
+    (λ w. after (imposeAll (demandedArgs g (drop i (typesOf ts)) ps (drop i (elsOf xs))) w)) whole) where
   abbrev next : List Fact
   next = demandedArgs g (drop (i + 1) (typesOf ts)) ps (drop (i + 1) (elsOf xs))
 
@@ -136,7 +137,9 @@ module _ (g : Sig) (ts : TypeIds) (ps : List ℕ) (xs : ElIds) (i per base : ℕ
       let none : (k : ℕ) → length (elsOf xs) ≤ k → (l : List ℕ) → demandedArgs g l ps (drop k (elsOf xs)) ≡ [] =
       λ k past l. ap (demandedArgs g l ps) (view-done elOf (xs .len) (xs .ids) k past) ∙ no-args g l ps in
       leaves so-far (omega (arith, add-mul i 1 per))
-      (λ w. ap (λ (l : List Fact). after (imposeAll l w)) (none (i + 1) (omega (arith, h)) (drop (i + 1) (typesOf ts)) ∙ sym (none i h (drop i (typesOf ts)))))
+      (λ w.
+      ap (λ (l : List Fact). after (imposeAll l w))
+      (none (i + 1) (omega (arith, h)) (drop (i + 1) (typesOf ts)) ∙ sym (none i h (drop i (typesOf ts)))))
 
   -- the types end
   pub types-end : (limit : ℕ) → length (typesOf ts) ≤ i → base + i * per ≤ limit → Toward before now merges added limit after whole

@@ -117,7 +117,8 @@ module _ (fs : List FuncM) (ps : List PredM) (apps : FuncApps) (preds : PredApps
         length-map (funcAppsOf apps) (resultRow fs),
       )
 
-  module _ (k i j : ℕ) (d : code-func.FuncApp) (e : code-pred.PredApp) {r : RowM} (is : k < n + m + n) (hi : FuncIndex n m k i) (hj : PredIndex n m k j)
+  module _ (k i j : ℕ) (d : code-func.FuncApp) (e : code-pred.PredApp) {r : RowM} (is : k < n + m + n)
+      (hi : FuncIndex n m k i) (hj : PredIndex n m k j)
       (at : RowAt fs ps n m k (funcAppOf (getD (apps .items) i d)) (predAppOf (getD (preds .items) j e)) r) where
     many-args : length args ≡ n
     many-args = length-map (funcAppsOf apps) (funcRow fs) ∙ sym hn
@@ -138,14 +139,16 @@ module _ (fs : List FuncM) (ps : List PredM) (apps : FuncApps) (preds : PredApps
         let same : n + j ≡ k = hj .args h l in
         next-right args (asked ++ results) k j (omega (arith, many-args, same))
         (next-left asked results j (omega (arith, many-asked, same))
-        (next-view (predRow ps) predAppOf (preds .len) (preds .items) j e (omega (arith, hm, same)) ∙ ap (λ (x : RowM). x ∷ drop (j + 1) asked) (sym (at .pred h l))))
+        (next-view (predRow ps) predAppOf (preds .len) (preds .items) j e (omega (arith, hm, same))
+        ∙ ap (λ (x : RowM). x ∷ drop (j + 1) asked) (sym (at .pred h l))))
 
     of-result : n + m ≤ k → Next (args ++ (asked ++ results)) k r
     of-result h =
         let same : n + m + i ≡ k = hi .result h in
         next-right args (asked ++ results) k (m + i) (omega (arith, many-args, same))
         (next-right asked results (m + i) i (omega (arith, many-asked))
-        (next-view (resultRow fs) funcAppOf (apps .len) (apps .items) i d (omega (arith, hn, same, is)) ∙ ap (λ (x : RowM). x ∷ drop (i + 1) results) (sym (at .result h))))
+        (next-view (resultRow fs) funcAppOf (apps .len) (apps .items) i d (omega (arith, hn, same, is))
+        ∙ ap (λ (x : RowM). x ∷ drop (i + 1) results) (sym (at .result h))))
 
     pub row-next : Next (rows fs ps (funcAppsOf apps) (predAppsOf preds)) k r
     unfolding rows

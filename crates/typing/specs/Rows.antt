@@ -9,15 +9,19 @@ use lib.ListN.{getD}
 use Rattle.ids.specs.Answers.{tooManyFacts}
 use Rattle.ids.specs.Ids.{elsOf, typesOf}
 use Rattle.signature.specs.declared.Types.{Types}
-use Rattle.signature.specs.Model.{Sig, FuncM, PredM, noFunc, noPred, viewTypes}
+use Rattle.signature.specs.declared.Signature.{Signature}
+use Rattle.signature.specs.Model.{Sig, FuncM, PredM, noFunc, noPred, viewTypes, sigOf}
 use Rattle.semantics.specs.Structure.{Fact, FuncApp, PredApp, maxFuncApps, maxPredApps}
 use Rattle.semantics.specs.Types.{marked, imposeAll}
-use Rattle.semantics.specs.Close.{demandedArgs}
+use Rattle.semantics.specs.Close.{demandedArgs, demands}
+use Rattle.apps.specs.declared.FuncApps.{FuncApps}
+use Rattle.apps.specs.declared.PredApps.{PredApps}
+use Rattle.apps.specs.View.{funcAppsOf, predAppsOf}
 use Rattle.merging.specs.declared.Core.{Core}
 use Rattle.merging.specs.declared.Worked.{Worked}
 use Rattle.merging.specs.View.{marksOf, Passes}
 use Rattle.typing.specs.declared.Row.{Row}
-use Rattle.typing.specs.Bounds.{oneRow}
+use Rattle.typing.specs.Bounds.{oneRow, allDemands}
 
 -- the types that elements are to have, with the parents that are given
 pub record RowM : Type 0 where
@@ -71,6 +75,10 @@ abbrev pub RowImposed : Types → Row → Core → Worked → Type 0
 RowImposed types row core r =
     (g : Sig) → g .types ≡ viewTypes types
     → Passes core r oneRow (imposeAll (demandedArgs g (typesOf (row .expected)) (elsOf (row .parents)) (elsOf (row .els))))
+
+-- all demands are imposed
+abbrev pub Demanded : Core → Signature → FuncApps → PredApps → Worked → Type 0
+Demanded core signature apps preds r = Passes core r allDemands (imposeAll (demands (sigOf signature) (funcAppsOf apps) (predAppsOf preds)))
 
 -- no element is marked
 abbrev pub NoneMarked : Core → Type 0

@@ -28,7 +28,7 @@ ghost use Rattle.semantics.specs.Close.{demands};
 ghost use Rattle.apps.specs.View.{funcAppOf, predAppOf, funcAppsOf, predAppsOf};
 ghost use Rattle.merging.specs.View.{metOf, Passes};
 ghost use Rattle.typing.specs.Bounds.{allDemands};
-ghost use Rattle.typing.specs.Rows.{rowOf, funcRow, predRow, resultRow, IsRow, FuncIndex, PredIndex, RowAt, RowImposed, fullMet, NoneMarked};
+ghost use Rattle.typing.specs.Rows.{rowOf, funcRow, predRow, resultRow, IsRow, FuncIndex, PredIndex, RowAt, RowImposed, NoneMarked, Demanded, fullMet};
 
 // What one application is asked: the types that elements are to have, with the parents that are given.
 pub struct Row {
@@ -194,7 +194,7 @@ fn type_row(core: Core, types: Types, row: Row) -> Worked
 
 // The demands imposed row by row.
 fn impose_demands(core: Core, signature: Signature, apps: FuncApps, preds: PredApps) -> Worked
-    ensures { λ r. ⌜ Passes core r allDemands (imposeAll (demands (sigOf signature) (funcAppsOf apps) (predAppsOf preds))) ⌝ }
+    ensures { λ r. ⌜ Demanded core signature apps preds r ⌝ }
 {
     let types = signature.types;
     let funcs = signature.funcs;
@@ -235,7 +235,7 @@ fn met_full(met: u16) -> u16
 // shift stand here, in the loops, so that the table of facts is not copied for each demand.
 fn insert_demands(core: Core, signature: Signature, apps: FuncApps, preds: PredApps) -> Worked
     requires { ⌜ NoneMarked core ⌝ }
-    ensures { λ r. ⌜ Passes core r allDemands (imposeAll (demands (sigOf signature) (funcAppsOf apps) (predAppsOf preds))) ⌝ }
+    ensures { λ r. ⌜ Demanded core signature apps preds r ⌝ }
 {
     let types = signature.types;
     let funcs = signature.funcs;

@@ -14,7 +14,8 @@ returns : tie.Need-returns
 returns c =
     let got = c .before .before .before in
     let app = got .before .args .app in
-    ap {B = RowM} (λ (f : FuncM). record { expected = f .domain; parents = elsOf (app .parents); els = elsOf (app .args) }) (got .get .ensures)
+    let row : FuncM → RowM = λ f. record { expected = f .domain; parents = elsOf (app .parents); els = elsOf (app .args) } in
+    ap row (got .get .ensures)
 
 pub func-row-spec : {M : Type 1} → statement M
 func-row-spec = tie.close (tie.spec get-requires returns)

@@ -43,12 +43,9 @@ add-k-end-2 c = search needs
 
 loop-holds : tie.Need-loop-holds Inv-loop μ-loop
 loop-holds c =
-    let a = c .before .before .before .before .before .args in (
-      omega arith,
-      λ g same.
-          begins (a .core)
-          (imposeAll (rowsDemand g (rows (viewFuncs (a .signature .funcs)) (viewPreds (a .signature .preds)) (funcAppsOf (a .t3)) (predAppsOf (a .t4))))),
-    )
+    let a = c .before .before .before .before .before .args in
+    let all = rows (viewFuncs (a .signature .funcs)) (viewPreds (a .signature .preds)) (funcAppsOf (a .t3)) (predAppsOf (a .t4)) in
+    (omega arith, λ g same. begins (a .core) (imposeAll (rowsDemand g all)))
 
 func-index-requires : tie.Need-func-index-requires Inv-loop μ-loop
 func-index-requires c κs = search needs

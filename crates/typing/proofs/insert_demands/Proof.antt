@@ -15,6 +15,7 @@ use Rattle.semantics.specs.Close.{demandedArgs}
 use Rattle.facts.specs.declared.Facts.{Facts}
 use Rattle.facts.specs.View.{factOf, factsOf, noFact}
 use Rattle.apps.specs.View.{funcAppsOf, predAppsOf, noFuncApp, noPredApp}
+use Rattle.merging.specs.declared.Worked.{Worked}
 use Rattle.merging.specs.View.{Toward, coreOf}
 use Rattle.merging.proofs.Laws.{begins, does}
 use Rattle.typing.specs.Bounds.{allRows}
@@ -28,19 +29,23 @@ use Rattle.typing.proofs.insert_demands.Tie as tie
 
 -- the search: `end` is where it ends, and moves there when the place is found
 abbrev Inv-search : tie.InvT-search
-Inv-search core apps preds types funcs declared u n m facts met added k f p expected parents els asked many given j count entry size at₀ end₀ there₀ k-end at end there =
+Inv-search core apps preds types funcs declared u n m facts met added k f p expected parents els asked many given j count entry
+    size at₀ end₀ there₀ k-end at end there =
     (end ≤ size) × Searching (factOf entry) facts at end there
 
 abbrev μ-search : tie.MeasureT-search
-μ-search core apps preds types funcs declared u n m facts met added k f p expected parents els asked many given j count entry size at₀ end₀ there₀ k-end at end there =
+μ-search core apps preds types funcs declared u n m facts met added k f p expected parents els asked many given j count entry
+    size at₀ end₀ there₀ k-end at end there =
     end - at
 
 abbrev Inv-shift : tie.InvT-shift
-Inv-shift core apps preds types funcs declared u n m facts₀ met added k f p expected parents els asked many given j count entry size at end there i₀ k-end facts i =
+Inv-shift core apps preds types funcs declared u n m facts₀ met added k f p expected parents els asked many given j count entry
+    size at end there i₀ k-end facts i =
     (at ≤ i) × (i ≤ size) × Shifted (facts₀ .items) (facts .items) size i
 
 abbrev μ-shift : tie.MeasureT-shift
-μ-shift core apps preds types funcs declared u n m facts₀ met added k f p expected parents els asked many given j count entry size at end there i₀ k-end facts i =
+μ-shift core apps preds types funcs declared u n m facts₀ met added k f p expected parents els asked many given j count entry
+    size at end there i₀ k-end facts i =
     i
 
 -- for every signature with the types that are copied out of it
@@ -86,12 +91,12 @@ rows-holds :
 rows-holds c =
     let start = c .before .before .before .before .before .before .before in
     let a = start .args in
-    let full : length (a .core .facts .items) ≡ maxFacts = long _ (a .core .facts .items) _ (start .good .0 .1 .1 .1 .1 .0 .1 .1 .0 .1 .0 .1) in (
+    let all = rows (viewFuncs (a .signature .funcs)) (viewPreds (a .signature .preds)) (funcAppsOf (a .t3)) (predAppsOf (a .t4)) in
+    let full : length (a .core .facts .items) ≡ maxFacts =
+    long _ (a .core .facts .items) _ (start .good .0 .1 .1 .1 .1 .0 .1 .1 .0 .1 .0 .1) in (
       omega arith,
       full,
-      λ g same.
-          begins (a .core)
-          (imposeAll (rowsDemand g (rows (viewFuncs (a .signature .funcs)) (viewPreds (a .signature .preds)) (funcAppsOf (a .t3)) (predAppsOf (a .t4))))),
+      λ g same. begins (a .core) (imposeAll (rowsDemand g all)),
     )
 
 func-index-requires :
@@ -212,8 +217,13 @@ each-again c =
     let k = outer .before .rows .k in
     let row = rowed .row-of .result in
     let all = rows (viewFuncs (a .signature .funcs)) (viewPreds (a .signature .preds)) (funcAppsOf (a .t3)) (predAppsOf (a .t4)) in
-    let past : length (elsOf (row .els)) ≤ l .j = omega (arith, sized .before .size4 .ensures .is, c .if1 .taken) in
-    (omega (arith, test .each-test .taken), l .inv .1, λ g same. no-arg g (row .expected) (elsOf (row .parents)) (row .els) (l .j) 1 (k * maxList) (imposeAll (rowsDemand g (drop (k + 1) all))) (l .inv .2 g same) past)
+    let past : length (elsOf (row .els)) ≤ l .j = omega (arith, sized .before .size4 .ensures .is, c .if1 .taken) in (
+      omega (arith, test .each-test .taken),
+      l .inv .1,
+      λ g same.
+          no-arg g (row .expected) (elsOf (row .parents)) (row .els) (l .j) 1 (k * maxList) (imposeAll (rowsDemand g (drop (k + 1) all)))
+          (l .inv .2 g same) past,
+    )
 
 mul-el : tie.Need-mul-el Inv-search μ-search Inv-shift μ-shift Inv-each μ-each Inv-rows μ-rows
 mul-el c = search needs
@@ -304,7 +314,8 @@ each-again-2 c =
       omega (arith, test .each-test .taken),
       l .inv .1,
       λ g same.
-          arg-untyped g (row .expected) (elsOf (row .parents)) (row .els) (l .j) 1 (k * maxList) (imposeAll (rowsDemand g (drop (k + 1) all))) (l .inv .2 g same) (record { 0 = 0 }) (record { 0 = 0 }) ht hx
+          arg-untyped g (row .expected) (elsOf (row .parents)) (row .els) (l .j) 1 (k * maxList) (imposeAll (rowsDemand g (drop (k + 1) all)))
+          (l .inv .2 g same) (record { 0 = 0 }) (record { 0 = 0 }) ht hx
           (type-absent g _ (elsOf (row .parents)) _ (looked .concrete-type-at .ensures) same (sized .size5 .ensures .is) (c .enum-told .given .1)),
     )
 
@@ -375,8 +386,11 @@ search-again c =
     let test = made .before .before .before .before .before .before .before .before .before in
     let t = test .before .each .facts in
     let l = here .before .search in
-    let in-table : l .end ≤ length (t .items) = omega (arith, l .inv .0, counted .size6 .ensures .is, length-view factOf (t .len) (t .items)) in
-    (omega (arith, l .inv .0, here .search-test .taken), search-past (factOf (made .canonical-fact .result)) t (l .at) (l .end) (l .inv .1) in-table (here .search-test .taken) (sym (told .compare .ensures) ∙ c .enum-told2 .given .1))
+    let in-table : l .end ≤ length (t .items) = omega (arith, l .inv .0, counted .size6 .ensures .is, length-view factOf (t .len) (t .items)) in (
+      omega (arith, l .inv .0, here .search-test .taken),
+      search-past (factOf (made .canonical-fact .result)) t (l .at) (l .end) (l .inv .1) in-table (here .search-test .taken)
+          (sym (told .compare .ensures) ∙ c .enum-told2 .given .1),
+    )
 
 enum-told-3 :
     tie.Need-enum-told-3 Inv-search μ-search Inv-shift μ-shift Inv-each μ-each Inv-rows μ-rows
@@ -396,8 +410,11 @@ search-again-2 c =
     let test = made .before .before .before .before .before .before .before .before .before in
     let t = test .before .each .facts in
     let l = here .before .search in
-    let in-table : l .end ≤ length (t .items) = omega (arith, l .inv .0, counted .size6 .ensures .is, length-view factOf (t .len) (t .items)) in
-    (omega (arith, l .inv .0, here .search-test .taken), search-found (factOf (made .canonical-fact .result)) t (l .at) (l .end) (l .inv .1) in-table (here .search-test .taken) (sym (told .compare .ensures) ∙ c .enum-told3 .given .1))
+    let in-table : l .end ≤ length (t .items) = omega (arith, l .inv .0, counted .size6 .ensures .is, length-view factOf (t .len) (t .items)) in (
+      omega (arith, l .inv .0, here .search-test .taken),
+      search-found (factOf (made .canonical-fact .result)) t (l .at) (l .end) (l .inv .1) in-table (here .search-test .taken)
+          (sym (told .compare .ensures) ∙ c .enum-told3 .given .1),
+    )
 
 enum-told-4 :
     tie.Need-enum-told-4 Inv-search μ-search Inv-shift μ-shift Inv-each μ-each Inv-rows μ-rows
@@ -417,8 +434,11 @@ search-again-3 c =
     let test = made .before .before .before .before .before .before .before .before .before in
     let t = test .before .each .facts in
     let l = here .before .search in
-    let in-table : l .end ≤ length (t .items) = omega (arith, l .inv .0, counted .size6 .ensures .is, length-view factOf (t .len) (t .items)) in
-    (omega (arith, l .inv .0, here .search-test .taken), search-before (factOf (made .canonical-fact .result)) t (l .at) (l .end) (l .inv .1) in-table (here .search-test .taken) (sym (told .compare .ensures) ∙ c .enum-told4 .given .1))
+    let in-table : l .end ≤ length (t .items) = omega (arith, l .inv .0, counted .size6 .ensures .is, length-view factOf (t .len) (t .items)) in (
+      omega (arith, l .inv .0, here .search-test .taken),
+      search-before (factOf (made .canonical-fact .result)) t (l .at) (l .end) (l .inv .1) in-table (here .search-test .taken)
+          (sym (told .compare .ensures) ∙ c .enum-told4 .given .1),
+    )
 
 add-j-3 : tie.Need-add-j-3 Inv-search μ-search Inv-shift μ-shift Inv-each μ-each Inv-rows μ-rows
 add-j-3 c = search needs
@@ -456,8 +476,12 @@ each-again-3 c =
       omega (arith, test .each-test .taken),
       l .inv .1,
       λ g same.
-          arg-idle g (row .expected) (elsOf (row .parents)) (row .els) (l .j) 1 (k * maxList) (imposeAll (rowsDemand g (drop (k + 1) all))) (l .inv .2 g same) (record { 0 = 0 }) (record { 0 = 0 }) ht hx
-          (λ m n. type-idle g _ (elsOf (row .parents)) _ (looked .concrete-type-at .ensures) same (sized .size5 .ensures .is) (known .typ .given .1) (led .leading .ensures) (put-stored (a .core) (start .pre) (l .facts) (l .met) _ (made .canonical-fact .ensures) stored m n)),
+          arg-idle g (row .expected) (elsOf (row .parents)) (row .els) (l .j) 1 (k * maxList) (imposeAll (rowsDemand g (drop (k + 1) all)))
+          (l .inv .2 g same) (record { 0 = 0 }) (record { 0 = 0 }) ht hx
+          (λ m n.
+          type-idle g _ (elsOf (row .parents)) _ (looked .concrete-type-at .ensures) same (sized .size5 .ensures .is)
+          (known .typ .given .1) (led .leading .ensures)
+          (put-stored (a .core) (start .pre) (l .facts) (l .met) _ (made .canonical-fact .ensures) stored m n)),
     )
 
 met-full-requires :
@@ -507,15 +531,20 @@ each-again-4 c =
     let ht : l .j < length (typesOf (row .expected)) = omega (arith, sized .before .before .size3 .ensures .is, test .each-test .taken) in
     let hx : l .j < length (elsOf (row .els)) = omega (arith, sized .before .size4 .ensures .is, inside .if1 .left) in
     let s = searched .before .search in
-    let spot = search-done (factOf (made .canonical-fact .result)) (l .facts) (s .at) (s .end) (s .inv .1) (absent .if2 .left) (searched .search-test .left) in
-    let full : maxFacts ≤ length (factsOf (l .facts)) = omega (arith, counted .size6 .ensures .is, room .if3 .taken) in (
+    let spot =
+    search-done (factOf (made .canonical-fact .result)) (l .facts) (s .at) (s .end) (s .inv .1) (absent .if2 .left) (searched .search-test .left) in
+    let full : maxFacts ≤ length (factsOf (l .facts)) = omega (arith, counted .size6 .ensures .is, room .if3 .taken) in
+    let r : Worked = record { core = withFacts (a .core) (l .facts) (c .met-full .result); merges = 0; added = 0 } in (
       omega (arith, test .each-test .taken),
       l .inv .1,
       λ g same.
           uncounted
-          (arg-typed g (row .expected) (elsOf (row .parents)) (row .els) (l .j) 1 (k * maxList) (imposeAll (rowsDemand g (drop (k + 1) all))) (l .inv .2 g same) (record { 0 = 0 }) (record { 0 = 0 }) ht hx (record { core = withFacts (a .core) (l .facts) (c .met-full .result); merges = 0; added = 0 })
-          (type-imposed g _ (elsOf (row .parents)) _ (looked .concrete-type-at .ensures) same (sized .size5 .ensures .is) (record { core = withFacts (a .core) (l .facts) (c .met-full .result); merges = 0; added = 0 })
-          (known .typ .given .1) (led .leading .ensures) (put-full (a .core) (start .pre) (l .facts) (l .met) _ (made .canonical-fact .ensures) (spot .0) (c .met-full .result) full (c .met-full .ensures)))),
+          (arg-typed g (row .expected) (elsOf (row .parents)) (row .els) (l .j) 1 (k * maxList) (imposeAll (rowsDemand g (drop (k + 1) all)))
+          (l .inv .2 g same) (record { 0 = 0 }) (record { 0 = 0 }) ht hx r
+          (type-imposed g _ (elsOf (row .parents)) _ (looked .concrete-type-at .ensures) same (sized .size5 .ensures .is) r
+          (known .typ .given .1) (led .leading .ensures)
+          (put-full (a .core) (start .pre) (l .facts) (l .met) _ (made .canonical-fact .ensures) (spot .0) (c .met-full .result) full
+          (c .met-full .ensures)))),
     )
 
 shift-holds :
@@ -543,7 +572,8 @@ shift-holds c =
     let row = rowed .row-of .result in
     let all = rows (viewFuncs (a .signature .funcs)) (viewPreds (a .signature .preds)) (funcAppsOf (a .t3)) (predAppsOf (a .t4)) in
     let s = searched .before .search in
-    let spot = search-done (factOf (made .canonical-fact .result)) (l .facts) (s .at) (s .end) (s .inv .1) (absent .if2 .left) (searched .search-test .left) in
+    let spot =
+    search-done (factOf (made .canonical-fact .result)) (l .facts) (s .at) (s .end) (s .inv .1) (absent .if2 .left) (searched .search-test .left) in
     (omega (arith, spot .1 .0, counted .size6 .ensures .is), omega arith, shift-start _ _)
 
 sub-moved :
@@ -614,8 +644,12 @@ shift-again c =
     let k = outer .before .rows .k in
     let row = rowed .row-of .result in
     let all = rows (viewFuncs (a .signature .funcs)) (viewPreds (a .signature .preds)) (funcAppsOf (a .t3)) (predAppsOf (a .t4)) in
-    let s = here .before .shift in
-    (omega (arith, here .shift-test .taken), omega (arith, s .inv .1), shift-turn noFact (l .facts .items) (s .facts .items) _ (s .i) (s .inv .2) (omega (arith, here .shift-test .taken)) (s .inv .1) (omega (arith, l .inv .1, room .if3 .left)))
+    let s = here .before .shift in (
+      omega (arith, here .shift-test .taken),
+      omega (arith, s .inv .1),
+      shift-turn noFact (l .facts .items) (s .facts .items) _ (s .i) (s .inv .2) (omega (arith, here .shift-test .taken)) (s .inv .1)
+          (omega (arith, l .inv .1, room .if3 .left)),
+    )
 
 mul-entry :
     tie.Need-mul-entry Inv-search μ-search Inv-shift μ-shift Inv-each μ-each Inv-rows μ-rows
@@ -710,7 +744,8 @@ each-again-5 c =
     let ht : l .j < length (typesOf (row .expected)) = omega (arith, sized .before .before .size3 .ensures .is, test .each-test .taken) in
     let hx : l .j < length (elsOf (row .els)) = omega (arith, sized .before .size4 .ensures .is, inside .if1 .left) in
     let s = searched .before .search in
-    let spot = search-done (factOf (made .canonical-fact .result)) (l .facts) (s .at) (s .end) (s .inv .1) (absent .if2 .left) (searched .search-test .left) in
+    let spot =
+    search-done (factOf (made .canonical-fact .result)) (l .facts) (s .at) (s .end) (s .inv .1) (absent .if2 .left) (searched .search-test .left) in
     let moved = c .before .shift in
     let n = counted .size6 .result in
     let entry = made .canonical-fact .result in
@@ -721,13 +756,16 @@ each-again-5 c =
     let fits : n < length (l .facts .items) = omega (arith, l .inv .1, room .if3 .left) in
     let free : length (factsOf (l .facts)) < maxFacts = omega (arith, counted .size6 .ensures .is, room .if3 .left) in
     let shifted : Shifted (l .facts .items) (moved .facts .items) n (s .at) = rw same-at at (moved .inv .2) in
-    let placed = shifted-in (l .facts) (moved .facts .items) entry n (s .at) (counted .size6 .ensures .is) within shifted fits ∙ sym (spot .1 .1) in (
+    let placed = shifted-in (l .facts) (moved .facts .items) entry n (s .at) (counted .size6 .ensures .is) within shifted fits ∙ sym (spot .1 .1) in
+    let r : Worked = record { core = withFacts (a .core) left (l .met); merges = 0; added = 1 } in (
       omega (arith, test .each-test .taken),
       length-set (moved .facts .items) (s .at) entry ∙ shifted .long ∙ l .inv .1,
       λ g same.
-          arg-typed g (row .expected) (elsOf (row .parents)) (row .els) (l .j) 1 (k * maxList) (imposeAll (rowsDemand g (drop (k + 1) all))) (l .inv .2 g same) (record { 0 = 0 }) (record { 0 = 0 }) ht hx (record { core = withFacts (a .core) left (l .met); merges = 0; added = 1 })
-          (type-imposed g _ (elsOf (row .parents)) _ (looked .concrete-type-at .ensures) same (sized .size5 .ensures .is) (record { core = withFacts (a .core) left (l .met); merges = 0; added = 1 })
-          (known .typ .given .1) (led .leading .ensures) (put-placed (a .core) (start .pre) (l .facts) (l .met) _ (made .canonical-fact .ensures) (spot .0) left free placed)),
+          arg-typed g (row .expected) (elsOf (row .parents)) (row .els) (l .j) 1 (k * maxList) (imposeAll (rowsDemand g (drop (k + 1) all)))
+          (l .inv .2 g same) (record { 0 = 0 }) (record { 0 = 0 }) ht hx r
+          (type-imposed g _ (elsOf (row .parents)) _ (looked .concrete-type-at .ensures) same (sized .size5 .ensures .is) r
+          (known .typ .given .1) (led .leading .ensures)
+          (put-placed (a .core) (start .pre) (l .facts) (l .met) _ (made .canonical-fact .ensures) (spot .0) left free placed)),
     )
 
 add-k : tie.Need-add-k Inv-search μ-search Inv-shift μ-shift Inv-each μ-each Inv-rows μ-rows
@@ -756,7 +794,8 @@ rows-again c =
       omega (arith, outer .rows-test .taken),
       l .inv .1,
       λ g same.
-          types-end g (row .expected) (elsOf (row .parents)) (row .els) (l .j) 1 (k * maxList) (imposeAll (rowsDemand g (drop (k + 1) all))) (l .inv .2 g same) ((k + 1) * maxList)
+          types-end g (row .expected) (elsOf (row .parents)) (row .els) (l .j) 1 (k * maxList) (imposeAll (rowsDemand g (drop (k + 1) all)))
+          (l .inv .2 g same) ((k + 1) * maxList)
           (omega (arith, sized .before .before .size3 .ensures .is, test .each-test .left))
           (omega (arith, l .inv .0, sized .before .before .size3 .ensures .most)),
     )

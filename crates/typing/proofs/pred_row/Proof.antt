@@ -14,7 +14,8 @@ returns : tie.Need-returns
 returns c =
     let got = c .before .before .before in
     let app = got .before .args .app in
-    ap {B = RowM} (λ (p : PredM). record { expected = p .arity; parents = elsOf (app .parents); els = elsOf (app .args) }) (got .get .ensures)
+    let row : PredM → RowM = λ p. record { expected = p .arity; parents = elsOf (app .parents); els = elsOf (app .args) } in
+    ap row (got .get .ensures)
 
 pub pred-row-spec : {M : Type 1} → statement M
 pred-row-spec = tie.close (tie.spec get-requires returns)

@@ -15,7 +15,8 @@ returns : tie.Need-returns
 returns c =
     let got = c .before .before .before in
     let app = got .before .args .app in
-    ap {B = RowM} (λ (f : FuncM). record { expected = f .codomain ∷ []; parents = elsOf (app .parents); els = app .result .0 ∷ [] }) (got .get .ensures)
+    let row : FuncM → RowM = λ f. record { expected = f .codomain ∷ []; parents = elsOf (app .parents); els = app .result .0 ∷ [] } in
+    ap row (got .get .ensures)
 
 pub result-row-spec : {M : Type 1} → statement M
 result-row-spec = tie.close (tie.spec get-requires returns)

@@ -45,7 +45,10 @@ loop-holds c =
     let a = c .before .before .before .before .before .before .args in (
       omega arith,
       λ g same.
-          leaves (begins (a .core) (imposeAll (demandedArgs g (typesOf (a .row .expected)) (elsOf (a .row .parents)) (elsOf (a .row .els))))) (omega arith) (λ w. refl),
+          leaves
+          (begins (a .core) (imposeAll (demandedArgs g (typesOf (a .row .expected)) (elsOf (a .row .parents)) (elsOf (a .row .els)))))
+          (omega arith)
+          (λ w. refl),
     )
 
 add-i : tie.Need-add-i Inv-loop μ-loop
@@ -60,8 +63,10 @@ loop-again c =
     let sized = test .before .before in
     let a = sized .before .before .before .before .before .before .args in
     let l = test .before .loop in
-    let past : length (elsOf (a .row .els)) ≤ l .i = omega (arith, sized .before .size2 .ensures .is, c .if1 .taken) in
-    (omega (arith, test .loop-test .taken), λ g same. no-arg g (a .row .expected) (elsOf (a .row .parents)) (a .row .els) (l .i) oneImposed 0 (λ w. w) (l .inv .1 g same) past)
+    let past : length (elsOf (a .row .els)) ≤ l .i = omega (arith, sized .before .size2 .ensures .is, c .if1 .taken) in (
+      omega (arith, test .loop-test .taken),
+      λ g same. no-arg g (a .row .expected) (elsOf (a .row .parents)) (a .row .els) (l .i) oneImposed 0 (λ w. w) (l .inv .1 g same) past,
+    )
 
 mul-el : tie.Need-mul-el Inv-loop μ-loop
 mul-el c = search needs
@@ -102,7 +107,8 @@ loop-again-2 c =
     let hx : l .i < length (elsOf (a .row .els)) = omega (arith, sized .before .size2 .ensures .is, inside .if1 .left) in (
       omega (arith, test .loop-test .taken),
       λ g same.
-          arg-untyped g (a .row .expected) (elsOf (a .row .parents)) (a .row .els) (l .i) oneImposed 0 (λ w. w) (l .inv .1 g same) (record { 0 = 0 }) (record { 0 = 0 }) ht hx
+          arg-untyped g (a .row .expected) (elsOf (a .row .parents)) (a .row .els) (l .i) oneImposed 0 (λ w. w) (l .inv .1 g same)
+          (record { 0 = 0 }) (record { 0 = 0 }) ht hx
           (type-absent g _ (elsOf (a .row .parents)) _ (looked .concrete-type-at .ensures) same (sized .size3 .ensures .is) (c .enum-told .given .1)),
     )
 
@@ -134,7 +140,8 @@ loop-again-3 c =
     let hx : l .i < length (elsOf (a .row .els)) = omega (arith, sized .before .size2 .ensures .is, inside .if1 .left) in (
       omega (arith, test .loop-test .taken),
       λ g same.
-          arg-idle g (a .row .expected) (elsOf (a .row .parents)) (a .row .els) (l .i) oneImposed 0 (λ w. w) (l .inv .1 g same) (record { 0 = 0 }) (record { 0 = 0 }) ht hx
+          arg-idle g (a .row .expected) (elsOf (a .row .parents)) (a .row .els) (l .i) oneImposed 0 (λ w. w) (l .inv .1 g same)
+          (record { 0 = 0 }) (record { 0 = 0 }) ht hx
           (λ m n.
           type-idle g _ (elsOf (a .row .parents)) _ (looked .concrete-type-at .ensures) same (sized .size3 .ensures .is)
           (known .typ .given .1) (led .leading .ensures) (asked .is-idle .ensures (c .if2 .taken) m n)),
@@ -198,7 +205,8 @@ loop-again-4 c =
     let hx : l .i < length (elsOf (a .row .els)) = omega (arith, sized .before .size2 .ensures .is, inside .if1 .left) in (
       omega (arith, test .loop-test .taken),
       λ g same.
-          arg-typed g (a .row .expected) (elsOf (a .row .parents)) (a .row .els) (l .i) oneImposed 0 (λ w. w) (l .inv .1 g same) (record { 0 = 0 }) (record { 0 = 0 }) ht hx (made .impose-concrete-type .result)
+          arg-typed g (a .row .expected) (elsOf (a .row .parents)) (a .row .els) (l .i) oneImposed 0 (λ w. w) (l .inv .1 g same)
+          (record { 0 = 0 }) (record { 0 = 0 }) ht hx (made .impose-concrete-type .result)
           (type-imposed g _ (elsOf (a .row .parents)) _ (looked .concrete-type-at .ensures) same (sized .size3 .ensures .is)
           (made .impose-concrete-type .result) (known .typ .given .1) (led .leading .ensures) (made .impose-concrete-type .ensures)),
     )
