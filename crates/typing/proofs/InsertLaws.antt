@@ -1,19 +1,17 @@
 -- Laws of a fact that is imposed where no element is marked: it is searched in the table of facts, and put there where it is not found.
 use mathlib.Core.Path.{_≡_, refl, sym, ap, _∙_}
 use mathlib.Core.Bool.{Bool, true, false}
-use mathlib.Core.List.{List, [], _∷_, _++_, map}
+use mathlib.Core.List.{List, _∷_, _++_, map}
 use Prim.Native.Nat.{ℕ, _+_, _≤_, _<_}
 use native.Mathlib.Omega.{arith}
 use lib.ListN.{length, take, drop, getD, set}
 use Rattle.ids.specs.declared.Ordering.the-variants.{Less, Equal, Greater}
-use Rattle.ids.specs.declared.Place.the-variants.{Before, At}
 use Rattle.ids.specs.Table.{Grown, positionFrom, present, placed}
 use Rattle.ids.proofs.Views.{length-view, view-next, view-nil, take-same, view-placed}
 use Rattle.ids.proofs.Shift.{Shifted, shift-done}
 use Rattle.ids.proofs.Tables.{on, at-present, before-spot, insert-full, insert-new}
 use Rattle.unification.specs.Roots.{linksOf}
 use Rattle.semantics.specs.Structure.{Fact, maxFacts, compareFact, canonicalFact}
-use Rattle.semantics.specs.Types as types
 use Rattle.semantics.specs.Types.{insertFact, insertCanonical, concreteTypesOf, impose}
 use Rattle.facts.specs.declared.Fact as code
 use Rattle.facts.specs.declared.Facts.{Facts}
@@ -22,7 +20,7 @@ use Rattle.merging.specs.declared.Core.{Core}
 use Rattle.merging.specs.View.{coreOf, metOf, Toward}
 use Rattle.merging.proofs.Laws.{does}
 use Rattle.imposing.proofs.Laws.{refused, grown}
-use Rattle.imposing.proofs.Nothing.{all-still, imposes-nothing}
+use Rattle.imposing.proofs.Nothing.{never, all-still, imposes-nothing}
 use Rattle.typing.specs.Rows.{NoneMarked, fullMet}
 
 -- a core with another table of facts and another number met
@@ -36,14 +34,11 @@ pub record Searching (x : Fact) (t : Facts) (at end : ℕ) (there : Bool) : Type
 
 pub search-start : (x : Fact) (t : Facts) (n : ℕ) → n ≡ length (factsOf t) → Searching x t 0 n false
 search-start x t n e = record {
-  found = λ h. no h;
+  found = λ h. never (sym h);
   left = λ h.
       ap (λ (l : List code.Fact). positionFrom compareFact x 0 (map factOf l))
       (take-same n (t .len) (t .items) (omega (arith, e, length-view factOf (t .len) (t .items))));
 }
-  where
-    no : {A : Type 0} → false ≡ true → A
-    no h = let z : _≡_ {A = ℕ} 0 1 = cc h in absurd (omega arith)
 
 module _ (x : Fact) (t : Facts) (at end : ℕ) {there : Bool} (so-far : Searching x t at end there) where
   module _ (in-table : end ≤ length (t .items)) (more : at < end) where
@@ -68,16 +63,13 @@ module _ (x : Fact) (t : Facts) (at end : ℕ) {there : Bool} (so-far : Searchin
     unfolding positionFrom
     search-found e = record {
       found = λ h. go there (so-far .found) (λ no. at-present compareFact x at (factsOf t) (sym (entry no) ∙ rw (e, positionFrom)));
-      left = λ h. yes h;
+      left = λ h. never h;
     }
       where
         go : (b : Bool) → (b ≡ true → present compareFact x (factsOf t) ≡ true) → (b ≡ false → present compareFact x (factsOf t) ≡ true)
             → present compareFact x (factsOf t) ≡ true
         go true y n = y refl
         go false y n = n refl
-
-        yes : {A : Type 0} → true ≡ false → A
-        yes h = let z : _≡_ {A = ℕ} 0 1 = cc h in absurd (omega arith)
 
     -- it is larger
     pub search-before : compareFact (factOf (getD (t .items) at noFact)) x ≡ Greater → Searching x t at at there

@@ -1,7 +1,7 @@
 -- `impose_demands` meets its contract.
 use mathlib.Core.Path.{_≡_, refl, ap}
 use mathlib.Core.List.{List}
-use Prim.Native.Nat.{_+_, _*_, _≤_, _<_, _-_}
+use Prim.Native.Nat.{_+_, _*_, _≤_, _-_}
 use native.Mathlib.Omega.{arith}
 use lib.ListN.{drop}
 use Rattle.signature.specs.Model.{Sig, viewTypes, viewFuncs, viewPreds, sigOf}
