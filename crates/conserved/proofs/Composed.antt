@@ -5,7 +5,7 @@ use mathlib.Core.Bool.{true, false}
 use Rattle.unification.specs.Roots.{linksOf}
 use Rattle.semantics.specs.Close.{Closed}
 use Rattle.semantics.specs.Calls as calls
-use Rattle.semantics.specs.Calls.{Call, Answer, answerOf, number, says, done, closed, conflicting, found, typed, els, leading, onSig, onStructure, onNeither, Step, step}
+use Rattle.semantics.specs.Calls.{Call, Answer, number, says, done, closed, conflicting, found, typed, els, leading, onSig, onStructure, onNeither, Step, step}
 use Rattle.semantics.proofs.Finds.{step-root, step-root-const}
 use Rattle.history.specs.Book.{Book, blank, History, noted, next, run, history, begin, taken, fed, isAccepted, mergesOf, someMark, Conserved, Conservation}
 use Rattle.history.proofs.Histories.{history-goes-on}

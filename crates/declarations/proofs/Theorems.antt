@@ -1,10 +1,9 @@
 -- Theorems about the calls of kinds 1 to 5, for a reader of the signature's `specs/Calls.antt`.
-use Prim.Native.Nat.{ℕ, _+_, _<_}
-use mathlib.Core.Path.{_≡_, ap, _∙_}
+use Prim.Native.Nat.{ℕ, _+_}
+use mathlib.Core.Path.{_≡_}
 use mathlib.Core.Bool.{Bool}
-use mathlib.Core.List.{List, [], _∷_, _++_, List·Memᴰ}
-use lib.ListN.{length, getD, length-append, List·getD-append}
-use lib.Seq.{getD-append-seam}
+use mathlib.Core.List.{[], _∷_, _++_, List·Memᴰ}
+use lib.ListN.{length}
 use Rattle.ids.specs.Answers.{accepted, refused, malformed, tooLate, undeclared, wrongKind, givenAgain, noRoom}
 use Rattle.ids.proofs.Judging.{refused-left, refused-number, accepted-left}
 use Rattle.signature.specs.Model.{Sig, TypeM, PredM, FuncM, ModelM, MorAppM, with-types, with-preds, with-funcs, with-models, with-mor-apps}
@@ -97,14 +96,3 @@ module _ (started : Bool) (g : Sig) (m : MorAppM) (n : ℕ) where
   mor-app-accepted h =
       let e = accepted-left _ _ _ _ n h in
       (e .0, λ k. e .1 k .mor-apps, λ k. e .1 k .types, λ k. e .1 k .preds, λ k. e .1 k .funcs, λ k. e .1 k .models)
-
--- A table to which one entry was appended: the earlier entries are as they were, and the new one is the last.
-module _ {B : Type 0} (ys zs : List B) (y d : B) (more : zs ≡ ys ++ (y ∷ [])) where
-  pub earlier : (i : ℕ) → i < length ys → getD zs i d ≡ getD ys i d
-  earlier i h = ap (λ (l : List B). getD l i d) more ∙ List·getD-append ys (y ∷ []) d i h
-
-  pub newest : getD zs (length ys) d ≡ y
-  newest = ap (λ (l : List B). getD l (length ys) d) more ∙ getD-append-seam ys y [] d
-
-  pub one-more : length zs ≡ length ys + 1
-  one-more = ap length more ∙ length-append ys (y ∷ [])

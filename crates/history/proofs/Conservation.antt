@@ -1,14 +1,14 @@
 -- The conservation rule (demand 3).
-use mathlib.Core.Path.{_≡_, sym, ap, _∙_}
-use mathlib.Core.List.{List, [], _∷_, _++_, append-assoc}
+use mathlib.Core.Path.{sym}
+use mathlib.Core.List.{[], _∷_, _++_}
 use native.Mathlib.Omega.{arith}
 use Rattle.unification.specs.Roots.{rootOf}
 use Rattle.unification.proofs.Laws.{root-le, root-root}
 use Rattle.semantics.specs.Close.{Closed, coreOf}
-use Rattle.semantics.specs.Calls.{Call, close}
-use Rattle.history.specs.Book.{History, run, history, Conserved, Conservation}
+use Rattle.semantics.specs.Calls.{close}
+use Rattle.history.specs.Book.{History, history, Conserved, Conservation}
 use Rattle.history.proofs.Classes.{shared-if, only-shared, root-classes}
-use Rattle.history.proofs.Histories.{Returned, returned, history-goes-on}
+use Rattle.history.proofs.Histories.{Returned, returned}
 
 -- where a close has returned, the classes are those of the roots
 returned-conserves : (h : History) (c : Closed) → Returned h c → Conserved (h .book) (h .machine .structure .links) c
@@ -35,7 +35,3 @@ returned-conserves h c r =
 pub conservation : Conservation
 unfolding Conservation
 conservation before c accepted unmarked = returned-conserves (history (before ++ (close ∷ []))) c (returned before c accepted unmarked)
-
--- A list that goes on after that close has come through there.
-pub goes-through : (before after : List Call) → history (before ++ (close ∷ after)) ≡ run after (history (before ++ (close ∷ [])))
-goes-through before after = ap history (sym (append-assoc before (close ∷ []) after)) ∙ history-goes-on (before ++ (close ∷ [])) after

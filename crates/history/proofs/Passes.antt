@@ -64,8 +64,6 @@ pub record Resting (g : Sig) (preds : List PredApp) (t : Turn) : Type 0 where
 pub record Lawful (p : Pass) : Type 1 where
   pub passed : (n total : ℕ) (g : Sig) (preds : List PredApp) (t : Turn) → Ready n total (t .core) (t .apps)
       → Passed n total (t .core) (t .apps) (p g preds t .core) (p g preds t .apps)
-  -- work that was reported stays so
-  pub reported : (g : Sig) (preds : List PredApp) (t : Turn) → p g preds t .worked ≡ false → t .worked ≡ false
   -- where nothing is left to do it does nothing, and says so
   pub idle : (g : Sig) (preds : List PredApp) (t : Turn) → Resting g preds t → p g preds t ≡ t
 
@@ -142,7 +140,6 @@ pub drain-lawful : Lawful drainPass
 unfolding drainPass drained
 drain-lawful = record {
   passed = λ n total g preds t r. drain-passed n total t r;
-  reported = λ g preds t. or-first (t .worked) _;
   idle = λ g preds t r.
       let w = t .core in
       let e : drain w ≡ w = drain-none w (r .pairs) ∙ (λ i. types.with-pairs (sym (r .pairs) i) w) in
@@ -186,7 +183,6 @@ pub functionality-lawful : Lawful functionalityPass
 unfolding functionalityPass rewrote
 functionality-lawful = record {
   passed = λ n total g preds t r. functionality-passed t n total r;
-  reported = λ g preds t. or-first (t .worked) _;
   idle = λ g preds t r.
       ap (λ (x : Rewritten). rewrote x t) (settled-same (t .core .links) (t .core .pairs) false (t .apps) (r .sorted) (r .canon))
       ∙ reports-none t (t .core) (t .apps) false refl refl refl;
@@ -241,7 +237,6 @@ unfolding typingPass typed
 typing-lawful = record {
   passed = λ n total g preds t r.
       grown-passed n total (t .core) (imposed t preds g) (t .apps) (unmarked-grown (demands g (t .apps) preds) (t .core) (r .plain)) r;
-  reported = λ g preds t. or-first (t .worked) _;
   idle = λ g preds t r.
       let w = imposed t preds g in reports-none t w (t .apps) (grew (t .core) w) (r .typed) refl (grew-none (t .core) w (r .typed));
 }

@@ -3,7 +3,7 @@ use mathlib.Core.Path.{_≡_, refl}
 use mathlib.Core.Bool.{Bool, true, false, not, _&&_, _||_}
 use mathlib.Core.List.{List, [], _∷_}
 use Prim.Native.Nat.{ℕ}
-use Rattle.ids.specs.Answers.{Cause, decided, accepted, refused, Outcome, outcome, _if_}
+use Rattle.ids.specs.Answers.{Cause, decided, accepted, refused, outcome, _if_}
 
 module _ {R : Type 0} (refuse : ℕ → R) (done : R) (n : ℕ) (b : Bool) (cs : List Cause) where
   -- a cause that applies refuses
@@ -55,10 +55,6 @@ and-both h k = rw (h, k)
 
 pub or-left : {a : Bool} (b : Bool) → a ≡ true → (a || b) ≡ true
 or-left b h = rw h
-
-pub or-right : (a : Bool) {b : Bool} → b ≡ true → (a || b) ≡ true
-or-right true h = refl
-or-right false h = h
 
 pub or-neither : {a b : Bool} → a ≡ false → b ≡ false → (a || b) ≡ false
 or-neither h k = rw (h, k)

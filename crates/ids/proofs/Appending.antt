@@ -1,16 +1,16 @@
 -- Laws of entries that are rewritten into a sorted table: an entry that is greater than the last goes to the end.
 use mathlib.Core.Path.{_≡_, refl, sym, ap, _∙_}
 use mathlib.Core.Bool.{Bool, true, false}
-use mathlib.Core.List.{List, [], _∷_, _++_, map}
-use mathlib.Core.Option.{Option, some, none}
-use Prim.Native.Nat.{ℕ, suc, _+_, _-_, _≤_, _<_}
+use mathlib.Core.List.{List, [], _∷_, map}
+use mathlib.Core.Option.{none}
+use Prim.Native.Nat.{ℕ, _+_, _-_, _≤_, _<_}
 use native.Mathlib.Omega.{arith}
 use lib.ListN.{length, take, drop, getD, set}
 use lib.Dec.{ltb, eqb}
 use borrow.Author.Tests.{lt-ltb, le-ltb, ltb-true, eqb-true, eq-eqb, ne-eqb}
 use Rattle.ids.specs.declared.Ordering.{Ordering}
 use Rattle.ids.specs.declared.Ordering.the-variants.{Less, Equal, Greater}
-use Rattle.ids.specs.Table.{Sized, Grown, placed, lookupOf, insertOf, pushOf, goesLast, rewriteInto}
+use Rattle.ids.specs.Table.{Sized, Grown, placed, lookupOf, insertOf, goesLast, rewriteInto}
 use Rattle.ids.proofs.Views.{view-at}
 use Rattle.ids.proofs.Sorted.{All, Sorted, Ordered, no-test, placed-length, placed-last, placed-sorted}
 use Rattle.ids.proofs.Tables.{push-room, insert-room, rewrite-next, rewrite-done}

@@ -1,8 +1,8 @@
 -- Laws of tables that are strictly sorted, over any type of entries and any order.
 use mathlib.Core.Path.{_≡_, refl, sym, ap, _∙_}
-use mathlib.Core.Logic.{_≢_, inl, inr}
+use mathlib.Core.Logic.{inl, inr}
 use mathlib.Core.Bool.{Bool, true, false}
-use mathlib.Core.List.{List, [], _∷_, _++_, map, append-assoc, append-nil, List·Memᴰ, List·Memᴰ·head, List·Memᴰ·tail, List·Memᴰ·not-nil, List·Memᴰ·cases-cons}
+use mathlib.Core.List.{List, [], _∷_, _++_, map, List·Memᴰ, List·Memᴰ·head, List·Memᴰ·tail, List·Memᴰ·not-nil, List·Memᴰ·cases-cons}
 use mathlib.Core.Option.{Option, some, none}
 use Prim.Native.Nat.{ℕ, suc, _+_, _≤_, _<_}
 use native.Mathlib.Omega.{arith}
@@ -78,9 +78,6 @@ no-test p q = let z : _≡_ {A = ℕ} 0 1 = cc in absurd (omega arith)
 module _ {A : Type 0} {cmp : A → A → Ordering} (o : Ordered cmp) where
   pub less-swap : (x y : A) → cmp y x ≡ Greater → cmp x y ≡ Less
   less-swap x y e = o .flip y x ∙ ap swapped e
-
-  pub greater-swap : (x y : A) → cmp x y ≡ Less → cmp y x ≡ Greater
-  greater-swap x y e = o .flip x y ∙ ap swapped e
 
   pub equal-swap : (x y : A) → cmp x y ≡ Equal → cmp y x ≡ Equal
   equal-swap x y e = o .flip x y ∙ ap swapped e
@@ -182,17 +179,6 @@ module _ {A : Type 0} (cmp : A → A → Ordering) (x : A) where
       In : A → Type 0
       In z = List·Memᴰ z (placed cmp x l)
 
-  -- no entry is equal to x: x is absent
-  pub absent-if : (l : List A) → All (λ y. cmp y x ≢ Equal) l → present cmp x l ≡ false
-  unfolding present
-  absent-if [] h = refl
-  absent-if (y ∷ ys) h = go (cmp y x) (h .0) (absent-if ys (h .1))
-    where
-      go : (o : Ordering) → o ≢ Equal → present cmp x ys ≡ false → present-by o (present cmp x ys) ≡ false
-      go Less n r = r
-      go Equal n r = absurd (n refl)
-      go Greater n r = refl
-
   -- what is looked up is an entry that is equal to x
   pub lookup-sound : {y : A} (l : List A) → lookupOf cmp x l ≡ some y → List·Memᴰ y l × (cmp y x ≡ Equal)
   unfolding lookupOf
@@ -275,10 +261,6 @@ module _ {A : Type 0} {cmp : A → A → Ordering} (o : Ordered cmp) (x : A) whe
         rw (l, lookupOf) (lookup-if y zs (s .1) k e)
   ]
 
-  -- x is absent: no entry is equal to it
-  pub absent-none : (l : List A) → Sorted cmp l → present cmp x l ≡ false → All (λ y. cmp y x ≢ Equal) l
-  absent-none l s e = all-from (λ y. cmp y x ≢ Equal) l (λ y m q. no-test (present-if y l s m q) e)
-
 module _ {A : Type 0} {cmp : A → A → Ordering} (o : Ordered cmp) where
   pub present-kept : (x y : A) (l : List A) → Sorted cmp l → present cmp y l ≡ true → present cmp y (placed cmp x l) ≡ true
   present-kept x y l s e =
@@ -297,11 +279,6 @@ module _ {A : Type 0} (cmp : A → A → Ordering) (f : A → A) where
   unfolding rewriteInto
   rewrite-length [] done = omega arith
   rewrite-length (x ∷ xs) done = omega (arith, rewrite-length xs (placed cmp (f x) done), placed-length cmp (f x) done)
-
-  pub rewrite-keeps : {y : A} (l done : List A) → List·Memᴰ y done → List·Memᴰ y (rewriteInto cmp f l done)
-  unfolding rewriteInto
-  rewrite-keeps [] done m = m
-  rewrite-keeps (x ∷ xs) done m = rewrite-keeps xs (placed cmp (f x) done) (placed-keeps cmp (f x) done m)
 
 module _ {A : Type 0} {cmp : A → A → Ordering} (o : Ordered cmp) (f : A → A) where
   pub rewrite-sorted : (l done : List A) → Sorted cmp done → Sorted cmp (rewriteInto cmp f l done)
@@ -322,24 +299,6 @@ module _ {A : Type 0} {cmp : A → A → Ordering} (o : Ordered cmp) (f : A → 
     | inl q ↦ rewrite-kept (f y) xs (placed cmp (f x) done) (placed-sorted o (f x) done s) (rw q (placed-there o (f x) done))
     | inr k ↦ rewrite-there xs (placed cmp (f x) done) (placed-sorted o (f x) done s) k
   ]
-
-module _ {A : Type 0} (cmp : A → A → Ordering) where
-  -- what stands before x is smaller
-  smaller : (k : List A) (x : A) (l : List A) → Sorted cmp (k ++ (x ∷ l)) → All (λ y. cmp y x ≡ Less) k
-  smaller [] x l s = tt
-  smaller (y ∷ ys) x l s = (all-right (λ z. cmp y z ≡ Less) ys (x ∷ l) (s .0) .0, smaller ys x l (s .1))
-
-  module _ (f : A → A) where
-    same-from : (l done : List A) → Sorted cmp (done ++ l) → All (λ x. f x ≡ x) l → rewriteInto cmp f l done ≡ done ++ l
-    unfolding rewriteInto
-    same-from [] done s h = sym (append-nil done)
-    same-from (x ∷ xs) done s h =
-        let at : placed cmp (f x) done ≡ done ++ (x ∷ []) = rw (h .0) (placed-last cmp x done (smaller done x xs s)) in
-        rw at (same-from xs (done ++ (x ∷ [])) (rw append-assoc s) (h .1) ∙ append-assoc done (x ∷ []) xs)
-
-    -- a function that leaves every entry alone leaves a sorted list alone
-    pub rewrite-same : (l : List A) → Sorted cmp l → All (λ x. f x ≡ x) l → rewriteInto cmp f l [] ≡ l
-    rewrite-same l s h = same-from l [] s h
 
 -- Keys.
 

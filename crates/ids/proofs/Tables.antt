@@ -2,7 +2,7 @@
 use mathlib.Core.Path.{_≡_, refl, sym, ap, _∙_}
 use mathlib.Core.Bool.{Bool, true, false, not, _&&_}
 use mathlib.Core.List.{List, [], _∷_, _++_, map}
-use Prim.Native.Nat.{ℕ, zero, suc, _+_, _≤_, _<_, zero-le, suc-le-suc}
+use Prim.Native.Nat.{ℕ, suc, _+_, _≤_, _<_, zero-le, suc-le-suc}
 use native.Mathlib.Numerals.{add-one}
 use native.Mathlib.Omega.{arith}
 use native.Mathlib.Nat.{add-zero, zero-add, add-suc, suc-add}
@@ -182,10 +182,6 @@ module _ {A : Type 0} (cmp : A → A → Ordering) (x : A) where
         go false e true k =
             let none : insertOf cmp x cap ys .full ≡ true = insert-needs ∙ rw (e, k) in
             let z : _≡_ {A = ℕ} 0 1 = cc in absurd (omega arith)
-
-    -- an entry that is not there
-    pub insert-absent : present cmp x ys ≡ false → insertOf cmp x cap ys .full ≡ leb cap (length ys)
-    insert-absent h = insert-needs ∙ rw h
 
     pub insert-room : length ys < cap → insertOf cmp x cap ys .items ≡ placed cmp x ys
     insert-room h = ap (λ (g : Grown A). g .items) (insert-made (insert-needs ∙ and-right (not (present cmp x ys)) (lt-leb cap (length ys) h)))

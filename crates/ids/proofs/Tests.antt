@@ -1,5 +1,5 @@
 -- Tests that calls answer, and how they came out.
-use mathlib.Core.Path.{_≡_, refl, sym, ap, _∙_}
+use mathlib.Core.Path.{_≡_, refl, sym, _∙_}
 use mathlib.Core.Bool.{Bool, true, false, not, _&&_, _||_}
 use borrow.Author.Tests.{not-true, not-false}
 
@@ -7,9 +7,6 @@ use borrow.Author.Tests.{not-true, not-false}
 
 pub told : {r a b : Bool} → r ≡ a → r ≡ b → a ≡ b
 told e h = sym e ∙ h
-
-pub denied : {r a b : Bool} → r ≡ a → not r ≡ b → not a ≡ b
-denied e h = ap not (sym e) ∙ h
 
 pub holds : {r a : Bool} → r ≡ a → not r ≡ false → a ≡ true
 holds e h = sym e ∙ not-false _ h

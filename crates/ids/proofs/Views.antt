@@ -1,8 +1,8 @@
 -- Laws of a table's view, `map f (take n xs)` of an array xs with n entries in use, over any type of entries.
 use mathlib.Core.Path.{_≡_, refl, sym, ap, _∙_}
 use mathlib.Core.List.{List, [], _∷_, _++_, map, map-append}
-use Prim.Native.Nat.{ℕ, zero, suc, _+_, _≤_, _<_, zero-le, min}
-use native.Mathlib.Nat.{le-trans, le-of-suc-le-suc, not-suc-le-zero, min-le-left}
+use Prim.Native.Nat.{ℕ, zero, suc, _+_, _≤_, _<_, min}
+use native.Mathlib.Nat.{le-of-suc-le-suc, not-suc-le-zero}
 use native.Mathlib.Numerals.{add-one}
 use native.Mathlib.Omega.{arith}
 use lib.Seq.{take-take, take-suc, take-suc-set, getD-take}
@@ -29,9 +29,6 @@ module _ {A : Type 0} {B : Type 0} (f : A → B) where
   -- the view from past the last entry in use
   pub view-nil : (n : ℕ) (xs : List A) (i : ℕ) → n ≤ i → drop i (map f (take n xs)) ≡ []
   view-nil n xs i h = drop-of-length-le (map f (take n xs)) {i = i} (omega (arith, length-view n xs))
-
-  pub view-end : (n : ℕ) (xs : List A) (i : ℕ) → length xs ≤ i → drop i (map f (take n xs)) ≡ []
-  view-end n xs i h = drop-of-length-le (map f (take n xs)) {i = i} (omega (arith, length-view n xs))
 
   -- the view from its end
   pub view-done : (n : ℕ) (xs : List A) (i : ℕ) → length (map f (take n xs)) ≤ i → drop i (map f (take n xs)) ≡ []

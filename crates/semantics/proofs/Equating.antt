@@ -5,7 +5,7 @@ use mathlib.Core.List.{List}
 use Prim.Native.Nat.{ℕ, _<_}
 use lib.ListN.{length}
 use lib.Dec.{eqb}
-use Rattle.unification.specs.Roots.{rootOf, shortOf, Formed}
+use Rattle.unification.specs.Roots.{rootOf, Formed}
 use Rattle.unification.proofs.Theorems.{short-root}
 use Rattle.semantics.specs.Structure.{Pair}
 use Rattle.semantics.specs.Calls.{equate}

@@ -166,16 +166,6 @@ fact-same f g e =
     let c = lex-equal (f .parents) (g .parents) (k .1) in
     λ i. record { el = a i; typ = b i; parents = c i }
 
-pub pred-app-same : (x y : PredApp) → comparePredApp x y ≡ Equal → x ≡ y
-unfolding comparePredApp
-pred-app-same x y e =
-    let h = then-equal (orderOf (x .pred) (y .pred)) (thenOf (lexOf (x .parents) (y .parents)) (lexOf (x .args) (y .args))) e in
-    let k = then-equal (lexOf (x .parents) (y .parents)) (lexOf (x .args) (y .args)) (h .1) in
-    let a = order-equal (x .pred) (y .pred) (h .0) in
-    let b = lex-equal (x .parents) (y .parents) (k .0) in
-    let c = lex-equal (x .args) (y .args) (k .1) in
-    λ i. record { pred = a i; parents = b i; args = c i }
-
 pub record SameKey (x y : FuncApp) : Type 0 where
   pub func : x .func ≡ y .func
   pub parents : x .parents ≡ y .parents
@@ -197,11 +187,3 @@ unfolding compareFuncApp
 same-func-app x y s =
     rw (s .func, s .parents, s .args)
     (rw (order-ordered .self (y .func), lex-ordered .self (y .parents), lex-ordered .self (y .args)))
-
-pub var-same : (v w : Var) → compareVar v w ≡ Equal → v .key ≡ w .key
-unfolding compareVar
-var-same v w e = order-equal (v .key) (w .key) e
-
-pub ambient-same : (a b : Ambient) → compareAmbient a b ≡ Equal → a .typ ≡ b .typ
-unfolding compareAmbient
-ambient-same a b e = order-equal (a .typ) (b .typ) e

@@ -162,11 +162,3 @@ module _ (g : Sig) (v : ValidSig g) (n : ℕ) (preds : List PredApp) (pv : All (
     pub rounds-turned : Turned (countsAt g n) (rounds-end .turn)
     unfolding rounds-end
     rounds-turned = last-turned fuel (round g preds xs w) begin
-
-  -- the rounds from a round on, as a loop runs them: with the same fuel after each
-  pub rounds-next : n ≤ maxEls → (t : Turn) → Turned (countsAt g n) t
-      → roundsFrom fuel g preds t
-      ≡ elim (goesOn t) [ true ↦ oneMore (roundsFrom fuel g preds (round g preds (t .apps) (t .core))) | false ↦ lastRound t ]
-  rounds-next few t h =
-      let l = measure-fuel (countsAt g n) t few h in
-      rounds-enough fuel (suc fuel) t h (λ e. l) (λ e. omega (arith, l)) ∙ (unfold roundsFrom in refl)
