@@ -13,11 +13,17 @@ use Rattle.semantics.specs.Close.{Turn, round, Rounds, isNone, lastRound
 use Rattle.semantics.proofs.Queues.{Room, still-room, refineParents-queue, refineAll-queue, imposeAll-queue, fresh, pairs-room}
 use Rattle.semantics.proofs.Parts.{asked, asked-room, round-parts, typed-room, rewritten-few}
 
--- while a fact is imposed: after some of the facts of its element, and after some of the parents of the next one, a pair can be queued
-pub imposing-fits : (w : Core) (f : Fact) (gs : List Fact) (ps qs : List ℕ) → Room w → Room (refineParents ps qs (refineAll gs f w))
-imposing-fits w f gs ps qs r =
-    let v = refineAll gs f w in
-    still-room v (refineParents ps qs v) (refineParents-queue ps qs v) (still-room w v (refineAll-queue gs f w) r)
+-- While facts are imposed on w: after some of them, after some of the facts of the next one's element, and after some of the parents of
+-- the fact after those, a pair can be queued.
+abbrev pub Imposes : Core → Type 0
+Imposes w = (fs : List Fact) (f : Fact) (gs : List Fact) (ps qs : List ℕ) → Room (refineParents ps qs (refineAll gs f (imposeAll fs w)))
+
+imposes : (w : Core) → Room w → Imposes w
+imposes w r fs f gs ps qs =
+    let u = imposeAll fs w in
+    let v = refineAll gs f u in
+    still-room v (refineParents ps qs v) (refineParents-queue ps qs v)
+    (still-room u v (refineAll-queue gs f u) (still-room w u (imposeAll-queue fs w) r))
 
 module _ (g : Sig) (s : Structure) where
   -- what k rounds leave, were no round the last
@@ -60,26 +66,24 @@ module _ (g : Sig) (s : Structure) where
       pub drains : length (after k .core .pairs) ≤ maxPairs
       -- after some of the applications were rewritten a pair can be queued
       pub enters : (xs ys : List FuncApp) → xs ++ ys ≡ after k .apps → length (enterAll (drain (after k .core) .links) xs fresh .pairs) < maxPairs
-      -- after some of the demanded facts were imposed a pair can be queued
-      pub types : (fs : List Fact) → Room (imposeAll fs (asked (after k .apps) (after k .core)))
+      -- while facts are demanded a pair can be queued
+      pub types : Imposes (asked (after k .apps) (after k .core))
 
     pub rounds-fit : (k : ℕ) → Fits k
     rounds-fit k = record {
       drains = drains k;
       enters = λ xs ys e. pairs-room (drain (after k .core) .links) xs (omega (arith, length-append xs ys, ap length e, apps-most k));
-      types = λ fs.
-          let w = asked (after k .apps) (after k .core) in
-          still-room w (imposeAll fs w) (imposeAll-queue fs w) (asked-room (after k .apps) (after k .core) (apps-most k));
+      types = imposes (asked (after k .apps) (after k .core)) (asked-room (after k .apps) (after k .core) (apps-most k));
     }
       where
         drains : (k : ℕ) → length (after k .core .pairs) ≤ maxPairs
         drains zero = (unfold after coreOf in start)
         drains (suc k) = omega (arith, after-room k)
 
-    -- after some of the impositions were imposed a pair can be queued
-    pub impositions-fit : (fs : List Fact) → Room (imposeAll fs (rounds g (s .pred-apps) (s .func-apps) (coreOf s) .core))
+    -- while the impositions are imposed a pair can be queued
+    pub impositions-fit : Imposes (rounds g (s .pred-apps) (s .func-apps) (coreOf s) .core)
     unfolding rounds after
-    impositions-fit fs =
-        let w = rounds g (s .pred-apps) (s .func-apps) (coreOf s) .core in
+    impositions-fit =
         let r = some-rounds fuel 0 in
-        still-room w (imposeAll fs w) (imposeAll-queue fs w) (omega (arith, ap (λ (v : Core). length (v .pairs)) (r .1), after-room (r .0)))
+        imposes (rounds g (s .pred-apps) (s .func-apps) (coreOf s) .core)
+        (omega (arith, ap (λ (v : Core). length (v .pairs)) (r .1), after-room (r .0)))

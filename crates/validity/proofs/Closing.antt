@@ -18,7 +18,7 @@ use Rattle.semantics.specs.Close.{Turn, Rounds, Closed, round, rounds, roundsFr
 use Rattle.semantics.specs.Valid.{Counts, countsOf, FactValid, PredAppValid, VarValid, FuncAppValid, OnRoot, Queue, Table, ValidStructure, Valid}
 use Rattle.semantics.proofs.Orders.{fact-ordered, pred-app-ordered}
 use Rattle.semantics.proofs.Queues.{Room}
-use Rattle.semantics.proofs.Pairs.{Fits, rounds-fit, impositions-fit}
+use Rattle.semantics.proofs.Pairs.{Imposes, Fits, rounds-fit, impositions-fit}
 use Rattle.validity.proofs.Drain.{Whole}
 use Rattle.validity.proofs.Imposing.{Imposed, imposeAll-went, roots-listed, canonical-valid, canonical-rooted}
 use Rattle.validity.proofs.Turns.{Turned}
@@ -221,10 +221,7 @@ module _ (g : Sig) (s : Structure) (v : Valid g s) where
   pub close-valid : ValidStructure c (close g s .left)
   close-valid = elim (to-end .went .whole .met) [ inl q ↦ rw (accepts q) left-valid | inr q ↦ rw (refuses q) vs ]
 
-  -- at every moment of the close at most `maxPairs` pairs wait: in each round ..
-  pub close-fits : (k : ℕ) → Fits g s (vs .func-apps .most) (vs .pairs .most) k
-  close-fits = rounds-fit g s (vs .func-apps .most) (vs .pairs .most)
-
-  -- .. and while the impositions are imposed, also those of a close that 11 refuses
-  pub close-impositions-fit : (fs : List Fact) → Room (imposeAll fs (rounds g (s .pred-apps) (s .func-apps) (coreOf s) .core))
-  close-impositions-fit = impositions-fit g s (vs .func-apps .most) (vs .pairs .most)
+  -- at every moment of the close at most `maxPairs` pairs wait: in each round, and while the impositions are imposed, also those of a close
+  -- that 11 refuses
+  pub close-fits : ((k : ℕ) → Fits g s (vs .func-apps .most) (vs .pairs .most) k) × Imposes (rounds g (s .pred-apps) (s .func-apps) (coreOf s) .core)
+  close-fits = (rounds-fit g s (vs .func-apps .most) (vs .pairs .most), impositions-fit g s (vs .func-apps .most) (vs .pairs .most))
