@@ -1,6 +1,6 @@
 -- A drain: what it does to counts, to partitions and to marks.
 use mathlib.Core.Path.{_≡_, refl, sym, subst, ap, _∙_}
-use mathlib.Core.Logic.{_≢_, _⊎_, inl, inr, ⊎-elim}
+use mathlib.Core.Logic.{_≢_, _⊎_, ⊎-elim}
 use mathlib.Core.Bool.{Bool, true, false, _&&_}
 use mathlib.Core.List.{List, [], _∷_}
 use Prim.Native.Nat.{ℕ, _+_, _≤_, _<_, min, max}
@@ -17,16 +17,13 @@ use Rattle.unification.proofs.Laws.{root-le, root-root, joined, joined-at, join
 use Rattle.unification.proofs.Theorems.{merged-formed}
 use Rattle.semantics.specs.Structure.{Pair}
 use Rattle.semantics.specs.Types.{Core, with-pairs, marked, mergedMarks, merge, join, joinRoots, drain, drainPairs}
+use Rattle.validity.proofs.Drain.{ordered}
 use Rattle.history.specs.Book.{Partition}
 use Rattle.history.proofs.Relation.{Rooted}
 use Rattle.history.proofs.Counts.{Two, merged-length, merged-root, two-merged}
 use Rattle.semantics.proofs.Counts.{roots}
 
 -- Merges are counted, and a drain that counts none does nothing but empty the queue. This holds of every core.
-
--- two roots that differ, named by the smaller and the larger
-ordered : (a b : ℕ) → a ≢ b → ((min a b ≡ a) × (max a b ≡ b) × (a < b)) ⊎ ((min a b ≡ b) × (max a b ≡ a) × (b < a))
-ordered a b h = ⊎-elim (λ (l : a < b). inl (omega arith)) (λ (l : b ≤ a). inr (omega arith)) (less-or a b)
 
 pub record Counted (w v : Core) : Type 0 where
   pub grew : w .merges ≤ v .merges

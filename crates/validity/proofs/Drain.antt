@@ -131,7 +131,7 @@ module _ (c : Counts) (keep drop : ℕ) (w : Core) (h : Whole c w) (low : keep <
 
 -- A pair drained.
 
-ordered : (a b : ℕ) → a ≢ b → ((min a b ≡ a) × (max a b ≡ b) × (a < b)) ⊎ ((min a b ≡ b) × (max a b ≡ a) × (b < a))
+pub ordered : (a b : ℕ) → a ≢ b → ((min a b ≡ a) × (max a b ≡ b) × (a < b)) ⊎ ((min a b ≡ b) × (max a b ≡ a) × (b < a))
 ordered a b n = elim (less-or a b) [ inl l ↦ inl (omega arith) | inr l ↦ inr (omega arith) ]
 
 module _ (c : Counts) where
