@@ -12,7 +12,7 @@ pub mod Classes
 pub mod Histories
 pub mod Conservation
 pub mod Images
-pub mod Peace
-pub mod Quiet
+pub mod Unjoined
+pub mod SecondClose
 pub mod Unchanged
 pub mod Worked

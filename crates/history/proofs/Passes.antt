@@ -54,7 +54,7 @@ pub record Passed (n total : ℕ) (w : Core) (xs : List FuncApp) (v : Core) (ys 
   pub met : v .met ≡ none → w .met ≡ none
 
 -- nothing is left to do
-pub record Resting (g : Sig) (preds : List PredApp) (t : Turn) : Type 0 where
+pub record NoWork (g : Sig) (preds : List PredApp) (t : Turn) : Type 0 where
   pub pairs : t .core .pairs ≡ []
   pub sorted : Sorted compareFuncApp (t .apps)
   pub canon : All (Canon (t .core .links)) (t .apps)
@@ -65,7 +65,7 @@ pub record Lawful (p : Pass) : Type 1 where
   pub passed : (n total : ℕ) (g : Sig) (preds : List PredApp) (t : Turn) → Ready n total (t .core) (t .apps)
       → Passed n total (t .core) (t .apps) (p g preds t .core) (p g preds t .apps)
   -- where nothing is left to do it does nothing, and says so
-  pub idle : (g : Sig) (preds : List PredApp) (t : Turn) → Resting g preds t → p g preds t ≡ t
+  pub idle : (g : Sig) (preds : List PredApp) (t : Turn) → NoWork g preds t → p g preds t ≡ t
 
 -- A list of passes.
 
@@ -100,7 +100,7 @@ module _ (g : Sig) (preds : List PredApp) where
   run-passed n total (p ∷ ps) l t r =
       let a = l .0 .passed n total g preds t r in passed-then a (run-passed n total ps (l .1) (p g preds t) (a .ready))
 
-  pub run-idle : (ps : List Pass) → AllLawful ps → (t : Turn) → Resting g preds t → runPasses ps g preds t ≡ t
+  pub run-idle : (ps : List Pass) → AllLawful ps → (t : Turn) → NoWork g preds t → runPasses ps g preds t ≡ t
   unfolding runPasses
   run-idle [] l t r = refl
   run-idle (p ∷ ps) l t r = ap (runPasses ps g preds) (l .0 .idle g preds t r) ∙ run-idle ps (l .1) t r
@@ -325,10 +325,10 @@ module _ (n total : ℕ) (g : Sig) (preds : List PredApp) where
         omega (arith, l, b .more, c .more)
 
   -- after a round that left no pair, the next does nothing
-  pub round-rests : (t : Turn) → Turned n total g preds t → t .core .met ≡ none → t .core .pairs ≡ []
+  pub round-idle : (t : Turn) → Turned n total g preds t → t .core .met ≡ none → t .core .pairs ≡ []
       → round g preds (t .apps) (t .core) ≡ record { core = t .core; apps = t .apps; worked = false }
   unfolding round
-  round-rests t a m e =
+  round-idle t a m e =
       run-idle g preds passes all-lawful (record { core = t .core; apps = t .apps; worked = false })
       (record {
         pairs = e;

@@ -13,7 +13,7 @@ use Rattle.semantics.specs.Close.{Turn, round, Rounds, isNone, lastRound, oneMo
 use Rattle.semantics.proofs.Cases.{and-second}
 use Rattle.history.proofs.Drain.{Apart}
 use Rattle.history.proofs.Functionality.{Canon}
-use Rattle.history.proofs.Passes.{Ready, Passed, Turned, passed-none, passed-then, round-turned, round-passed, round-merges, round-rests}
+use Rattle.history.proofs.Passes.{Ready, Passed, Turned, passed-none, passed-then, round-turned, round-passed, round-merges, round-idle}
 
 -- what rounds leave that began with w and its applications: so many merges were made before
 pub record Settled (n total before : ℕ) (w : Core) (xs : List FuncApp) (r : Rounds) : Type 1 where
@@ -53,7 +53,7 @@ module _ (n total : ℕ) (g : Sig) (preds : List PredApp) where
     few = omega arith;
   }
 
-  -- a round that worked is followed by one that rests, or by one that merges
+  -- a round that worked is followed by one that does no work, or by one that merges
   from-law : (k : ℕ) (t : Turn) → Turned n total g preds t → total < k + t .core .merges → SettledFrom n total t (roundsFrom k g preds t)
   unfolding roundsFrom oneMore
   from-law zero t a h = absurd (omega (arith, a .ready .kept .sum))
@@ -79,7 +79,7 @@ module _ (n total : ℕ) (g : Sig) (preds : List PredApp) where
 
       next : (ps : List Pair) → t .core .pairs ≡ ps → t .core .met ≡ none → Later → SettledFrom n total t (oneMore (roundsFrom k g preds u))
       next [] e m f =
-          let z = round-rests n total g preds t a m e in
+          let z = round-idle n total g preds t a m e in
           subst (λ r. SettledFrom n total t (oneMore r)) (sym (stop g preds k u (ap (λ (x : Turn). x .worked) z)))
           (more (lastRound u) (last u turned (λ _. ap (λ (x : Turn). x .core .pairs) z ∙ e))
           (unfold lastRound in omega (arith, ap (λ (x : Turn). x .core .merges) z)))

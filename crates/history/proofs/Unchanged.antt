@@ -8,7 +8,7 @@ use Rattle.semantics.specs.Calls.{Call, close, closed, answerOf, Machine, step}
 use Rattle.validity.proofs.Calls.{afterAll, calls-valid}
 use Rattle.history.specs.Book.{History, noted, next, run, begin, history}
 use Rattle.history.proofs.Histories.{accepted-close, history-next}
-use Rattle.history.proofs.Quiet.{noChange, quiet}
+use Rattle.history.proofs.SecondClose.{noChange, second-close}
 
 run-machine : (ks : List Call) (h : History) → run ks h .machine ≡ afterAll ks (h .machine)
 unfolding run afterAll next noted
@@ -20,16 +20,16 @@ pub history-valid : (ks : List Call) → Valid (history ks .machine .sig) (histo
 unfolding history begin
 history-valid ks = subst (λ (m : Machine). Valid (m .sig) (m .structure)) (sym (run-machine ks begin)) (calls-valid ks)
 
-next-quiet : (h : History) (c : Closed) → Valid (h .machine .sig) (h .machine .structure) → step close (h .machine) .answer ≡ closed c → c .merges ≡ 0
+next-unchanged : (h : History) (c : Closed) → Valid (h .machine .sig) (h .machine .structure) → step close (h .machine) .answer ≡ closed c → c .merges ≡ 0
     → step close (next close h .machine) .answer ≡ closed noChange
 unfolding next noted step answerOf
-next-quiet h c v e z =
+next-unchanged h c v e z =
     let g = h .machine .sig in
     let s = h .machine .structure in
-    ap (answerOf closed) (quiet g s (v .structure .facts-rooted) c (accepted-close (closing.close g s .answer) c e) z)
+    ap (answerOf closed) (second-close g s (v .structure .facts-rooted) c (accepted-close (closing.close g s .answer) c e) z)
 
 pub merges-nothing : (before : List Call) (c : Closed) → step close (history before .machine) .answer ≡ closed c → c .merges ≡ 0
     → step close (history (before ++ (close ∷ [])) .machine) .answer ≡ closed noChange
 merges-nothing before c e z =
     subst (λ (h : History). step close (h .machine) .answer ≡ closed noChange) (sym (history-next before close))
-    (next-quiet (history before) c (history-valid before) e z)
+    (next-unchanged (history before) c (history-valid before) e z)

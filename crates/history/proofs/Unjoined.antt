@@ -64,32 +64,32 @@ module _ (ls : List ℕ) (ms : List Bool) where
   fixed-back (p ∷ ps) (q ∷ qs) h = (rw (root-root ls p) at (h .0), fixed-back ps qs (h .1))
 
   -- two facts of one type with such parents, or of two types
-  abbrev pub Calm : Fact → Fact → Type 0
-  Calm g f = eqb (g .typ) (f .typ) ≡ true → Fixed (g .parents) (f .parents)
+  abbrev pub Unjoined : Fact → Fact → Type 0
+  Unjoined g f = eqb (g .typ) (f .typ) ≡ true → Fixed (g .parents) (f .parents)
 
-  calm-flip : (g f : Fact) → Calm g f → Calm f g
-  calm-flip g f h e =
+  unjoined-flip : (g f : Fact) → Unjoined g f → Unjoined f g
+  unjoined-flip g f h e =
       fixed-flip (g .parents) (f .parents) (h (eq-eqb (g .typ) (f .typ) (sym (eqb-true (f .typ) (g .typ) e))))
 
-  calm-self : (f : Fact) → Calm f f
-  calm-self f e = fixed-self (f .parents)
+  unjoined-self : (f : Fact) → Unjoined f f
+  unjoined-self f e = fixed-self (f .parents)
 
-  calm-on : (g f : Fact) → Calm g f → Calm (canonicalFact ls g) f
+  unjoined-on : (g f : Fact) → Unjoined g f → Unjoined (canonicalFact ls g) f
   unfolding canonicalFact
-  calm-on g f h e = fixed-on (g .parents) (f .parents) (h e)
+  unjoined-on g f h e = fixed-on (g .parents) (f .parents) (h e)
 
-  calm-back : (g f : Fact) → Calm (canonicalFact ls g) f → Calm g f
+  unjoined-back : (g f : Fact) → Unjoined (canonicalFact ls g) f → Unjoined g f
   unfolding canonicalFact
-  calm-back g f h e = fixed-back (g .parents) (f .parents) (h e)
+  unjoined-back g f h e = fixed-back (g .parents) (f .parents) (h e)
 
   -- of the facts that stand at the root of f's element, none merges with f
-  abbrev pub Peace : List Fact → Fact → Type 0
-  Peace fs f = All (λ h. h .el ≡ rootOf ls (f .el) → Calm h f) fs
+  abbrev pub NoneJoined : List Fact → Fact → Type 0
+  NoneJoined fs f = All (λ h. h .el ≡ rootOf ls (f .el) → Unjoined h f) fs
 
   -- f is stored, and imposing it merges nothing: so it does nothing
   pub record Safe (fs : List Fact) (f : Fact) : Type 0 where
     pub stored : Stored ls fs f
-    pub peace : Peace fs f
+    pub none-joined : NoneJoined fs f
 
 -- What was refined, and what is not.
 
@@ -113,20 +113,20 @@ refineParents-fixed (p ∷ ps) [] w h = refl
 refineParents-fixed (p ∷ ps) (q ∷ qs) w h = ap (refineParents ps qs) (refine-none w p q (h .0)) ∙ refineParents-fixed ps qs w (h .1)
 
 module _ (f : Fact) where
-  refineOne-still : (g : Fact) (w : Core) → refineOne g f w .merges ≡ w .merges → Calm (w .links) (w .marks) g f
+  refineOne-still : (g : Fact) (w : Core) → refineOne g f w .merges ≡ w .merges → Unjoined (w .links) (w .marks) g f
   refineOne-still g w e t =
       let p : refineOne g f w ≡ refineParents (g .parents) (f .parents) w = rw (refineOne, t) in
       refineParents-still (g .parents) (f .parents) w (ap (λ (v : Core). v .merges) (sym p) ∙ e)
 
-  refineOne-calm : (g : Fact) (w : Core) → Calm (w .links) (w .marks) g f → refineOne g f w ≡ w
-  refineOne-calm g w h = go (eqb (g .typ) (f .typ)) h
+  refineOne-unjoined : (g : Fact) (w : Core) → Unjoined (w .links) (w .marks) g f → refineOne g f w ≡ w
+  refineOne-unjoined g w h = go (eqb (g .typ) (f .typ)) h
     where
       go : (t : Bool) → (t ≡ true → Fixed (w .links) (w .marks) (g .parents) (f .parents))
           → _≡_ {A = Core} (elim t [ true ↦ refineParents (g .parents) (f .parents) w | false ↦ w ]) w
       go true k = refineParents-fixed (g .parents) (f .parents) w (k refl)
       go false k = refl
 
-  refineAll-still : (gs : List Fact) (w : Core) → refineAll gs f w .merges ≡ w .merges → All (λ g. Calm (w .links) (w .marks) g f) gs
+  refineAll-still : (gs : List Fact) (w : Core) → refineAll gs f w .merges ≡ w .merges → All (λ g. Unjoined (w .links) (w .marks) g f) gs
   unfolding refineAll
   refineAll-still [] w e = tt
   refineAll-still (g ∷ gs) w e =
@@ -135,10 +135,10 @@ module _ (f : Fact) where
       let one : refineOne g f w .merges ≡ w .merges = omega (arith, a .grew, b .grew, e) in
       (refineOne-still g w one, refineAll-still gs w (subst (λ v. refineAll gs f v .merges ≡ w .merges) (a .still one) e))
 
-  refineAll-calm : (gs : List Fact) (w : Core) → All (λ g. Calm (w .links) (w .marks) g f) gs → refineAll gs f w ≡ w
+  refineAll-unjoined : (gs : List Fact) (w : Core) → All (λ g. Unjoined (w .links) (w .marks) g f) gs → refineAll gs f w ≡ w
   unfolding refineAll
-  refineAll-calm [] w h = refl
-  refineAll-calm (g ∷ gs) w h = ap (refineAll gs f) (refineOne-calm g w (h .0)) ∙ refineAll-calm gs w (h .1)
+  refineAll-unjoined [] w h = refl
+  refineAll-unjoined (g ∷ gs) w h = ap (refineAll gs f) (refineOne-unjoined g w (h .0)) ∙ refineAll-unjoined gs w (h .1)
 
 -- What `concrete_types_of` holds.
 
@@ -168,12 +168,12 @@ factsAt-all P e (f ∷ fs) h = go (eqb (f .el) e) refl (factsAt-all P e fs (h .1
 
 module _ (f : Fact) (w : Core) where
   -- an imposing that merged nothing
-  impose-peace : impose f w .merges ≡ w .merges → Peace (w .links) (w .marks) (w .facts) f
+  impose-none-joined : impose f w .merges ≡ w .merges → NoneJoined (w .links) (w .marks) (w .facts) f
   unfolding concreteTypesOf
-  impose-peace e =
-      all-from (λ h. h .el ≡ rootOf (w .links) (f .el) → Calm (w .links) (w .marks) h f) (w .facts)
-      (λ h m p. calm-back (w .links) (w .marks) h f
-      (all-at (λ g. Calm (w .links) (w .marks) g f) types calm (canonicalFact (w .links) h)
+  impose-none-joined e =
+      all-from (λ h. h .el ≡ rootOf (w .links) (f .el) → Unjoined (w .links) (w .marks) h f) (w .facts)
+      (λ h m p. unjoined-back (w .links) (w .marks) h f
+      (all-at (λ g. Unjoined (w .links) (w .marks) g f) types unjoined (canonicalFact (w .links) h)
       (present-member (canonicalFact (w .links) h) types
       (rewrite-there fact-ordered (canonicalFact (w .links)) (factsAt (rootOf (w .links) (f .el)) (w .facts)) [] tt
       (factsAt-member (rootOf (w .links) (f .el)) (w .facts) h m p)))))
@@ -181,41 +181,41 @@ module _ (f : Fact) (w : Core) where
       types : List Fact
       types = concreteTypesOf (w .links) (w .facts) (f .el)
 
-      calm : All (λ g. Calm (w .links) (w .marks) g f) types
-      calm = refineAll-still f types w (ap (λ (v : Core). v .merges) (impose-refined f w e))
+      unjoined : All (λ g. Unjoined (w .links) (w .marks) g f) types
+      unjoined = refineAll-still f types w (ap (λ (v : Core). v .merges) (impose-refined f w e))
 
   -- and one that will merge nothing
   impose-idle : Safe (w .links) (w .marks) (w .facts) f → impose f w ≡ w
   unfolding concreteTypesOf
-  impose-idle s = impose-plain f w (refineAll-calm f types w calm) ∙ insert-idle f w (s .stored)
+  impose-idle s = impose-plain f w (refineAll-unjoined f types w unjoined) ∙ insert-idle f w (s .stored)
     where
       types : List Fact
       types = concreteTypesOf (w .links) (w .facts) (f .el)
 
-      calm : All (λ g. Calm (w .links) (w .marks) g f) types
-      calm =
-          rewrite-all compareFact (canonicalFact (w .links)) (λ g. Calm (w .links) (w .marks) g f) (factsAt (rootOf (w .links) (f .el)) (w .facts)) []
-          (factsAt-all (λ h. Calm (w .links) (w .marks) (canonicalFact (w .links) h) f) (rootOf (w .links) (f .el)) (w .facts)
-          (all-map (λ h k p. calm-on (w .links) (w .marks) h f (k p)) (w .facts) (s .peace))) tt
+      unjoined : All (λ g. Unjoined (w .links) (w .marks) g f) types
+      unjoined =
+          rewrite-all compareFact (canonicalFact (w .links)) (λ g. Unjoined (w .links) (w .marks) g f) (factsAt (rootOf (w .links) (f .el)) (w .facts)) []
+          (factsAt-all (λ h. Unjoined (w .links) (w .marks) (canonicalFact (w .links) h) f) (rootOf (w .links) (f .el)) (w .facts)
+          (all-map (λ h k p. unjoined-on (w .links) (w .marks) h f (k p)) (w .facts) (s .none-joined))) tt
 
   -- An insertion that merged nothing keeps what is safe, and makes its own fact so.
-  module _ (peace : Peace (w .links) (w .marks) (w .facts) f) where
+  module _ (none-joined : NoneJoined (w .links) (w .marks) (w .facts) f) where
     safe-stays : (d : Fact) → Safe (w .links) (w .marks) (w .facts) d → Safe (w .links) (w .marks) (insertCanonical f w .facts) d
     unfolding canonicalFact
     safe-stays d s = record {
       stored = insert-grown f w .facts (canonicalFact (w .links) d) (s .stored);
-      peace = insert-all f w (λ h. h .el ≡ rootOf (w .links) (d .el) → Calm (w .links) (w .marks) h d)
-          (λ e. calm-on (w .links) (w .marks) f d (calm-flip (w .links) (w .marks) d f (calm-back (w .links) (w .marks) d f
-          (all-at (λ h. h .el ≡ rootOf (w .links) (f .el) → Calm (w .links) (w .marks) h f) (w .facts) peace (canonicalFact (w .links) d)
+      none-joined = insert-all f w (λ h. h .el ≡ rootOf (w .links) (d .el) → Unjoined (w .links) (w .marks) h d)
+          (λ e. unjoined-on (w .links) (w .marks) f d (unjoined-flip (w .links) (w .marks) d f (unjoined-back (w .links) (w .marks) d f
+          (all-at (λ h. h .el ≡ rootOf (w .links) (f .el) → Unjoined (w .links) (w .marks) h f) (w .facts) none-joined (canonicalFact (w .links) d)
           (present-member (canonicalFact (w .links) d) (w .facts) (s .stored)) (sym e)))))
-          (s .peace);
+          (s .none-joined);
     }
 
     safe-own : insertCanonical f w .met ≡ none → Safe (w .links) (w .marks) (insertCanonical f w .facts) f
     safe-own m = record {
       stored = insert-there f w m;
-      peace = insert-all f w (λ h. h .el ≡ rootOf (w .links) (f .el) → Calm (w .links) (w .marks) h f)
-          (λ e. calm-on (w .links) (w .marks) f f (calm-self (w .links) (w .marks) f)) peace;
+      none-joined = insert-all f w (λ h. h .el ≡ rootOf (w .links) (f .el) → Unjoined (w .links) (w .marks) h f)
+          (λ e. unjoined-on (w .links) (w .marks) f f (unjoined-self (w .links) (w .marks) f)) none-joined;
     }
 
 -- the links and the marks by another name
@@ -232,12 +232,12 @@ imposed-safe (f ∷ fs) w e m ds h =
     let one = first-still f fs w e in
     let v = insertCanonical f w in
     let grown = insert-grown f w in
-    let peace = impose-peace f w (ap (λ (x : Core). x .merges) (one .0) ∙ grown .merges) in
+    let none-joined = impose-none-joined f w (ap (λ (x : Core). x .merges) (one .0) ∙ grown .merges) in
     let e′ : imposeAll fs v .merges ≡ v .merges = subst (λ (x : Core). imposeAll fs x .merges ≡ x .merges) (one .0) (one .1) in
     let m′ : imposeAll fs v .met ≡ none = subst (λ (x : Core). imposeAll fs x .met ≡ none) (one .0) m in
     let met : v .met ≡ none = insertAll-grown fs v .met (ap (λ (x : Core). x .met) (sym (impose-inserts fs v e′)) ∙ m′) in
-    let own = safe-own f w peace met in
-    let safe : All (Safe (w .links) (w .marks) (v .facts)) (f ∷ ds) = (own, all-map (safe-stays f w peace) ds h) in
+    let own = safe-own f w none-joined met in
+    let safe : All (Safe (w .links) (w .marks) (v .facts)) (f ∷ ds) = (own, all-map (safe-stays f w none-joined) ds h) in
     let z = imposed-safe fs v e′ m′ (f ∷ ds)
     (safe-moved (sym (grown .links)) (sym (grown .marks)) (v .facts) (f ∷ ds) safe) in
     let back : (l : List Fact) → All (Safe (v .links) (v .marks) (imposeAll fs v .facts)) l
@@ -246,7 +246,7 @@ imposed-safe (f ∷ fs) w e m ds h =
     (safe-moved (grown .links) (grown .marks) (imposeAll fs v .facts) l k) in
     (back ds (z .0 .1), (back (f ∷ []) (z .0 .0, tt) .0, back fs (z .1)))
 
--- what is safe is imposed without a trace
+-- what is safe is imposed with no change
 pub safe-idle : (fs : List Fact) (w : Core) → All (Safe (w .links) (w .marks) (w .facts)) fs → imposeAll fs w ≡ w
 unfolding imposeAll
 safe-idle [] w h = refl
@@ -265,26 +265,26 @@ module _ (ls : List ℕ) (ms : List Bool) (fs : List Fact) where
   abbrev pub rewrittenFacts : List Fact
   rewrittenFacts = rewriteInto compareFact (canonicalFact ls) fs []
 
-  peace-rewritten : OnRoots ls fs → (d : Fact) → Peace ls ms fs d → Peace ls ms rewrittenFacts d
+  none-joined-rewritten : OnRoots ls fs → (d : Fact) → NoneJoined ls ms fs d → NoneJoined ls ms rewrittenFacts d
   unfolding canonicalFact
-  peace-rewritten r d p =
-      rewrite-all compareFact (canonicalFact ls) (λ h. h .el ≡ rootOf ls (d .el) → Calm ls ms h d) fs []
-      (all-from (λ h. rootOf ls (h .el) ≡ rootOf ls (d .el) → Calm ls ms (canonicalFact ls h) d) fs
-      (λ h m e. calm-on ls ms h d
-      (all-at (λ h. h .el ≡ rootOf ls (d .el) → Calm ls ms h d) fs p h m (sym (all-at (OnRoot ls) fs r h m) ∙ e)))) tt
+  none-joined-rewritten r d p =
+      rewrite-all compareFact (canonicalFact ls) (λ h. h .el ≡ rootOf ls (d .el) → Unjoined ls ms h d) fs []
+      (all-from (λ h. rootOf ls (h .el) ≡ rootOf ls (d .el) → Unjoined ls ms (canonicalFact ls h) d) fs
+      (λ h m e. unjoined-on ls ms h d
+      (all-at (λ h. h .el ≡ rootOf ls (d .el) → Unjoined ls ms h d) fs p h m (sym (all-at (OnRoot ls) fs r h m) ∙ e)))) tt
 
   pub safe-rewritten : OnRoots ls fs → (d : Fact) → Safe ls ms fs d → Safe ls ms rewrittenFacts d
   safe-rewritten r d s = record {
     stored = subst (λ (x : Fact). present compareFact x rewrittenFacts ≡ true) (canon-fact ls d)
         (rewrite-there fact-ordered (canonicalFact ls) fs [] tt (present-member (canonicalFact ls d) fs (s .stored)));
-    peace = peace-rewritten r d (s .peace);
+    none-joined = none-joined-rewritten r d (s .none-joined);
   }
 
   -- a fact's image is as safe as the fact
   pub safe-image : (d : Fact) → Safe ls ms fs d → Safe ls ms fs (canonicalFact ls d)
   safe-image d s = record {
     stored = subst (λ (x : Fact). present compareFact x fs ≡ true) (sym (canon-fact ls d)) (s .stored);
-    peace = unfold canonicalFact in
+    none-joined = unfold canonicalFact in
         all-map (λ h k e.
-        calm-flip ls ms (canonicalFact ls d) h (calm-on ls ms d h (calm-flip ls ms h d (k (e ∙ root-root ls (d .el)))))) fs (s .peace);
+        unjoined-flip ls ms (canonicalFact ls d) h (unjoined-on ls ms d h (unjoined-flip ls ms h d (k (e ∙ root-root ls (d .el)))))) fs (s .none-joined);
   }

@@ -24,7 +24,7 @@ use Rattle.history.proofs.Functionality.{Canon}
 use Rattle.history.proofs.Imposing.{insertAll, insert-all, insert-grown, impose-inserts, imposeAll-counts, plain-grown}
 use Rattle.history.proofs.Passes.{Left, after-drain, run-idle, all-lawful}
 use Rattle.history.proofs.Rounds.{stop, isNone-none, none-isNone}
-use Rattle.history.proofs.Peace.{Safe, OnRoots, imposed-safe, safe-idle, rewrittenFacts, safe-rewritten, safe-image, safe-moved}
+use Rattle.history.proofs.Unjoined.{Safe, OnRoots, imposed-safe, safe-idle, rewrittenFacts, safe-rewritten, safe-image, safe-moved}
 
 -- What `typing` demands of rewritten predicate applications are the images of what it demanded.
 
@@ -169,10 +169,10 @@ module _ (g : Sig) (preds : List PredApp) where
     abbrev v : Turn
     v = round g preds (u .apps) (u .core)
 
-    -- a round after it rests
-    rests : u .core .met ≡ none → u .core .pairs ≡ [] → v ≡ record { core = u .core; apps = u .apps; worked = false }
+    -- a round after it does no work
+    no-work : u .core .met ≡ none → u .core .pairs ≡ [] → v ≡ record { core = u .core; apps = u .apps; worked = false }
     unfolding round
-    rests m e =
+    no-work m e =
         run-idle g preds passes all-lawful (record { core = u .core; apps = u .apps; worked = false })
         (record { pairs = e; sorted = left .sorted; canon = left .canon; typed = safe-idle (demands g (u .apps) preds) (u .core) (safe m) })
 
@@ -194,7 +194,7 @@ module _ (g : Sig) (preds : List PredApp) where
         go true q e m =
             let still : v .core .merges ≡ u .core .merges = omega (arith, e, rounds-count k v, round-counts (u .apps) (u .core) .1) in
             let pairs = empty still (u .core .pairs) refl in
-            let z = rests (isNone-none (u .core .met) (and-second (u .worked) (isNone (u .core .met)) q)) pairs in
+            let z = no-work (isNone-none (u .core .met) (and-second (u .worked) (isNone (u .core .met)) q)) pairs in
             let s = stop g preds k v (ap (λ (x : Turn). x .worked) z) in
             record {
               core = ap (λ (r : Rounds). r .core) s ∙ ap (λ (x : Turn). x .core) z;
@@ -300,9 +300,9 @@ module _ (g : Sig) (s : Structure) (on : OnRoots (s .links) (s .facts)) where
       }
 
   -- For every signature and every structure whose facts stand on roots, as in every valid one.
-  pub quiet : (c : Closed) → close g s .answer ≡ accepted c → c .merges ≡ 0 → close g (close g s .left) .answer ≡ accepted noChange
+  pub second-close : (c : Closed) → close g s .answer ≡ accepted c → c .merges ≡ 0 → close g (close g s .left) .answer ≡ accepted noChange
   unfolding close closeAfter closeImposed closeWith answerOf
-  quiet c = go (w .met) refl
+  second-close c = go (w .met) refl
     where
       go : (o : Option ℕ) → w .met ≡ o → closeWith o r w s .answer ≡ accepted c → c .merges ≡ 0
           → close g (closeWith o r w s .left) .answer ≡ accepted noChange
