@@ -39,7 +39,7 @@ impl Line {
     }
 
     // One byte more, where there is room.
-    fn put(self, b: u8) -> Line
+    pub fn put(self, b: u8) -> Line
         ensures { λ r. ⌜ lineOf r ≡ putOf (lineOf self) (b ∷ []) ⌝ }
     {
         let mut next = self;
@@ -53,7 +53,7 @@ impl Line {
     }
 
     // A word's bytes.
-    fn put_word(self, word: &[u8]) -> Line
+    pub fn put_word(self, word: &[u8]) -> Line
         ensures { λ r. ⌜ lineOf r ≡ putOf (lineOf self) (now (word .entry)) ⌝ }
     {
         let mut line = self;
@@ -75,7 +75,7 @@ impl Line {
     }
 
     // A space and a number.
-    fn put_spaced(self, x: u64) -> Line
+    pub fn put_spaced(self, x: u64) -> Line
         ensures { λ r. ⌜ Added (lineOf self) (x ∷ []) wideBytes (lineOf r) ⌝ }
     {
         let line = self.put(b' ');
@@ -83,14 +83,14 @@ impl Line {
     }
 
     // The same, of 16 bits.
-    fn put_number(self, x: u16) -> Line
+    pub fn put_number(self, x: u16) -> Line
         ensures { λ r. ⌜ Added (lineOf self) (x ∷ []) numberBytes (lineOf r) ⌝ }
     {
         self.put_spaced(x as u64)
     }
 
     // A list of elements, each with a space before it.
-    fn put_els(self, els: ElIds) -> Line
+    pub fn put_els(self, els: ElIds) -> Line
         ensures { λ r. ⌜ Added (lineOf self) (elsOf els) elsBytes (lineOf r) ⌝ }
     {
         let n = els.size();
@@ -102,7 +102,7 @@ impl Line {
     }
 
     // A fact's type and parents.
-    fn put_fact(self, fact: Fact) -> Line
+    pub fn put_fact(self, fact: Fact) -> Line
         ensures { λ r. ⌜ Added (lineOf self) (factOf fact .typ ∷ factOf fact .parents) factBytes (lineOf r) ⌝ }
     {
         let line = self.put_number(fact.ct.typ.0);

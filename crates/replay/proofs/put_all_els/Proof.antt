@@ -28,8 +28,11 @@ element-copy-out-link c = search needs
 array-read-mark : tie.Need-array-read-mark Inv-loop μ-loop
 array-read-mark c = search needs
 
-put-el-requires : tie.Need-put-el-requires Inv-loop μ-loop
-put-el-requires c κs = search needs
+el-line-requires : tie.Need-el-line-requires Inv-loop μ-loop
+el-line-requires c κs = search needs
+
+put-line-requires : tie.Need-put-line-requires Inv-loop μ-loop
+put-line-requires c κs = search needs
 
 put-facts-at-requires : tie.Need-put-facts-at-requires Inv-loop μ-loop
 put-facts-at-requires c κs = search needs
@@ -58,7 +61,8 @@ put-all-els-spec =
     mul-link
     element-copy-out-link
     array-read-mark
-    put-el-requires
+    el-line-requires
+    put-line-requires
     put-facts-at-requires
     add-i
     loop-less

@@ -5,10 +5,10 @@ use Rattle.replay.proofs.put_conflicts.Statement.{statement}
 use Rattle.replay.proofs.put_conflicts.Tie as tie
 
 abbrev Inv-loop : tie.InvT-loop
-Inv-loop text₀ n found at₀ k i₀ t9 text at i = Unit {0}
+Inv-loop text₀ n found at₀ k i₀ text at i = Unit {0}
 
 abbrev μ-loop : tie.MeasureT-loop
-μ-loop text₀ n found at₀ k i₀ t9 text at i = k - i
+μ-loop text₀ n found at₀ k i₀ text at i = k - i
 
 size-requires : tie.Need-size-requires Inv-loop μ-loop
 size-requires c κs = search needs
@@ -22,8 +22,11 @@ mul-c c = search needs
 element-copy-out-c : tie.Need-element-copy-out-c Inv-loop μ-loop
 element-copy-out-c c = search needs
 
-put-conflict-requires : tie.Need-put-conflict-requires Inv-loop μ-loop
-put-conflict-requires c κs = search needs
+conflict-line-requires : tie.Need-conflict-line-requires Inv-loop μ-loop
+conflict-line-requires c κs = search needs
+
+put-line-requires : tie.Need-put-line-requires Inv-loop μ-loop
+put-line-requires c κs = search needs
 
 add-i : tie.Need-add-i Inv-loop μ-loop
 add-i c = search needs
@@ -33,12 +36,6 @@ loop-less c = search needs
 
 loop-again : tie.Need-loop-again Inv-loop μ-loop
 loop-again c = tt
-
-slice-aggregate-put-line-number : tie.Need-slice-aggregate-put-line-number Inv-loop μ-loop
-slice-aggregate-put-line-number c = search needs
-
-put-line-number-requires : tie.Need-put-line-number-requires Inv-loop μ-loop
-put-line-number-requires c κs = search needs
 
 returns : tie.Need-returns Inv-loop μ-loop
 returns c = tt
@@ -53,10 +50,9 @@ put-conflicts-spec =
     loop-holds
     mul-c
     element-copy-out-c
-    put-conflict-requires
+    conflict-line-requires
+    put-line-requires
     add-i
     loop-less
     loop-again
-    slice-aggregate-put-line-number
-    put-line-number-requires
     returns)

@@ -5,10 +5,10 @@ use Rattle.replay.proofs.put_facts_at.Statement.{statement}
 use Rattle.replay.proofs.put_facts_at.Tie as tie
 
 abbrev Inv-loop : tie.InvT-loop
-Inv-loop text₀ el facts n₀ first k i₀ text n i = Unit {0}
+Inv-loop text₀ el facts n₀ first k i₀ t11 text n i = Unit {0}
 
 abbrev μ-loop : tie.MeasureT-loop
-μ-loop text₀ el facts n₀ first k i₀ text n i = k - i
+μ-loop text₀ el facts n₀ first k i₀ t11 text n i = k - i
 
 size-requires : tie.Need-size-requires Inv-loop μ-loop
 size-requires c κs = search needs
@@ -25,8 +25,14 @@ element-copy-out-fact c = search needs
 returns : tie.Need-returns Inv-loop μ-loop
 returns c = tt
 
-put-fact-requires : tie.Need-put-fact-requires Inv-loop μ-loop
-put-fact-requires c κs = search needs
+slice-aggregate-fact-line : tie.Need-slice-aggregate-fact-line Inv-loop μ-loop
+slice-aggregate-fact-line c = search needs
+
+fact-line-requires : tie.Need-fact-line-requires Inv-loop μ-loop
+fact-line-requires c κs = search needs
+
+put-line-requires : tie.Need-put-line-requires Inv-loop μ-loop
+put-line-requires c κs = search needs
 
 add-i : tie.Need-add-i Inv-loop μ-loop
 add-i c = search needs
@@ -51,7 +57,9 @@ put-facts-at-spec =
     mul-fact
     element-copy-out-fact
     returns
-    put-fact-requires
+    slice-aggregate-fact-line
+    fact-line-requires
+    put-line-requires
     add-i
     loop-less
     loop-again

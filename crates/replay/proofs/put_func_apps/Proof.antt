@@ -22,8 +22,11 @@ mul-app c = search needs
 element-copy-out-app : tie.Need-element-copy-out-app Inv-loop μ-loop
 element-copy-out-app c = search needs
 
-put-func-app-requires : tie.Need-put-func-app-requires Inv-loop μ-loop
-put-func-app-requires c κs = search needs
+func-app-line-requires : tie.Need-func-app-line-requires Inv-loop μ-loop
+func-app-line-requires c κs = search needs
+
+put-line-requires : tie.Need-put-line-requires Inv-loop μ-loop
+put-line-requires c κs = search needs
 
 add-i : tie.Need-add-i Inv-loop μ-loop
 add-i c = search needs
@@ -47,7 +50,8 @@ put-func-apps-spec =
     loop-holds
     mul-app
     element-copy-out-app
-    put-func-app-requires
+    func-app-line-requires
+    put-line-requires
     add-i
     loop-less
     loop-again

@@ -5,10 +5,10 @@ use Rattle.replay.proofs.put_impositions.Statement.{statement}
 use Rattle.replay.proofs.put_impositions.Tie as tie
 
 abbrev Inv-loop : tie.InvT-loop
-Inv-loop text₀ n impositions at₀ k i₀ text at i = Unit {0}
+Inv-loop text₀ n impositions at₀ k i₀ t9 text at i = Unit {0}
 
 abbrev μ-loop : tie.MeasureT-loop
-μ-loop text₀ n impositions at₀ k i₀ text at i = k - i
+μ-loop text₀ n impositions at₀ k i₀ t9 text at i = k - i
 
 size-requires : tie.Need-size-requires Inv-loop μ-loop
 size-requires c κs = search needs
@@ -22,8 +22,14 @@ mul-fact c = search needs
 element-copy-out-fact : tie.Need-element-copy-out-fact Inv-loop μ-loop
 element-copy-out-fact c = search needs
 
-put-fact-requires : tie.Need-put-fact-requires Inv-loop μ-loop
-put-fact-requires c κs = search needs
+slice-aggregate-fact-line : tie.Need-slice-aggregate-fact-line Inv-loop μ-loop
+slice-aggregate-fact-line c = search needs
+
+fact-line-requires : tie.Need-fact-line-requires Inv-loop μ-loop
+fact-line-requires c κs = search needs
+
+put-line-requires : tie.Need-put-line-requires Inv-loop μ-loop
+put-line-requires c κs = search needs
 
 add-i : tie.Need-add-i Inv-loop μ-loop
 add-i c = search needs
@@ -47,7 +53,9 @@ put-impositions-spec =
     loop-holds
     mul-fact
     element-copy-out-fact
-    put-fact-requires
+    slice-aggregate-fact-line
+    fact-line-requires
+    put-line-requires
     add-i
     loop-less
     loop-again

@@ -5,10 +5,10 @@ use Rattle.replay.proofs.put_pairs.Statement.{statement}
 use Rattle.replay.proofs.put_pairs.Tie as tie
 
 abbrev Inv-loop : tie.InvT-loop
-Inv-loop text₀ n pairs at₀ k i₀ text at i = Unit {0}
+Inv-loop text₀ n pairs at₀ k i₀ t9 text at i = Unit {0}
 
 abbrev μ-loop : tie.MeasureT-loop
-μ-loop text₀ n pairs at₀ k i₀ text at i = k - i
+μ-loop text₀ n pairs at₀ k i₀ t9 text at i = k - i
 
 size-requires : tie.Need-size-requires Inv-loop μ-loop
 size-requires c κs = search needs
@@ -22,8 +22,14 @@ mul-pair c = search needs
 element-copy-out-pair : tie.Need-element-copy-out-pair Inv-loop μ-loop
 element-copy-out-pair c = search needs
 
-put-pair-requires : tie.Need-put-pair-requires Inv-loop μ-loop
-put-pair-requires c κs = search needs
+slice-aggregate-pair-line : tie.Need-slice-aggregate-pair-line Inv-loop μ-loop
+slice-aggregate-pair-line c = search needs
+
+pair-line-requires : tie.Need-pair-line-requires Inv-loop μ-loop
+pair-line-requires c κs = search needs
+
+put-line-requires : tie.Need-put-line-requires Inv-loop μ-loop
+put-line-requires c κs = search needs
 
 add-i : tie.Need-add-i Inv-loop μ-loop
 add-i c = search needs
@@ -47,7 +53,9 @@ put-pairs-spec =
     loop-holds
     mul-pair
     element-copy-out-pair
-    put-pair-requires
+    slice-aggregate-pair-line
+    pair-line-requires
+    put-line-requires
     add-i
     loop-less
     loop-again

@@ -22,8 +22,11 @@ mul-app c = search needs
 element-copy-out-app : tie.Need-element-copy-out-app Inv-loop μ-loop
 element-copy-out-app c = search needs
 
-put-pred-app-requires : tie.Need-put-pred-app-requires Inv-loop μ-loop
-put-pred-app-requires c κs = search needs
+pred-app-line-requires : tie.Need-pred-app-line-requires Inv-loop μ-loop
+pred-app-line-requires c κs = search needs
+
+put-line-requires : tie.Need-put-line-requires Inv-loop μ-loop
+put-line-requires c κs = search needs
 
 add-i : tie.Need-add-i Inv-loop μ-loop
 add-i c = search needs
@@ -47,7 +50,8 @@ put-pred-apps-spec =
     loop-holds
     mul-app
     element-copy-out-app
-    put-pred-app-requires
+    pred-app-line-requires
+    put-line-requires
     add-i
     loop-less
     loop-again

@@ -5,22 +5,25 @@ use Rattle.replay.proofs.run_list.Statement.{statement}
 use Rattle.replay.proofs.run_list.Tie as tie
 
 abbrev Inv-loop : tie.InvT-loop
-Inv-loop input₀ sheet₀ text₀ n length dumps at₀ window₀ machine₀ count i₀ input sheet text at window machine i = Unit {0}
+Inv-loop bytes₀ text₀ n length dumps at₀ machine₀ count i₀ bytes text at machine i = Unit {0}
 
 abbrev μ-loop : tie.MeasureT-loop
-μ-loop input₀ sheet₀ text₀ n length dumps at₀ window₀ machine₀ count i₀ input sheet text at window machine i = count - i
+μ-loop bytes₀ text₀ n length dumps at₀ machine₀ count i₀ bytes text at machine i = count - i
 
-start-requires : tie.Need-start-requires Inv-loop μ-loop
-start-requires c κs = search needs
+new-requires : tie.Need-new-requires Inv-loop μ-loop
+new-requires c κs = search needs
 
 loop-holds : tie.Need-loop-holds Inv-loop μ-loop
 loop-holds c = tt
 
-list-record-requires : tie.Need-list-record-requires Inv-loop μ-loop
-list-record-requires c κs = search needs
+read-requires : tie.Need-read-requires Inv-loop μ-loop
+read-requires c κs = search needs
 
 returns : tie.Need-returns Inv-loop μ-loop
 returns c = tt
+
+run-record-requires : tie.Need-run-record-requires Inv-loop μ-loop
+run-record-requires c κs = search needs
 
 add-i : tie.Need-add-i Inv-loop μ-loop
 add-i c = search needs
@@ -43,10 +46,11 @@ run-list-spec =
     (tie.spec
     Inv-loop
     μ-loop
-    start-requires
+    new-requires
     loop-holds
-    list-record-requires
+    read-requires
     returns
+    run-record-requires
     add-i
     loop-less
     loop-again

@@ -5,31 +5,34 @@ use Rattle.replay.proofs.run_stream.Statement.{statement}
 use Rattle.replay.proofs.run_stream.Tie as tie
 
 abbrev Inv-loop : tie.InvT-loop
-Inv-loop input₀ sheet₀ text₀ window₀ at₀ i₀ input sheet text window at i = Unit {0}
+Inv-loop bytes₀ text₀ at₀ i₀ bytes text at i = Unit {0}
 
 abbrev μ-loop : tie.MeasureT-loop
-μ-loop input₀ sheet₀ text₀ window₀ at₀ i₀ input sheet text window at i = 1000000000 - i
+μ-loop bytes₀ text₀ at₀ i₀ bytes text at i = 1000000000 - i
 
 loop-holds : tie.Need-loop-holds Inv-loop μ-loop
 loop-holds c = tt
 
-take-requires : tie.Need-take-requires Inv-loop μ-loop
-take-requires c κs = search needs
+read-requires : tie.Need-read-requires Inv-loop μ-loop
+read-requires c κs = search needs
 
 returns : tie.Need-returns Inv-loop μ-loop
 returns c = tt
 
-long-word-requires : tie.Need-long-word-requires Inv-loop μ-loop
-long-word-requires c κs = search needs
+record-at-requires : tie.Need-record-at-requires Inv-loop μ-loop
+record-at-requires c κs = search needs
 
-long-word-requires-2 : tie.Need-long-word-requires-2 Inv-loop μ-loop
-long-word-requires-2 c κs = search needs
+long-requires : tie.Need-long-requires Inv-loop μ-loop
+long-requires c κs = search needs
 
-flush-when-full-requires : tie.Need-flush-when-full-requires Inv-loop μ-loop
-flush-when-full-requires c κs = search needs
+long-requires-2 : tie.Need-long-requires-2 Inv-loop μ-loop
+long-requires-2 c κs = search needs
 
-put-entry-requires : tie.Need-put-entry-requires Inv-loop μ-loop
-put-entry-requires c κs = search needs
+entry-line-requires : tie.Need-entry-line-requires Inv-loop μ-loop
+entry-line-requires c κs = search needs
+
+put-line-requires : tie.Need-put-line-requires Inv-loop μ-loop
+put-line-requires c κs = search needs
 
 run-entry-requires : tie.Need-run-entry-requires Inv-loop μ-loop
 run-entry-requires c κs = search needs
@@ -53,12 +56,13 @@ run-stream-spec =
     Inv-loop
     μ-loop
     loop-holds
-    take-requires
+    read-requires
     returns
-    long-word-requires
-    long-word-requires-2
-    flush-when-full-requires
-    put-entry-requires
+    record-at-requires
+    long-requires
+    long-requires-2
+    entry-line-requires
+    put-line-requires
     run-entry-requires
     add-i
     loop-less
