@@ -81,14 +81,14 @@ impl FuncApp {
         }
     }
 
-    // Whether it goes after `last`, the last of n entries in order, where there is room.
-    pub fn goes_last(self, n: usize, last: FuncApp) -> bool
-        ensures { λ r. ⌜ r ≡ goesLast compareFuncApp maxFuncApps n (funcAppOf last) (funcAppOf self) ⌝ }
+    // Whether it goes after `last`, the last of so many entries in order, where there is room.
+    pub fn goes_last(self, count: usize, last: FuncApp) -> bool
+        ensures { λ r. ⌜ r ≡ goesLast compareFuncApp maxFuncApps count (funcAppOf last) (funcAppOf self) ⌝ }
     {
-        if FuncApps::MAX_LEN <= n {
+        if FuncApps::MAX_LEN <= count {
             return false;
         }
-        if n == 0 {
+        if count == 0 {
             return true;
         }
         match last.compare(self) {
@@ -122,14 +122,14 @@ impl PredApp {
         }
     }
 
-    // Whether it goes after `last`, the last of n entries in order, where there is room.
-    pub fn goes_last(self, n: usize, last: PredApp) -> bool
-        ensures { λ r. ⌜ r ≡ goesLast comparePredApp maxPredApps n (predAppOf last) (predAppOf self) ⌝ }
+    // Whether it goes after `last`, the last of so many entries in order, where there is room.
+    pub fn goes_last(self, count: usize, last: PredApp) -> bool
+        ensures { λ r. ⌜ r ≡ goesLast comparePredApp maxPredApps count (predAppOf last) (predAppOf self) ⌝ }
     {
-        if PredApps::MAX_LEN <= n {
+        if PredApps::MAX_LEN <= count {
             return false;
         }
-        if n == 0 {
+        if count == 0 {
             return true;
         }
         match last.compare(self) {

@@ -15,7 +15,8 @@ use Rattle.semantics.specs.Structure.{FuncApp, PredApp, maxPairs, maxFacts, acc
 use Rattle.semantics.specs.Types as types
 use Rattle.semantics.specs.Types.{drain, imposeAll, grew, with-pairs}
 use Rattle.semantics.specs.Close as closing
-use Rattle.semantics.specs.Close.{fuel, enterAll, demands, isNone, lastRound, oneMore, roundsFrom, answerOf, leftBy, closeWith, closeImposed, closeAfter, withCore, canonicaliseRefs}
+use Rattle.semantics.specs.Close.{fuel, enterAll, demands, isNone, lastRound, oneMore, roundsFrom, answerOf, leftBy, closeWith}
+use Rattle.semantics.specs.Close.{closeImposed, closeAfter, withCore, canonicaliseRefs}
 use Rattle.semantics.proofs.Parts.{rewritten, asked, typedAll, round-parts}
 use Rattle.apps.specs.declared.FuncApps.{FuncApps}
 use Rattle.apps.specs.View.{funcAppsOf}

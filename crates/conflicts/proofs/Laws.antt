@@ -17,7 +17,8 @@ use Rattle.ids.proofs.Tables.{push-room}
 use Rattle.unification.specs.Roots.{maxEls, rootOf}
 use Rattle.semantics.specs.Structure.{Fact, Structure, empty, with-links, with-facts}
 use Rattle.semantics.specs.Types.{factsAt, concreteTypesOf}
-use Rattle.semantics.specs.Conflicts.{Conflict, parentsMatch, disagree, firstConflict, conflictAmong, conflictAt, conflictsBelow, typeConflicts}
+use Rattle.semantics.specs.Conflicts.{Conflict, parentsMatch, disagree, firstConflict, conflictAmong, conflictAt, conflictsBelow}
+use Rattle.semantics.specs.Conflicts.{typeConflicts}
 use Rattle.facts.specs.declared.Fact as code
 use Rattle.facts.specs.declared.Facts.{Facts}
 use Rattle.facts.specs.View.{factOf, factsOf, noFact}

@@ -5,12 +5,17 @@ use mathlib.Core.Bool.{true, false}
 use Rattle.unification.specs.Roots.{linksOf}
 use Rattle.semantics.specs.Close.{Closed}
 use Rattle.semantics.specs.Calls as calls
-use Rattle.semantics.specs.Calls.{Call, Answer, number, says, done, closed, conflicting, found, typed, els, leading, onSig, onStructure, onNeither, Step, step}
+use Rattle.semantics.specs.Calls.{Call, Answer, number, says, done, closed, conflicting, found, typed, els, leading, onSig, onStructure}
+use Rattle.semantics.specs.Calls.{onNeither, Step, step}
 use Rattle.semantics.proofs.Finds.{step-root, step-root-const}
-use Rattle.history.specs.Book.{Book, blank, History, noted, next, run, history, begin, taken, fed, isAccepted, mergesOf, someMark, Conserved, Conservation}
+use Rattle.history.specs.Book.{Book, blank, History, noted, next, run, history, begin, taken, fed, isAccepted, mergesOf, someMark}
+use Rattle.history.specs.Book.{Conserved, Conservation}
 use Rattle.history.proofs.Histories.{history-goes-on}
 use Rattle.history.proofs.Conservation.{conservation}
-use Rattle.conserved.specs.Run.{Values, machineOf, Made, push-type, push-pred, push-func, push-model, push-mor-app-func, push-el, equate, impose-type, insert-func-app-or-equate, insert-pred-app, insert-var-el, insert-ambient-model-el, close, type-conflicts, root, root-const, lookup-type, ambient-parents, Run, none, more, Fresh}
+use Rattle.conserved.specs.Run.{Values, machineOf, Made, push-type, push-pred, push-func, push-model, push-mor-app-func, push-el}
+use Rattle.conserved.specs.Run.{equate, impose-type, insert-func-app-or-equate, insert-pred-app, insert-var-el}
+use Rattle.conserved.specs.Run.{insert-ambient-model-el, close, type-conflicts, root, root-const, lookup-type, ambient-parents, Run}
+use Rattle.conserved.specs.Run.{none, more, Fresh}
 
 -- a call that was made is a step of the definitions
 pub made-step : {v w : Values} {k : Call} {a : Answer} → Made v k a w

@@ -6,8 +6,11 @@ use lib.Dec.{leb}
 use Rattle.ids.specs.Answers.{Cause, _if_, malformed, tooLate, undeclared, wrongKind, givenAgain, noRoom}
 use Rattle.ids.specs.Ids.{tooLong}
 use Rattle.ids.proofs.Judging.{Judged, judges, alike, one-of, not-both, under}
-use Rattle.signature.specs.Model.{Sig, TypeM, PredM, FuncM, ModelM, MorAppM, maxTypes, maxPreds, maxFuncs, maxModels, maxMorApps, with-types, with-preds, with-funcs, with-models, with-mor-apps}
-use Rattle.signature.specs.Calls.{isType, areTypes, isFunc, isModel, isMor, isMorOf, modelDeclared, modelIsModel, functions, modelIdsDeclared, modelGiven, functionGiven, pairGiven, repeats, anyGiven, pushType, pushPred, pushFunc, pushModel, pushMorApp}
+use Rattle.signature.specs.Model.{Sig, TypeM, PredM, FuncM, ModelM, MorAppM, maxTypes, maxPreds, maxFuncs, maxModels, maxMorApps}
+use Rattle.signature.specs.Model.{with-types, with-preds, with-funcs, with-models, with-mor-apps}
+use Rattle.signature.specs.Calls.{isType, areTypes, isFunc, isModel, isMor, isMorOf, modelDeclared, modelIsModel, functions}
+use Rattle.signature.specs.Calls.{modelIdsDeclared, modelGiven, functionGiven, pairGiven, repeats, anyGiven, pushType, pushPred, pushFunc}
+use Rattle.signature.specs.Calls.{pushModel, pushMorApp}
 
 module _ (started : Bool) (g : Sig) where
   abbrev pub typeCauses : TypeM → List Cause

@@ -17,7 +17,8 @@ ghost use Rattle.ids.specs.Answers.{accepted, _if_};
 ghost use Rattle.ids.specs.Ids.{givenTypes};
 ghost use Rattle.declarations.specs.Judge.{judgedBy, listCauses};
 ghost use Rattle.signature.specs.Model.{kindOf, modelOf, morAppOf, sigOf, givenType, givenPred, givenFunc};
-ghost use Rattle.signature.specs.Calls.{modelDeclared, modelIsModel, functions, modelIdsDeclared, functionGiven, repeats, anyGiven, pushType, pushPred, pushFunc, pushModel, pushMorApp, answered, declared};
+ghost use Rattle.signature.specs.Calls.{modelDeclared, modelIsModel, functions, modelIdsDeclared, functionGiven, repeats, anyGiven};
+ghost use Rattle.signature.specs.Calls.{pushType, pushPred, pushFunc, pushModel, pushMorApp, answered, declared};
 
 // An answer with one more cause judged: it stays where it is refused or the cause does not apply.
 fn refuse_if(answer: Declared, number: u16, applies: bool) -> Declared

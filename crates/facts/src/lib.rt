@@ -61,14 +61,14 @@ impl Fact {
         }
     }
 
-    // Whether it goes after `last`, the last of n entries in order, where there is room.
-    pub fn goes_last(self, n: usize, last: Fact) -> bool
-        ensures { λ r. ⌜ r ≡ goesLast compareFact maxFacts n (factOf last) (factOf self) ⌝ }
+    // Whether it goes after `last`, the last of so many entries in order, where there is room.
+    pub fn goes_last(self, count: usize, last: Fact) -> bool
+        ensures { λ r. ⌜ r ≡ goesLast compareFact maxFacts count (factOf last) (factOf self) ⌝ }
     {
-        if Facts::MAX_LEN <= n {
+        if Facts::MAX_LEN <= count {
             return false;
         }
-        if n == 0 {
+        if count == 0 {
             return true;
         }
         match last.compare(self) {

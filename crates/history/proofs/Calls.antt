@@ -23,7 +23,12 @@ use Rattle.semantics.specs.Structure.{Fact, FuncApp, Pair, Structure, compareFu
 use Rattle.semantics.specs.Types.{Core}
 use Rattle.semantics.specs.Close as closing
 use Rattle.semantics.specs.Close.{Closed, coreOf, fuel}
-use Rattle.semantics.specs.Calls.{isEl, areEls, accepting, Call, push-type, push-pred, push-func, push-model, push-mor-app, push-el, equate-els, impose-type, apply-func, apply-pred, bind-var, bind-ambient, close, type-conflicts, root, root-const, lookup-type, ambient-parents, Answer, number, says, done, closed, conflicting, refuse, Machine, Step, step, answerOf, onStructure, onLinks, pushEl, equate, equateEls, imposeType, Applied, appliedEqual, applyAt, insertFuncAppOrEquate, applyWith, applyFunc, applyPred, bindVar, bindAmbient, conflicts, isImposed}
+use Rattle.semantics.specs.Calls.{isEl, areEls, accepting, Call, push-type, push-pred, push-func, push-model, push-mor-app, push-el}
+use Rattle.semantics.specs.Calls.{equate-els, impose-type, apply-func, apply-pred, bind-var, bind-ambient, close, type-conflicts, root}
+use Rattle.semantics.specs.Calls.{root-const, lookup-type, ambient-parents, Answer, number, says, done, closed, conflicting, refuse}
+use Rattle.semantics.specs.Calls.{Machine, Step, step, answerOf, onStructure, onLinks, pushEl, equate, equateEls, imposeType, Applied}
+use Rattle.semantics.specs.Calls.{appliedEqual, applyAt, insertFuncAppOrEquate, applyWith, applyFunc, applyPred, bindVar, bindAmbient}
+use Rattle.semantics.specs.Calls.{conflicts, isImposed}
 use Rattle.history.specs.Book.{Book, elements, taken, fed, isAccepted, mergesOf, someMark, Partition}
 use Rattle.semantics.proofs.Links.{length-push}
 use Rattle.semantics.proofs.Outcomes.{NoneApplies, decided-by}

@@ -9,7 +9,8 @@ use Rattle.ids.proofs.Sorted.{All, Sorted}
 use Rattle.signature.specs.Model.{Sig}
 use Rattle.semantics.specs.Structure.{Structure, compareFuncApp}
 use Rattle.semantics.specs.Types.{Core, imposeAll}
-use Rattle.semantics.specs.Close.{Rounds, rounds, fuel, Closed, coreOf, canonicaliseRefs, withCore, answerOf, leftBy, closeWith, closeImposed, closeAfter, close}
+use Rattle.semantics.specs.Close.{Rounds, rounds, fuel, Closed, coreOf, canonicaliseRefs, withCore, answerOf, leftBy, closeWith}
+use Rattle.semantics.specs.Close.{closeImposed, closeAfter, close}
 use Rattle.semantics.proofs.Counts.{roots}
 use Rattle.history.proofs.Functionality.{Canon}
 use Rattle.history.proofs.Imposing.{Grown}

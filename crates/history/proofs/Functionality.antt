@@ -9,7 +9,8 @@ use lib.Dec.{eqb}
 use borrow.Author.Tests.{eqb-true, eqb-false}
 use Rattle.ids.specs.declared.Ordering.the-variants.{Less}
 use Rattle.ids.specs.Table.{placed, lookupOf}
-use Rattle.ids.proofs.Sorted.{All, all-at, all-map, Sorted, no-test, equal-swap, lookup-sound, lookup-none, lookup-if, placed-all, placed-own, placed-rest, placed-last, placed-sorted, all-both, all-join}
+use Rattle.ids.proofs.Sorted.{All, all-at, all-map, Sorted, no-test, equal-swap, lookup-sound, lookup-none, lookup-if, placed-all}
+use Rattle.ids.proofs.Sorted.{placed-own, placed-rest, placed-last, placed-sorted, all-both, all-join}
 use Rattle.unification.specs.Roots.{rootOf}
 use Rattle.unification.proofs.Laws.{root-root}
 use Rattle.semantics.specs.Structure.{FuncApp, Pair, compareFuncApp, canonicalFuncApp}

@@ -14,7 +14,9 @@ use Rattle.unification.proofs.Arrays.{link-past}
 use Rattle.semantics.specs.Structure.{empty, compareFuncApp}
 use Rattle.semantics.specs.Close as closing
 use Rattle.semantics.specs.Close.{Closed, coreOf}
-use Rattle.semantics.specs.Calls.{Call, push-type, push-pred, push-func, push-model, push-mor-app, push-el, equate-els, impose-type, apply-func, apply-pred, bind-var, bind-ambient, close, type-conflicts, root, root-const, lookup-type, ambient-parents, closed, answerOf, start, step}
+use Rattle.semantics.specs.Calls.{Call, push-type, push-pred, push-func, push-model, push-mor-app, push-el, equate-els, impose-type}
+use Rattle.semantics.specs.Calls.{apply-func, apply-pred, bind-var, bind-ambient, close, type-conflicts, root, root-const, lookup-type}
+use Rattle.semantics.specs.Calls.{ambient-parents, closed, answerOf, start, step}
 use Rattle.history.specs.Book.{Book, blank, taken, fed, someMark, History, noted, next, run, begin, history}
 use Rattle.semantics.proofs.Counts.{roots}
 use Rattle.history.proofs.Functionality.{Canon}

@@ -16,15 +16,18 @@ use Rattle.signature.specs.Model.{Sig}
 use Rattle.semantics.specs.Structure.{Fact, FuncApp, PredApp, Pair, compareFuncApp, canonicalFuncApp}
 use Rattle.semantics.specs.Types as types
 use Rattle.semantics.specs.Types.{Core, drain, imposeAll, grew}
-use Rattle.semantics.specs.Close.{Rewritten, enterAll, demands, Turn, reports, drained, drainPass, rewrote, functionalityPass, typed, typingPass, Pass, passes, runPasses, round}
+use Rattle.semantics.specs.Close.{Rewritten, enterAll, demands, Turn, reports, drained, drainPass, rewrote, functionalityPass, typed}
+use Rattle.semantics.specs.Close.{typingPass, Pass, passes, runPasses, round}
 use Rattle.semantics.proofs.Queues.{drain-pairs}
 use Rattle.history.specs.Book.{Partition}
 use Rattle.semantics.proofs.Cases.{or-first, or-second}
 use Rattle.history.proofs.Tables.{all-of}
 use Rattle.history.proofs.Relation.{Rooted, Respects}
 use Rattle.semantics.proofs.Counts.{roots}
-use Rattle.history.proofs.Drain.{Kept, Even, Inside, Unmarked, Apart, Joined, drain-law, drain-counted, drain-met, drain-none, drain-grows}
-use Rattle.history.proofs.Functionality.{Canon, canon-image, enterAll-on, enterAll-back, enterAll-all, enterAll-sorted, enterAll-pairs, enterAll-none, settled-same}
+use Rattle.history.proofs.Drain.{Kept, Even, Inside, Unmarked, Apart, Joined, drain-law, drain-counted, drain-met, drain-none}
+use Rattle.history.proofs.Drain.{drain-grows}
+use Rattle.history.proofs.Functionality.{Canon, canon-image, enterAll-on, enterAll-back, enterAll-all, enterAll-sorted}
+use Rattle.history.proofs.Functionality.{enterAll-pairs, enterAll-none, settled-same}
 use Rattle.history.proofs.Imposing.{Grown, Stored, insertAll, insertAll-idle, plain-grown, plain-there, unmarked-inserts}
 
 -- what a partition and a claim on applications say of what a round works on

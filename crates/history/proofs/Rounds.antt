@@ -13,7 +13,8 @@ use Rattle.semantics.specs.Close.{Turn, round, Rounds, isNone, lastRound, oneMo
 use Rattle.semantics.proofs.Cases.{and-second}
 use Rattle.history.proofs.Drain.{Apart}
 use Rattle.history.proofs.Functionality.{Canon}
-use Rattle.history.proofs.Passes.{Ready, Passed, Turned, passed-none, passed-then, round-turned, round-passed, round-merges, round-idle}
+use Rattle.history.proofs.Passes.{Ready, Passed, Turned, passed-none, passed-then, round-turned, round-passed, round-merges}
+use Rattle.history.proofs.Passes.{round-idle}
 
 -- what rounds leave that began with w and its applications: so many merges were made before
 pub record Settled (n total before : ℕ) (w : Core) (xs : List FuncApp) (r : Rounds) : Type 1 where

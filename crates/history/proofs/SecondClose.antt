@@ -14,9 +14,13 @@ use Rattle.unification.specs.Roots.{rootOf}
 use Rattle.unification.proofs.Laws.{root-root}
 use Rattle.signature.specs.Model.{Sig, predAt}
 use Rattle.signature.specs.Calls.{TypedM, at, absent, concreteTypeAt}
-use Rattle.semantics.specs.Structure.{Fact, FuncApp, PredApp, Pair, Structure, compareFuncApp, comparePredApp, canonicalFact, canonicalPredApp}
+use Rattle.semantics.specs.Structure.{Fact, FuncApp, PredApp, Pair, Structure, compareFuncApp, comparePredApp, canonicalFact}
+use Rattle.semantics.specs.Structure.{canonicalPredApp}
 use Rattle.semantics.specs.Types.{Core, drain, insertCanonical, imposeAll, grew}
-use Rattle.semantics.specs.Close.{demanded, demandedAt, demandedArgs, funcArgs, predArgs, funcResults, demands, Turn, drained, drainPass, rewrote, functionalityPass, typed, typingPass, passes, runPasses, round, Rounds, isNone, lastRound, oneMore, roundsFrom, rounds, fuel, Closed, coreOf, canonicaliseRefs, withCore, answerOf, leftBy, closeWith, closeImposed, closeAfter, close}
+use Rattle.semantics.specs.Close.{demanded, demandedAt, demandedArgs, funcArgs, predArgs, funcResults, demands, Turn, drained, drainPass}
+use Rattle.semantics.specs.Close.{rewrote, functionalityPass, typed, typingPass, passes, runPasses, round, Rounds, isNone, lastRound}
+use Rattle.semantics.specs.Close.{oneMore, roundsFrom, rounds, fuel, Closed, coreOf, canonicaliseRefs, withCore, answerOf, leftBy}
+use Rattle.semantics.specs.Close.{closeWith, closeImposed, closeAfter, close}
 use Rattle.semantics.proofs.Queues.{drain-pairs}
 use Rattle.semantics.proofs.Cases.{and-second}
 use Rattle.history.proofs.Drain.{Apart, drain-counted, drain-grows, drain-met}

@@ -18,7 +18,8 @@ use Rattle.semantics.specs.Close as closing
 use Rattle.semantics.specs.Close.{Closed}
 use Rattle.semantics.specs.Calls as calls
 use Rattle.semantics.specs.Calls.{Call, push-type, push-func, push-el, equate-els, apply-func, close, root, closed, step}
-use Rattle.history.specs.Book.{blank, elements, taken, fed, isAccepted, mergesOf, noted, next, run, begin, History, history, Shared, Classes, someMark, Conserved, Conservation}
+use Rattle.history.specs.Book.{blank, elements, taken, fed, isAccepted, mergesOf, noted, next, run, begin, History, history, Shared}
+use Rattle.history.specs.Book.{Classes, someMark, Conserved, Conservation}
 use Rattle.history.proofs.Conservation.{conservation}
 
 -- the definitions that a list computes with

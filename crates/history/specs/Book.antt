@@ -10,7 +10,10 @@ use Rattle.ids.specs.Count.{count}
 use Rattle.unification.specs.Roots.{rootOf}
 use Rattle.semantics.specs.Structure.{Pair, FuncApp}
 use Rattle.semantics.specs.Close.{Closed}
-use Rattle.semantics.specs.Calls.{Call, push-type, push-pred, push-func, push-model, push-mor-app, push-el, equate-els, impose-type, apply-func, apply-pred, bind-var, bind-ambient, close, type-conflicts, root, root-const, lookup-type, ambient-parents, Answer, number, says, done, closed, conflicting, found, typed, els, refuse, Machine, Step, start, step}
+use Rattle.semantics.specs.Calls.{Call, push-type, push-pred, push-func, push-model, push-mor-app, push-el, equate-els, impose-type}
+use Rattle.semantics.specs.Calls.{apply-func, apply-pred, bind-var, bind-ambient, close, type-conflicts, root, root-const, lookup-type}
+use Rattle.semantics.specs.Calls.{ambient-parents, Answer, number, says, done, closed, conflicting, found, typed, els, refuse, Machine}
+use Rattle.semantics.specs.Calls.{Step, start, step}
 
 -- The book: "it reads no structure".
 

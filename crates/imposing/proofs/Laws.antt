@@ -21,7 +21,8 @@ use Rattle.ids.proofs.Views.{view-next, view-done}
 use Rattle.unification.specs.Roots.{linksOf, FindM, findOf}
 use Rattle.semantics.specs.Structure.{Fact, maxFacts, compareFact, canonicalFact}
 use Rattle.semantics.specs.Types as types
-use Rattle.semantics.specs.Types.{with-pairs, with-added, with-met, marked, join, drainPairs, drain, refineRoots, refine, refineParents, refineAll, insertFact, insertCanonical, concreteTypesOf, impose, imposeAll}
+use Rattle.semantics.specs.Types.{with-pairs, with-added, with-met, marked, join, drainPairs, drain, refineRoots, refine, refineParents}
+use Rattle.semantics.specs.Types.{refineAll, insertFact, insertCanonical, concreteTypesOf, impose, imposeAll}
 use Rattle.facts.specs.declared.Fact as code
 use Rattle.facts.specs.declared.Facts.{Facts}
 use Rattle.facts.specs.declared.Impositions.{Impositions}

@@ -17,7 +17,8 @@ use Rattle.unification.specs.Roots.{rootOf}
 use Rattle.unification.proofs.Numbers.{less-or}
 use Rattle.semantics.specs.Structure.{Fact, compareFact, canonicalFact}
 use Rattle.semantics.specs.Types as types
-use Rattle.semantics.specs.Types.{imposeAll, marked, refineRoots, refine, refineParents, refineAll, insertFact, insertCanonical, concreteTypesOf, impose}
+use Rattle.semantics.specs.Types.{imposeAll, marked, refineRoots, refine, refineParents, refineAll, insertFact, insertCanonical}
+use Rattle.semantics.specs.Types.{concreteTypesOf, impose}
 use Rattle.facts.specs.declared.Fact as code
 use Rattle.facts.specs.declared.Impositions.{Impositions}
 use Rattle.facts.specs.View.{factOf, impositionsOf}

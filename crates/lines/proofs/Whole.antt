@@ -7,7 +7,8 @@ use lib.ListN.{length, length-append}
 use lib.Seq.{take-all}
 use Rattle.semantics.specs.Close.{Closed}
 use Rattle.semantics.specs.Conflicts.{Conflict}
-use Rattle.semantics.specs.Sheet.{spaced, space, slash, newline, close-word, conflict-word, conflicts-word, refused-word, at-word, end-word, bit, closeLine, conflictLine, conflictLines, conflictsLine, refusedLine, endLine}
+use Rattle.semantics.specs.Sheet.{spaced, space, slash, newline, close-word, conflict-word, conflicts-word, refused-word, at-word}
+use Rattle.semantics.specs.Sheet.{end-word, bit, closeLine, conflictLine, conflictLines, conflictsLine, refusedLine, endLine}
 use Rattle.lines.specs.View.{maxLine, putOf, Added, conflictsEnd}
 use Rattle.lines.proofs.Puts.{put-put}
 use Rattle.lines.proofs.Decimals.{spaced-more}

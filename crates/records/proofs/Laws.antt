@@ -12,8 +12,10 @@ use lib.Seq.{drop-cons, drop-drop, take-take, take-nil}
 use lib.Dec.{eqb, leb, ltb, leb·zero, leb·suc-zero, eqb·suc-zero}
 use borrow.Author.Tests.{lt-ltb, le-leb, lt-leb, eq-eqb, ne-eqb, ltb-true, ltb-false, leb-true, leb-false, eqb-true, eqb-false}
 use Rattle.semantics.specs.Sheet as sheet
-use Rattle.semantics.specs.Sheet.{words, recordOf, recordAt, maxRecords, recordBytes, allZero, unused, listed, exactly, countFits, listFits, Form, fits, forms, formOf}
-use Rattle.semantics.specs.Sheet.{typeForm, predForm, funcForm, modelForm, morAppForm, elForm, equalityForm, impositionForm, funcAppForm, predAppForm, varForm, ambientForm, closeForm, conflictsForm}
+use Rattle.semantics.specs.Sheet.{words, recordOf, recordAt, maxRecords, recordBytes, allZero, unused, listed, exactly, countFits}
+use Rattle.semantics.specs.Sheet.{listFits, Form, fits, forms, formOf}
+use Rattle.semantics.specs.Sheet.{typeForm, predForm, funcForm, modelForm, morAppForm, elForm, equalityForm, impositionForm, funcAppForm}
+use Rattle.semantics.specs.Sheet.{predAppForm, varForm, ambientForm, closeForm, conflictsForm}
 use Rattle.records.specs.View.{recordIn, listWithin, within, fitsForm}
 
 -- Words.

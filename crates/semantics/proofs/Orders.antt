@@ -12,7 +12,8 @@ use Rattle.ids.specs.declared.Ordering.the-variants.{Less, Equal, Greater}
 use Rattle.ids.specs.Order.{orderOf, thenOf, lexOf}
 use Rattle.ids.proofs.Orders.{less, greater, equal}
 use Rattle.ids.proofs.Sorted.{Ordered, swapped, less-equal, less-greater, equal-greater, alike-right}
-use Rattle.semantics.specs.Structure.{Fact, FuncApp, PredApp, Var, Ambient, compareFact, compareFuncApp, comparePredApp, compareVar, compareAmbient}
+use Rattle.semantics.specs.Structure.{Fact, FuncApp, PredApp, Var, Ambient, compareFact, compareFuncApp, comparePredApp, compareVar}
+use Rattle.semantics.specs.Structure.{compareAmbient}
 
 -- Numbers.
 

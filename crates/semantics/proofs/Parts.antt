@@ -9,7 +9,8 @@ use lib.Dec.{ltb}
 use Rattle.signature.specs.Model.{Sig}
 use Rattle.semantics.specs.Structure.{FuncApp, PredApp, Pair, maxFuncApps}
 use Rattle.semantics.specs.Types.{Core, with-pairs, drain, imposeAll, grew}
-use Rattle.semantics.specs.Close.{Rewritten, enterAll, demands, drained, drainPass, rewrote, functionalityPass, typed, typingPass, passes, runPasses, round}
+use Rattle.semantics.specs.Close.{Rewritten, enterAll, demands, drained, drainPass, rewrote, functionalityPass, typed, typingPass}
+use Rattle.semantics.specs.Close.{passes, runPasses, round}
 use Rattle.semantics.proofs.Queues.{fresh, drain-pairs, Room, still-room, imposeAll-queue, pairs-room, apps-few}
 
 module _ (xs : List FuncApp) (w : Core) where

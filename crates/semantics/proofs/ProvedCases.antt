@@ -13,7 +13,8 @@ use Rattle.signature.specs.Model.{Kind, plain, model}
 use Rattle.semantics.specs.Structure.{Fact, FuncApp, compareFuncApp}
 use Rattle.semantics.specs.Types.{factsAt}
 use Rattle.semantics.specs.Conflicts.{Conflict}
-use Rattle.semantics.specs.Calls.{Call, push-type, push-func, push-pred, push-el, equate-els, impose-type, apply-func, apply-pred, bind-ambient}
+use Rattle.semantics.specs.Calls.{Call, push-type, push-func, push-pred, push-el, equate-els, impose-type, apply-func, apply-pred}
+use Rattle.semantics.specs.Calls.{bind-ambient}
 use Rattle.semantics.specs.Calls.{close, type-conflicts, lookup-type, ambient-parents}
 use Rattle.semantics.specs.Calls.{Answer, number, says, done, closed, conflicting, found, typed, els, refuse, Machine, start, step}
 use Rattle.semantics.specs.Sheet.{bit, newline, runSheet}

@@ -13,8 +13,11 @@ use Rattle.ids.specs.Answers.{tooManyFacts}
 use Rattle.ids.specs.Table.{present, placed, lookupOf}
 use Rattle.ids.proofs.Sorted.{placed-absent, lookup-sound, lookup-none}
 use Rattle.unification.specs.Roots.{rootOf}
-use Rattle.semantics.specs.Structure.{Fact, FuncApp, Pair, maxPairs, maxFuncApps, maxFacts, compareFact, compareFuncApp, canonicalFact, canonicalFuncApp}
-use Rattle.semantics.specs.Types.{Core, with-pairs, with-added, with-met, marked, merge, joinRoots, join, drainPairs, drain, refineRoots, refine, refineParents, refineAll, insertFact, insertCanonical, concreteTypesOf, impose, imposeAll}
+use Rattle.semantics.specs.Structure.{Fact, FuncApp, Pair, maxPairs, maxFuncApps, maxFacts, compareFact, compareFuncApp}
+use Rattle.semantics.specs.Structure.{canonicalFact, canonicalFuncApp}
+use Rattle.semantics.specs.Types.{Core, with-pairs, with-added, with-met, marked, merge, joinRoots, join, drainPairs, drain}
+use Rattle.semantics.specs.Types.{refineRoots, refine, refineParents, refineAll, insertFact, insertCanonical, concreteTypesOf}
+use Rattle.semantics.specs.Types.{impose, imposeAll}
 use Rattle.semantics.specs.Close.{Rewritten, enterAt, enter, enterAll}
 
 -- A drain leaves no pair.

@@ -7,15 +7,20 @@ use mathlib.Core.Option.{Option, none, some}
 use lib.ListN.{length, take}
 use lib.Dec.{eqb, leb, ltb}
 use Rattle.ids.specs.declared.Ordering.the-variants.{Less, Equal, Greater}
-use Rattle.ids.specs.Answers.{Answered, accepted, refused, Outcome, outcome, decided, _if_, malformed, undeclared, wrongKind, reserved, givenAgain, noRoom, noAmbient}
+use Rattle.ids.specs.Answers.{Answered, accepted, refused, Outcome, outcome, decided, _if_, malformed, undeclared, wrongKind, reserved}
+use Rattle.ids.specs.Answers.{givenAgain, noRoom, noAmbient}
 use Rattle.ids.specs.Ids.{tooLong, allBelow}
 use Rattle.ids.specs.Table.{present, placed, lookupOf}
 use Rattle.unification.specs.Roots as roots
 use Rattle.unification.specs.Roots.{maxEls, rootOf, shortOf, addedOf, FindM}
 use Rattle.signature.specs.Model as signature
 use Rattle.signature.specs.Model.{Sig, TypeM, PredM, FuncM, ModelM, MorAppM}
-use Rattle.signature.specs.Calls.{isType, areTypes, isFunc, isModel, inMorApps, pushType, pushPred, pushFunc, pushModel, pushMorApp, TypedM, at, absent, lookupType}
-use Rattle.semantics.specs.Structure.{Fact, FuncApp, PredApp, Pair, Var, Ambient, Structure, empty, maxPairs, maxImpositions, maxFuncApps, maxPredApps, maxVars, compareFact, compareFuncApp, comparePredApp, compareVar, compareAmbient, canonicalFact, canonicalFuncApp, with-links, with-marks, with-func-apps, with-pred-apps, with-vars, with-ambients, with-pairs, with-impositions, accept}
+use Rattle.signature.specs.Calls.{isType, areTypes, isFunc, isModel, inMorApps, pushType, pushPred, pushFunc, pushModel, pushMorApp}
+use Rattle.signature.specs.Calls.{TypedM, at, absent, lookupType}
+use Rattle.semantics.specs.Structure.{Fact, FuncApp, PredApp, Pair, Var, Ambient, Structure, empty, maxPairs, maxImpositions}
+use Rattle.semantics.specs.Structure.{maxFuncApps, maxPredApps, maxVars, compareFact, compareFuncApp, comparePredApp, compareVar}
+use Rattle.semantics.specs.Structure.{compareAmbient, canonicalFact, canonicalFuncApp, with-links, with-marks, with-func-apps}
+use Rattle.semantics.specs.Structure.{with-pred-apps, with-vars, with-ambients, with-pairs, with-impositions, accept}
 use Rattle.semantics.specs.Close as closing
 use Rattle.semantics.specs.Close.{Closed}
 use Rattle.semantics.specs.Conflicts.{Conflict, typeConflicts}

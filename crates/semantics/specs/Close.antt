@@ -10,7 +10,10 @@ use Rattle.ids.specs.Table.{lookupOf, placed, rewriteInto}
 use Rattle.unification.specs.Roots.{maxEls}
 use Rattle.signature.specs.Model.{Sig, predAt, funcAt}
 use Rattle.signature.specs.Calls.{TypedM, at, absent, concreteTypeAt}
-use Rattle.semantics.specs.Structure.{Fact, FuncApp, PredApp, Pair, Structure, maxFacts, compareFact, compareFuncApp, comparePredApp, canonicalFact, canonicalFuncApp, canonicalPredApp, canonicalVar, with-links, with-marks, with-facts, with-func-apps, with-pred-apps, with-vars, with-pairs, with-impositions, accept}
+use Rattle.semantics.specs.Structure.{Fact, FuncApp, PredApp, Pair, Structure, maxFacts, compareFact, compareFuncApp}
+use Rattle.semantics.specs.Structure.{comparePredApp, canonicalFact, canonicalFuncApp, canonicalPredApp, canonicalVar, with-links}
+use Rattle.semantics.specs.Structure.{with-marks, with-facts, with-func-apps, with-pred-apps, with-vars, with-pairs}
+use Rattle.semantics.specs.Structure.{with-impositions, accept}
 use Rattle.semantics.specs.Types as types
 use Rattle.semantics.specs.Types.{Core, drain, impose, imposeAll, grew}
 

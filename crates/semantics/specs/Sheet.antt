@@ -11,7 +11,9 @@ use Rattle.signature.specs.Model.{Kind, plain, model, enum, mor}
 use Rattle.semantics.specs.Structure.{Fact}
 use Rattle.semantics.specs.Close.{Closed}
 use Rattle.semantics.specs.Conflicts.{Conflict}
-use Rattle.semantics.specs.Calls.{Call, push-type, push-pred, push-func, push-model, push-mor-app, push-el, equate-els, impose-type, apply-func, apply-pred, bind-var, bind-ambient, close, type-conflicts, Answer, number, says, done, closed, conflicting, found, typed, els, refuse, Machine, Step, start, step}
+use Rattle.semantics.specs.Calls.{Call, push-type, push-pred, push-func, push-model, push-mor-app, push-el, equate-els, impose-type}
+use Rattle.semantics.specs.Calls.{apply-func, apply-pred, bind-var, bind-ambient, close, type-conflicts, Answer, number, says, done}
+use Rattle.semantics.specs.Calls.{closed, conflicting, found, typed, els, refuse, Machine, Step, start, step}
 
 -- "A sheet is 1 to 1,024 records of 32 bytes"
 abbrev pub maxRecords : ℕ

@@ -144,32 +144,152 @@ empty = record {
 -- A field replaced, the others as they were.
 
 abbrev pub with-links : List ℕ → Structure → Structure
-with-links x s = record { links = x; marks = s .marks; facts = s .facts; func-apps = s .func-apps; pred-apps = s .pred-apps; vars = s .vars; ambients = s .ambients; pairs = s .pairs; impositions = s .impositions; started = s .started; settled = s .settled }
+with-links x s = record {
+  links = x;
+  marks = s .marks;
+  facts = s .facts;
+  func-apps = s .func-apps;
+  pred-apps = s .pred-apps;
+  vars = s .vars;
+  ambients = s .ambients;
+  pairs = s .pairs;
+  impositions = s .impositions;
+  started = s .started;
+  settled = s .settled;
+}
 
 abbrev pub with-marks : List Bool → Structure → Structure
-with-marks x s = record { links = s .links; marks = x; facts = s .facts; func-apps = s .func-apps; pred-apps = s .pred-apps; vars = s .vars; ambients = s .ambients; pairs = s .pairs; impositions = s .impositions; started = s .started; settled = s .settled }
+with-marks x s = record {
+  links = s .links;
+  marks = x;
+  facts = s .facts;
+  func-apps = s .func-apps;
+  pred-apps = s .pred-apps;
+  vars = s .vars;
+  ambients = s .ambients;
+  pairs = s .pairs;
+  impositions = s .impositions;
+  started = s .started;
+  settled = s .settled;
+}
 
 abbrev pub with-facts : List Fact → Structure → Structure
-with-facts x s = record { links = s .links; marks = s .marks; facts = x; func-apps = s .func-apps; pred-apps = s .pred-apps; vars = s .vars; ambients = s .ambients; pairs = s .pairs; impositions = s .impositions; started = s .started; settled = s .settled }
+with-facts x s = record {
+  links = s .links;
+  marks = s .marks;
+  facts = x;
+  func-apps = s .func-apps;
+  pred-apps = s .pred-apps;
+  vars = s .vars;
+  ambients = s .ambients;
+  pairs = s .pairs;
+  impositions = s .impositions;
+  started = s .started;
+  settled = s .settled;
+}
 
 abbrev pub with-func-apps : List FuncApp → Structure → Structure
-with-func-apps x s = record { links = s .links; marks = s .marks; facts = s .facts; func-apps = x; pred-apps = s .pred-apps; vars = s .vars; ambients = s .ambients; pairs = s .pairs; impositions = s .impositions; started = s .started; settled = s .settled }
+with-func-apps x s = record {
+  links = s .links;
+  marks = s .marks;
+  facts = s .facts;
+  func-apps = x;
+  pred-apps = s .pred-apps;
+  vars = s .vars;
+  ambients = s .ambients;
+  pairs = s .pairs;
+  impositions = s .impositions;
+  started = s .started;
+  settled = s .settled;
+}
 
 abbrev pub with-pred-apps : List PredApp → Structure → Structure
-with-pred-apps x s = record { links = s .links; marks = s .marks; facts = s .facts; func-apps = s .func-apps; pred-apps = x; vars = s .vars; ambients = s .ambients; pairs = s .pairs; impositions = s .impositions; started = s .started; settled = s .settled }
+with-pred-apps x s = record {
+  links = s .links;
+  marks = s .marks;
+  facts = s .facts;
+  func-apps = s .func-apps;
+  pred-apps = x;
+  vars = s .vars;
+  ambients = s .ambients;
+  pairs = s .pairs;
+  impositions = s .impositions;
+  started = s .started;
+  settled = s .settled;
+}
 
 abbrev pub with-vars : List Var → Structure → Structure
-with-vars x s = record { links = s .links; marks = s .marks; facts = s .facts; func-apps = s .func-apps; pred-apps = s .pred-apps; vars = x; ambients = s .ambients; pairs = s .pairs; impositions = s .impositions; started = s .started; settled = s .settled }
+with-vars x s = record {
+  links = s .links;
+  marks = s .marks;
+  facts = s .facts;
+  func-apps = s .func-apps;
+  pred-apps = s .pred-apps;
+  vars = x;
+  ambients = s .ambients;
+  pairs = s .pairs;
+  impositions = s .impositions;
+  started = s .started;
+  settled = s .settled;
+}
 
 abbrev pub with-ambients : List Ambient → Structure → Structure
-with-ambients x s = record { links = s .links; marks = s .marks; facts = s .facts; func-apps = s .func-apps; pred-apps = s .pred-apps; vars = s .vars; ambients = x; pairs = s .pairs; impositions = s .impositions; started = s .started; settled = s .settled }
+with-ambients x s = record {
+  links = s .links;
+  marks = s .marks;
+  facts = s .facts;
+  func-apps = s .func-apps;
+  pred-apps = s .pred-apps;
+  vars = s .vars;
+  ambients = x;
+  pairs = s .pairs;
+  impositions = s .impositions;
+  started = s .started;
+  settled = s .settled;
+}
 
 abbrev pub with-pairs : List Pair → Structure → Structure
-with-pairs x s = record { links = s .links; marks = s .marks; facts = s .facts; func-apps = s .func-apps; pred-apps = s .pred-apps; vars = s .vars; ambients = s .ambients; pairs = x; impositions = s .impositions; started = s .started; settled = s .settled }
+with-pairs x s = record {
+  links = s .links;
+  marks = s .marks;
+  facts = s .facts;
+  func-apps = s .func-apps;
+  pred-apps = s .pred-apps;
+  vars = s .vars;
+  ambients = s .ambients;
+  pairs = x;
+  impositions = s .impositions;
+  started = s .started;
+  settled = s .settled;
+}
 
 abbrev pub with-impositions : List Fact → Structure → Structure
-with-impositions x s = record { links = s .links; marks = s .marks; facts = s .facts; func-apps = s .func-apps; pred-apps = s .pred-apps; vars = s .vars; ambients = s .ambients; pairs = s .pairs; impositions = x; started = s .started; settled = s .settled }
+with-impositions x s = record {
+  links = s .links;
+  marks = s .marks;
+  facts = s .facts;
+  func-apps = s .func-apps;
+  pred-apps = s .pred-apps;
+  vars = s .vars;
+  ambients = s .ambients;
+  pairs = s .pairs;
+  impositions = x;
+  started = s .started;
+  settled = s .settled;
+}
 
 -- The mark that an accepted call of kinds 6 to 14 leaves: for number 4, and whether the structure is settled from now on.
 abbrev pub accept : Bool → Structure → Structure
-accept x s = record { links = s .links; marks = s .marks; facts = s .facts; func-apps = s .func-apps; pred-apps = s .pred-apps; vars = s .vars; ambients = s .ambients; pairs = s .pairs; impositions = s .impositions; started = true; settled = x }
+accept x s = record {
+  links = s .links;
+  marks = s .marks;
+  facts = s .facts;
+  func-apps = s .func-apps;
+  pred-apps = s .pred-apps;
+  vars = s .vars;
+  ambients = s .ambients;
+  pairs = s .pairs;
+  impositions = s .impositions;
+  started = true;
+  settled = x;
+}

@@ -7,9 +7,12 @@ use Rattle.ids.specs.declared.Ordering.{Ordering}
 use Rattle.ids.specs.Limits.{maxList}
 use Rattle.ids.specs.Sorted.{All, Sorted}
 use Rattle.unification.specs.Roots.{maxEls, rootOf, Formed}
-use Rattle.signature.specs.Model.{Sig, Kind, plain, model, enum, mor, TypeM, PredM, FuncM, ModelM, MorAppM, maxTypes, maxPreds, maxFuncs, maxModels, maxMorApps}
+use Rattle.signature.specs.Model.{Sig, Kind, plain, model, enum, mor, TypeM, PredM, FuncM, ModelM, MorAppM, maxTypes, maxPreds, maxFuncs}
+use Rattle.signature.specs.Model.{maxModels, maxMorApps}
 use Rattle.signature.specs.Calls.{functions}
-use Rattle.semantics.specs.Structure.{Fact, FuncApp, PredApp, Pair, Var, Ambient, Structure, maxPairs, maxImpositions, maxFuncApps, maxPredApps, maxFacts, maxVars, compareFact, compareFuncApp, comparePredApp, compareVar, compareAmbient}
+use Rattle.semantics.specs.Structure.{Fact, FuncApp, PredApp, Pair, Var, Ambient, Structure, maxPairs, maxImpositions, maxFuncApps}
+use Rattle.semantics.specs.Structure.{maxPredApps, maxFacts, maxVars, compareFact, compareFuncApp, comparePredApp, compareVar}
+use Rattle.semantics.specs.Structure.{compareAmbient}
 
 -- every number of a list is below n
 abbrev pub Below : ℕ → List ℕ → Type 0

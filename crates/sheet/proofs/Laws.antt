@@ -16,7 +16,9 @@ use Rattle.unification.specs.Roots.{maxEls}
 use Rattle.semantics.specs.Close.{Closed}
 use Rattle.semantics.specs.Conflicts.{Conflict}
 use Rattle.semantics.specs.Calls as calls
-use Rattle.semantics.specs.Sheet.{maxRecords, recordBytes, words, Record, recordOf, recordAt, forms, formOf, callIn, callOf, carryOut, Ran, prints, stops, chainBroken, visit, carried, printAnswer, runRecords, badLength, runSheet, conflictLine, conflictLines, closeLine, refusedLine, endLine}
+use Rattle.semantics.specs.Sheet.{maxRecords, recordBytes, words, Record, recordOf, recordAt, forms, formOf, callIn, callOf, carryOut}
+use Rattle.semantics.specs.Sheet.{Ran, prints, stops, chainBroken, visit, carried, printAnswer, runRecords, badLength, runSheet}
+use Rattle.semantics.specs.Sheet.{conflictLine, conflictLines, closeLine, refusedLine, endLine}
 use Rattle.records.specs.View.{recordIn, blank}
 use Rattle.records.proofs.Laws.{record-in, sheet-record}
 use Rattle.conflicts.specs.declared.TypeConflict.{TypeConflict}
@@ -32,7 +34,8 @@ use Rattle.carrying.specs.View.{machineOf, answerOf, stepOf}
 use Rattle.sheet.specs.declared.Stage.{Stage}
 use Rattle.sheet.specs.declared.Stage.the-variants as stages
 use Rattle.sheet.specs.declared.Progress.{Progress}
-use Rattle.sheet.specs.View.{piecesOfOne, doneBefore, visiting, following, listing, restAt, restOf, piecesVisiting, piecesFollowing, piecesAt, piecesOf, Advanced, Started, standing, Became, Follows, Passes, Reads, Visited}
+use Rattle.sheet.specs.View.{piecesOfOne, doneBefore, visiting, following, listing, restAt, restOf, piecesVisiting, piecesFollowing}
+use Rattle.sheet.specs.View.{piecesAt, piecesOf, Advanced, Started, standing, Became, Follows, Passes, Reads, Visited}
 
 -- Visits.
 

@@ -9,7 +9,8 @@ use Rattle.ids.specs.Answers.{badSheet}
 use Rattle.unification.specs.Roots.{maxEls}
 use Rattle.semantics.specs.Conflicts.{Conflict}
 use Rattle.semantics.specs.Calls as calls
-use Rattle.semantics.specs.Sheet.{maxRecords, recordBytes, Record, recordAt, callOf, Ran, prints, stops, runRecords, runSheet, conflictLines, refusedLine, endLine}
+use Rattle.semantics.specs.Sheet.{maxRecords, recordBytes, Record, recordAt, callOf, Ran, prints, stops, runRecords, runSheet}
+use Rattle.semantics.specs.Sheet.{conflictLines, refusedLine, endLine}
 use Rattle.conflicts.specs.declared.TypeConflicts.{TypeConflicts}
 use Rattle.conflicts.specs.View.{conflictsOf}
 use Rattle.lines.specs.View.{conflictsEnd}

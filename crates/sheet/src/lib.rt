@@ -15,7 +15,8 @@ ghost use Rattle.semantics.specs.Sheet.{stops, refusedLine, chainBroken, carrie
 ghost use Rattle.lines.specs.View.{lineOf};
 ghost use Rattle.records.specs.View.{recordView};
 ghost use Rattle.carrying.specs.View.{machineOf, stepOf};
-ghost use Rattle.sheet.specs.View.{maxPieces, doneBefore, following, piecesFollowing, restAt, piecesAt, standing, Started, Became, Follows, Passes, Visited, Steps, Advanced};
+ghost use Rattle.sheet.specs.View.{maxPieces, doneBefore, following, piecesFollowing, restAt, piecesAt, standing, Started, Became};
+ghost use Rattle.sheet.specs.View.{Follows, Passes, Visited, Steps, Advanced};
 ghost use Rattle.sheet.specs.declared.Stage.the-variants as stages;
 
 // What the next piece is of: the refusal of a sheet whose length is bad, a record, a line of conflicts, the last line,

@@ -5,7 +5,8 @@ use mathlib.Core.Bool.{Bool, true, false, not, _&&_, _||_}
 use mathlib.Core.List.{List, [], _∷_, _++_}
 use lib.ListN.{length, getD}
 use lib.Dec.{eqb, leb, ltb}
-use Rattle.ids.specs.Answers.{Answered, accepted, refused, Outcome, outcome, decided, _if_, malformed, tooLate, undeclared, wrongKind, givenAgain, noRoom}
+use Rattle.ids.specs.Answers.{Answered, accepted, refused, Outcome, outcome, decided, _if_, malformed, tooLate, undeclared, wrongKind}
+use Rattle.ids.specs.Answers.{givenAgain, noRoom}
 use Rattle.ids.specs.Ids.{tooLong, allBelow}
 use Rattle.signature.specs.declared.Typed.{Typed}
 use Rattle.signature.specs.declared.Typed.the-variants.{At, Absent}
@@ -14,7 +15,9 @@ use Rattle.signature.specs.declared.TypeLookup.the-variants as lookup
 use Rattle.signature.specs.declared.Declared.{Declared}
 use Rattle.signature.specs.declared.Declared.the-variants.{Number, Refused}
 use Rattle.signature.specs.declared.Declaring.{Declaring}
-use Rattle.signature.specs.Model.{Sig, Kind, plain, model, enum, mor, TypeM, PredM, FuncM, ModelM, MorAppM, maxTypes, maxPreds, maxFuncs, maxModels, maxMorApps, noType, typeAt, with-types, with-preds, with-funcs, with-models, with-mor-apps, sigOf}
+use Rattle.signature.specs.Model.{Sig, Kind, plain, model, enum, mor, TypeM, PredM, FuncM, ModelM, MorAppM, maxTypes, maxPreds}
+use Rattle.signature.specs.Model.{maxFuncs, maxModels, maxMorApps, noType, typeAt, with-types, with-preds, with-funcs, with-models}
+use Rattle.signature.specs.Model.{with-mor-apps, sigOf}
 
 -- "Numbers must have been declared earlier."
 

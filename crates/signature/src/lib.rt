@@ -10,8 +10,11 @@ ghost use mathlib.Core.List.{[]};
 ghost use lib.ListN.{getD};
 ghost use Rattle.ids.specs.Ids.{typesOf, givenEls};
 ghost use Rattle.ids.specs.Table.{Sized, pushOf};
-ghost use Rattle.signature.specs.Model.{maxTypes, maxPreds, maxFuncs, maxModels, maxMorApps, noType, noPred, noFunc, empty, typeOf, predOf, funcOf, modelOf, morAppOf, viewTypes, viewPreds, viewFuncs, viewModels, viewMorApps, sigOf};
-ghost use Rattle.signature.specs.Calls.{isType, areTypes, isFunc, isModel, isMor, isMorOf, member, functions, modelGiven, inModels, inMorApps, pairGiven, concreteTypeAt, lookupType, typedOf, lookedOf};
+ghost use Rattle.signature.specs.Model.{maxTypes, maxPreds, maxFuncs, maxModels, maxMorApps, noType, noPred, noFunc, empty, typeOf};
+ghost use Rattle.signature.specs.Model.{predOf, funcOf, modelOf, morAppOf, viewTypes, viewPreds, viewFuncs, viewModels};
+ghost use Rattle.signature.specs.Model.{viewMorApps, sigOf};
+ghost use Rattle.signature.specs.Calls.{isType, areTypes, isFunc, isModel, isMor, isMorOf, member, functions, modelGiven, inModels};
+ghost use Rattle.signature.specs.Calls.{inMorApps, pairGiven, concreteTypeAt, lookupType, typedOf, lookedOf};
 
 // Mor is the kind of a model's morphisms, with the model's type.
 pub enum TypeKind {

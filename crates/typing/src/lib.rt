@@ -26,7 +26,8 @@ ghost use Rattle.semantics.specs.Close.{demands};
 ghost use Rattle.apps.specs.View.{funcAppOf, predAppOf, funcAppsOf, predAppsOf};
 ghost use Rattle.merging.specs.View.{metOf, Passes};
 ghost use Rattle.typing.specs.Bounds.{allDemands};
-ghost use Rattle.typing.specs.Rows.{rowOf, funcRow, predRow, resultRow, IsRow, FuncIndex, PredIndex, RowAt, RowImposed, NoneMarked, Demanded, fullMet};
+ghost use Rattle.typing.specs.Rows.{rowOf, funcRow, predRow, resultRow, IsRow, FuncIndex, PredIndex, RowAt, RowImposed, NoneMarked};
+ghost use Rattle.typing.specs.Rows.{Demanded, fullMet};
 
 // What one application is asked: the types that elements are to have, with the parents that are given.
 pub struct Row {

@@ -12,9 +12,11 @@ use Rattle.ids.specs.Answers.{accepted, refused, undeclared}
 use Rattle.ids.proofs.Answers.{outcome-refuses, outcome-passes, outcome-done}
 use Rattle.ids.proofs.Tables.{push-room, push-full}
 use Rattle.unification.specs.declared.Unification.{Unification}
-use Rattle.unification.specs.Roots.{maxEls, linksOf, upTo, link, rootOf, depthOf, shortOf, addedOf, FindM, findOf, ShortM, shortenedOf, rootConst, root}
+use Rattle.unification.specs.Roots.{maxEls, linksOf, upTo, link, rootOf, depthOf, shortOf, addedOf, FindM, findOf, ShortM}
+use Rattle.unification.specs.Roots.{shortenedOf, rootConst, root}
 use Rattle.unification.proofs.Numbers.{less-or, same-or}
-use Rattle.unification.proofs.Laws.{link-other, root-stop, root-pass, root-above, depth-stop, depth-pass, depth-above, short-stop, short-first}
+use Rattle.unification.proofs.Laws.{link-other, root-stop, root-pass, root-above, depth-stop, depth-pass, depth-above, short-stop}
+use Rattle.unification.proofs.Laws.{short-first}
 
 -- The numbered entries.
 

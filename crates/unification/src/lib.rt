@@ -8,7 +8,8 @@ ghost use mathlib.Core.List.{map};
 ghost use lib.ListN.{set};
 ghost use Rattle.ids.specs.Ids.{elsOf};
 ghost use Rattle.ids.specs.Table.{Sized};
-ghost use Rattle.unification.specs.Roots.{maxEls, linksOf, rootOf, fresh, findOf, found, shortenedOf, shortened, mergedOf, addedOf, rootConst, answered, root, rooted};
+ghost use Rattle.unification.specs.Roots.{maxEls, linksOf, rootOf, fresh, findOf, found, shortenedOf, shortened, mergedOf, addedOf};
+ghost use Rattle.unification.specs.Roots.{rootConst, answered, root, rooted};
 
 // Element e links to links[e]; the first `len` are there.
 pub struct Unification {

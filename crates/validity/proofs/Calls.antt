@@ -13,7 +13,8 @@ use Rattle.ids.specs.declared.Ordering.{Ordering}
 use Rattle.ids.specs.declared.Ordering.the-variants.{Less}
 use Rattle.ids.specs.Ids.{tooLong}
 use Rattle.ids.specs.Table.{present, placed, lookupOf}
-use Rattle.ids.proofs.Sorted.{all-map, all-at, Ordered, no-test, placed-all, placed-sorted, placed-present, placed-absent, lookup-sound, keys-few}
+use Rattle.ids.proofs.Sorted.{all-map, all-at, Ordered, no-test, placed-all, placed-sorted, placed-present, placed-absent, lookup-sound}
+use Rattle.ids.proofs.Sorted.{keys-few}
 use Rattle.unification.specs.Roots as roots
 use Rattle.unification.specs.Roots.{maxEls, rootOf, shortOf, addedOf, Formed}
 use Rattle.unification.proofs.Laws.{short-length}
@@ -21,11 +22,18 @@ use Rattle.unification.proofs.Theorems.{none-formed, added-formed, short-formed
 use Rattle.signature.specs.Model as signature
 use Rattle.signature.specs.Model.{Sig}
 use Rattle.signature.specs.Calls.{isType, isFunc}
-use Rattle.semantics.specs.Structure.{Fact, FuncApp, PredApp, Pair, Var, Ambient, Structure, empty, maxPairs, maxImpositions, maxFuncApps, maxPredApps, maxVars, compareFuncApp, comparePredApp, compareVar, compareAmbient, canonicalFact, canonicalFuncApp, with-links, with-marks, with-pairs, with-func-apps, with-impositions}
+use Rattle.semantics.specs.Structure.{Fact, FuncApp, PredApp, Pair, Var, Ambient, Structure, empty, maxPairs, maxImpositions, maxFuncApps}
+use Rattle.semantics.specs.Structure.{maxPredApps, maxVars, compareFuncApp, comparePredApp, compareVar, compareAmbient, canonicalFact}
+use Rattle.semantics.specs.Structure.{canonicalFuncApp, with-links, with-marks, with-pairs, with-func-apps, with-impositions}
 use Rattle.semantics.specs.Close as closing
 use Rattle.semantics.specs.Calls as calls
-use Rattle.semantics.specs.Calls.{isEl, areEls, isPred, pushEl, equate, equateEls, isImposed, imposeType, appliedEqual, applyAt, insertFuncAppOrEquate, applyWith, applyFunc, applyPred, bindVar, bindAmbient, conflicts, Applied, Machine, Call, push-type, push-pred, push-func, push-model, push-mor-app, push-el, equate-els, impose-type, apply-func, apply-pred, bind-var, bind-ambient, close, type-conflicts, root, root-const, lookup-type, ambient-parents, step, start}
-use Rattle.semantics.specs.Valid.{Counts, countsAt, countsOf, FactValid, FuncAppValid, PredAppValid, VarValid, AmbientValid, OnRoot, Table, ValidStructure, Valid}
+use Rattle.semantics.specs.Calls.{isEl, areEls, isPred, pushEl, equate, equateEls, isImposed, imposeType, appliedEqual, applyAt}
+use Rattle.semantics.specs.Calls.{insertFuncAppOrEquate, applyWith, applyFunc, applyPred, bindVar, bindAmbient, conflicts, Applied}
+use Rattle.semantics.specs.Calls.{Machine, Call, push-type, push-pred, push-func, push-model, push-mor-app, push-el, equate-els}
+use Rattle.semantics.specs.Calls.{impose-type, apply-func, apply-pred, bind-var, bind-ambient, close, type-conflicts, root, root-const}
+use Rattle.semantics.specs.Calls.{lookup-type, ambient-parents, step, start}
+use Rattle.semantics.specs.Valid.{Counts, countsAt, countsOf, FactValid, FuncAppValid, PredAppValid, VarValid, AmbientValid, OnRoot}
+use Rattle.semantics.specs.Valid.{Table, ValidStructure, Valid}
 use Rattle.semantics.proofs.Orders.{func-app-ordered, pred-app-ordered, var-ordered, ambient-ordered, order-less}
 use Rattle.semantics.proofs.Cases.{test, and-first, and-second, or-first, or-second}
 use Rattle.semantics.proofs.Links.{length-push, added-is, root-push}
@@ -33,8 +41,10 @@ use Rattle.semantics.proofs.Outcomes.{outcome-keeps, listed-if}
 use Rattle.validity.proofs.Imposing.{canonical-valid}
 use Rattle.validity.proofs.Entering.{canonical-entry}
 use Rattle.validity.proofs.Closing.{close-valid}
-use Rattle.validity.proofs.Growing.{More, table-more, queue-more, queue-push, pair-more, fact-more, func-app-more, pred-app-more, var-more, ambient-more, counted}
-use Rattle.validity.proofs.Replacing.{accept-valid, links-valid, pairs-valid, impositions-valid, func-apps-valid, pred-apps-valid, vars-valid, ambients-valid}
+use Rattle.validity.proofs.Growing.{More, table-more, queue-more, queue-push, pair-more, fact-more, func-app-more, pred-app-more}
+use Rattle.validity.proofs.Growing.{var-more, ambient-more, counted}
+use Rattle.validity.proofs.Replacing.{accept-valid, links-valid, pairs-valid, impositions-valid, func-apps-valid, pred-apps-valid}
+use Rattle.validity.proofs.Replacing.{vars-valid, ambients-valid}
 use Rattle.validity.proofs.Signatures.{empty-sig, type-valid, pred-valid, func-valid, model-valid, mor-app-valid}
 
 pub empty-valid : (g : Sig) → ValidStructure (countsAt g 0) empty

@@ -12,10 +12,13 @@ use Rattle.ids.specs.Table.{rewriteInto}
 use Rattle.ids.proofs.Sorted.{All, all-map, all-image, rewrite-all, rewrite-sorted, rewrite-length, sorted-image}
 use Rattle.unification.proofs.Laws.{root-le}
 use Rattle.signature.specs.Model.{Sig}
-use Rattle.semantics.specs.Structure.{Fact, PredApp, Var, Structure, compareFact, comparePredApp, compareVar, compareFuncApp, maxFuncApps, canonicalFact, canonicalPredApp, canonicalVar}
+use Rattle.semantics.specs.Structure.{Fact, PredApp, Var, Structure, compareFact, comparePredApp, compareVar, compareFuncApp, maxFuncApps}
+use Rattle.semantics.specs.Structure.{canonicalFact, canonicalPredApp, canonicalVar}
 use Rattle.semantics.specs.Types.{Core, imposeAll}
-use Rattle.semantics.specs.Close.{Turn, Rounds, Closed, round, rounds, roundsFrom, isNone, fuel, coreOf, canonicaliseRefs, withCore, answerOf, leftBy, closeWith, closeImposed, closeAfter, close}
-use Rattle.semantics.specs.Valid.{Counts, countsOf, FactValid, PredAppValid, VarValid, FuncAppValid, OnRoot, Queue, Table, ValidStructure, Valid}
+use Rattle.semantics.specs.Close.{Turn, Rounds, Closed, round, rounds, roundsFrom, isNone, fuel, coreOf, canonicaliseRefs, withCore}
+use Rattle.semantics.specs.Close.{answerOf, leftBy, closeWith, closeImposed, closeAfter, close}
+use Rattle.semantics.specs.Valid.{Counts, countsOf, FactValid, PredAppValid, VarValid, FuncAppValid, OnRoot, Queue, Table, ValidStructure}
+use Rattle.semantics.specs.Valid.{Valid}
 use Rattle.semantics.proofs.Orders.{fact-ordered, pred-app-ordered}
 use Rattle.semantics.proofs.Queues.{Room}
 use Rattle.semantics.proofs.Pairs.{Imposes, Fits, rounds-fit, impositions-fit}

@@ -9,7 +9,9 @@ use Rattle.ids.proofs.Sorted.{all-map, all-join}
 use Rattle.signature.specs.Model.{Sig, Kind, plain, model, enum, mor, TypeM, PredM, FuncM, ModelM, MorAppM}
 use Rattle.signature.specs.Calls.{functions}
 use Rattle.semantics.specs.Structure.{Fact, FuncApp, PredApp, Pair, Var, Ambient, Structure}
-use Rattle.semantics.specs.Valid.{Below, Listed, Queue, Table, KindDeclared, TypeValid, PredValid, FuncValid, ModelValid, MorAppValid, Counts, countsAt, countsOf, PairValid, FactValid, FuncAppValid, PredAppValid, VarValid, AmbientValid, ValidStructure}
+use Rattle.semantics.specs.Valid.{Below, Listed, Queue, Table, KindDeclared, TypeValid, PredValid, FuncValid, ModelValid, MorAppValid}
+use Rattle.semantics.specs.Valid.{Counts, countsAt, countsOf, PairValid, FactValid, FuncAppValid, PredAppValid, VarValid, AmbientValid}
+use Rattle.semantics.specs.Valid.{ValidStructure}
 use Rattle.semantics.proofs.Links.{length-push}
 
 -- Tables of which more is true.

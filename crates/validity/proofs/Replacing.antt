@@ -6,8 +6,11 @@ use lib.ListN.{length}
 use mathlib.Core.Bool.{Bool}
 use Rattle.ids.proofs.Sorted.{all-map}
 use Rattle.unification.specs.Roots.{rootOf, Formed}
-use Rattle.semantics.specs.Structure.{Fact, FuncApp, PredApp, Pair, Var, Ambient, Structure, maxPairs, maxImpositions, maxFuncApps, maxPredApps, maxVars, compareFuncApp, comparePredApp, compareVar, compareAmbient, with-links, with-func-apps, with-pred-apps, with-vars, with-ambients, with-pairs, with-impositions, accept}
-use Rattle.semantics.specs.Valid.{Counts, PairValid, FactValid, FuncAppValid, PredAppValid, VarValid, AmbientValid, OnRoot, Queue, Table, ValidStructure}
+use Rattle.semantics.specs.Structure.{Fact, FuncApp, PredApp, Pair, Var, Ambient, Structure, maxPairs, maxImpositions, maxFuncApps}
+use Rattle.semantics.specs.Structure.{maxPredApps, maxVars, compareFuncApp, comparePredApp, compareVar, compareAmbient, with-links}
+use Rattle.semantics.specs.Structure.{with-func-apps, with-pred-apps, with-vars, with-ambients, with-pairs, with-impositions, accept}
+use Rattle.semantics.specs.Valid.{Counts, PairValid, FactValid, FuncAppValid, PredAppValid, VarValid, AmbientValid, OnRoot, Queue, Table}
+use Rattle.semantics.specs.Valid.{ValidStructure}
 
 module _ (c : Counts) (s : Structure) (v : ValidStructure c s) where
   pub accept-valid : (b : Bool) → ValidStructure c (accept b s)

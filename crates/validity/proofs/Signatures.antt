@@ -8,14 +8,17 @@ use native.Mathlib.Nat.{le-refl}
 use lib.ListN.{length}
 use borrow.Author.Tests.{ltb-true, leb-false, not-false}
 use Rattle.ids.specs.Ids.{tooLong, allBelow}
-use Rattle.signature.specs.Model.{Sig, Kind, plain, model, enum, mor, TypeM, PredM, FuncM, ModelM, MorAppM, maxTypes, maxPreds, maxFuncs, maxModels, maxMorApps, empty, with-types, with-preds, with-funcs, with-models, with-mor-apps}
-use Rattle.signature.specs.Calls.{isType, areTypes, isFunc, modelDeclared, functions, modelIdsDeclared, pushType, pushPred, pushFunc, pushModel, pushMorApp}
+use Rattle.signature.specs.Model.{Sig, Kind, plain, model, enum, mor, TypeM, PredM, FuncM, ModelM, MorAppM, maxTypes, maxPreds, maxFuncs}
+use Rattle.signature.specs.Model.{maxModels, maxMorApps, empty, with-types, with-preds, with-funcs, with-models, with-mor-apps}
+use Rattle.signature.specs.Calls.{isType, areTypes, isFunc, modelDeclared, functions, modelIdsDeclared, pushType, pushPred, pushFunc}
+use Rattle.signature.specs.Calls.{pushModel, pushMorApp}
 use Rattle.semantics.specs.Structure.{Structure}
 use Rattle.semantics.specs.Valid.{Counts, ValidStructure, KindDeclared, ValidSig, countsOf, Valid}
 use Rattle.semantics.proofs.Cases.{and-first, and-second, or-first, or-second}
 use Rattle.semantics.proofs.Links.{length-push}
 use Rattle.semantics.proofs.Outcomes.{outcome-keeps, below-if, listed-if}
-use Rattle.validity.proofs.Growing.{queue-more, queue-push, kind-more, listed-more, type-more, pred-more, func-more, model-more, mor-app-more, More, structure-more}
+use Rattle.validity.proofs.Growing.{queue-more, queue-push, kind-more, listed-more, type-more, pred-more, func-more, model-more}
+use Rattle.validity.proofs.Growing.{mor-app-more, More, structure-more}
 
 kind-declared : (g : Sig) (t : Kind) → modelDeclared g t ≡ true → KindDeclared (length (g .types)) t
 kind-declared g plain e = tt

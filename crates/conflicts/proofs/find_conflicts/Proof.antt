@@ -17,7 +17,9 @@ use Rattle.facts.specs.declared.Facts.{Facts}
 use Rattle.facts.specs.View.{factOf, factsOf, noFact}
 use Rattle.conflicts.specs.declared.TypeConflicts.{TypeConflicts}
 use Rattle.conflicts.specs.View.{conflictsOf, conflictsIn}
-use Rattle.conflicts.proofs.Laws.{bare, parents-done, parents-past, parents-match, parents-differ, other-type, other-parents, all-alike, facts-start, facts-done, facts-agree, facts-conflict, no-root, few-facts, two-facts, class-clear, class-pushed}
+use Rattle.conflicts.proofs.Laws.{bare, parents-done, parents-past, parents-match, parents-differ, other-type, other-parents}
+use Rattle.conflicts.proofs.Laws.{all-alike, facts-start, facts-done, facts-agree, facts-conflict, no-root, few-facts, two-facts}
+use Rattle.conflicts.proofs.Laws.{class-clear, class-pushed}
 use borrow.Author.Needs.{needs}
 use Rattle.conflicts.proofs.find_conflicts.Statement.{statement}
 use Rattle.conflicts.proofs.find_conflicts.Tie as tie

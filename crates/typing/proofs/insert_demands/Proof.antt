@@ -20,9 +20,11 @@ use Rattle.merging.specs.View.{Toward, coreOf}
 use Rattle.merging.proofs.Laws.{begins, does}
 use Rattle.typing.specs.Bounds.{allRows}
 use Rattle.typing.specs.Rows.{rows, rowsDemand}
-use Rattle.typing.proofs.Laws.{onlyTypes, type-absent, type-imposed, type-idle, arg-typed, arg-untyped, arg-idle, no-arg, types-end, uncounted}
+use Rattle.typing.proofs.Laws.{onlyTypes, type-absent, type-imposed, type-idle, arg-typed, arg-untyped, arg-idle, no-arg}
+use Rattle.typing.proofs.Laws.{types-end, uncounted}
 use Rattle.typing.proofs.RowLaws.{rows-are, rows-many, row-next, row-first, rows-end}
-use Rattle.typing.proofs.InsertLaws.{withFacts, Searching, search-start, search-past, search-found, search-before, search-done, shifted-in, put-stored, put-full, put-placed}
+use Rattle.typing.proofs.InsertLaws.{withFacts, Searching, search-start, search-past, search-found, search-before, search-done}
+use Rattle.typing.proofs.InsertLaws.{shifted-in, put-stored, put-full, put-placed}
 use borrow.Author.Needs.{needs}
 use Rattle.typing.proofs.insert_demands.Statement.{statement}
 use Rattle.typing.proofs.insert_demands.Tie as tie

@@ -8,13 +8,13 @@ use Rattle.apps.proofs.FuncApp.goes_last.Statement.{statement}
 use Rattle.apps.proofs.FuncApp.goes_last.Tie as tie
 
 returns : tie.Need-returns
-returns c = let a = c .before .args in no-room compareFuncApp maxFuncApps (a .n) (funcAppOf (a .last)) (funcAppOf (a .self)) (c .if1 .taken)
+returns c = let a = c .before .args in no-room compareFuncApp maxFuncApps (a .count) (funcAppOf (a .last)) (funcAppOf (a .self)) (c .if1 .taken)
 
 returns-2 : tie.Need-returns-2
 returns-2 c =
     let full = c .before in
     let a = full .before .args in
-    no-last compareFuncApp maxFuncApps (a .n) (funcAppOf (a .last)) (funcAppOf (a .self)) (full .if1 .left) (c .if2 .taken)
+    no-last compareFuncApp maxFuncApps (a .count) (funcAppOf (a .last)) (funcAppOf (a .self)) (full .if1 .left) (c .if2 .taken)
 
 compare-requires : tie.Need-compare-requires
 compare-requires c κs = search needs
@@ -33,7 +33,7 @@ returns-3 c =
     let compared = c .before .before in
     let first = compared .before in
     let a = first .before .before .args in
-    last-smaller compareFuncApp maxFuncApps (a .n) (funcAppOf (a .last)) (funcAppOf (a .self)) (first .before .if1 .left) (first .if2 .left)
+    last-smaller compareFuncApp maxFuncApps (a .count) (funcAppOf (a .last)) (funcAppOf (a .self)) (first .before .if1 .left) (first .if2 .left)
     (sym (compared .compare .ensures) ∙ c .enum-told .given .1)
 
 returns-4 : tie.Need-returns-4
@@ -41,7 +41,7 @@ returns-4 c =
     let compared = c .before .before in
     let first = compared .before in
     let a = first .before .before .args in
-    last-equal compareFuncApp maxFuncApps (a .n) (funcAppOf (a .last)) (funcAppOf (a .self)) (first .before .if1 .left) (first .if2 .left)
+    last-equal compareFuncApp maxFuncApps (a .count) (funcAppOf (a .last)) (funcAppOf (a .self)) (first .before .if1 .left) (first .if2 .left)
     (sym (compared .compare .ensures) ∙ c .enum-told2 .given .1)
 
 returns-5 : tie.Need-returns-5
@@ -49,7 +49,7 @@ returns-5 c =
     let compared = c .before .before in
     let first = compared .before in
     let a = first .before .before .args in
-    last-greater compareFuncApp maxFuncApps (a .n) (funcAppOf (a .last)) (funcAppOf (a .self)) (first .before .if1 .left) (first .if2 .left)
+    last-greater compareFuncApp maxFuncApps (a .count) (funcAppOf (a .last)) (funcAppOf (a .self)) (first .before .if1 .left) (first .if2 .left)
     (sym (compared .compare .ensures) ∙ c .enum-told3 .given .1)
 
 pub goes-last-spec : {M : Type 1} → statement M

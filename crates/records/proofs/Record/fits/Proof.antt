@@ -2,7 +2,8 @@
 use mathlib.Core.Logic.{⊎-elim}
 use Prim.Native.Nat.{_≤_}
 use borrow.Author.Needs.{needs}
-use Rattle.records.proofs.Laws.{most-word, past, none-before, none-past, as-type, as-pred, as-el, as-last, as-mor, as-func, as-model, as-mor-app, as-imposition, as-func-app, as-pred-app, as-equality, as-bound}
+use Rattle.records.proofs.Laws.{most-word, past, none-before, none-past, as-type, as-pred, as-el, as-last, as-mor, as-func}
+use Rattle.records.proofs.Laws.{as-model, as-mor-app, as-imposition, as-func-app, as-pred-app, as-equality, as-bound}
 use Rattle.records.proofs.Record.fits.Statement.{statement}
 use Rattle.records.proofs.Record.fits.Tie as tie
 

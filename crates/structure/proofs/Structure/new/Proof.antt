@@ -2,7 +2,8 @@
 use mathlib.Core.Bool.{false}
 use lib.ListN.{take, replicate}
 use Rattle.unification.specs.Roots.{maxEls, linksOf}
-use Rattle.semantics.specs.Structure.{empty, with-links, with-marks, with-facts, with-func-apps, with-pred-apps, with-vars, with-ambients, with-pairs, with-impositions}
+use Rattle.semantics.specs.Structure.{empty, with-links, with-marks, with-facts, with-func-apps, with-pred-apps, with-vars, with-ambients}
+use Rattle.semantics.specs.Structure.{with-pairs, with-impositions}
 use borrow.Author.Needs.{needs}
 use Rattle.structure.proofs.Structure.new.Statement.{statement}
 use Rattle.structure.proofs.Structure.new.Tie as tie
