@@ -33,35 +33,37 @@ use unification::Unification;
 
 // ---- text to write: the first n bytes of an array
 
+const MAX_TEXT: usize = 65536;
+
 fn write_first(text: &[u8], n: usize) {
-    if n <= 65536 {
+    if n <= MAX_TEXT {
         let m = io::count(n as isize, text);
         io::write_all(STDOUT_FILENO, &text[..m]);
     }
 }
 
-fn flush(text: &[u8; 65536], n: usize) {
+fn flush(text: &[u8; MAX_TEXT], n: usize) {
     write_first(text, n);
 }
 
 // Writes a text out that may not have room for a line, and answers where it ends then.
-fn make_room(text: &[u8; 65536], n: usize) -> usize {
-    if n <= 65536 - Line::MAX_LEN {
+fn make_room(text: &[u8; MAX_TEXT], n: usize) -> usize {
+    if n <= MAX_TEXT - Line::MAX_LEN {
         return n;
     }
     flush(text, n);
     0
 }
 
-fn put(text: &mut [u8; 65536], n: usize, b: u8) -> usize {
-    if 65536 <= n {
+fn put(text: &mut [u8; MAX_TEXT], n: usize, b: u8) -> usize {
+    if MAX_TEXT <= n {
         return n;
     }
     text[n] = b;
     n + 1
 }
 
-fn put_line(text: &mut [u8; 65536], n: usize, line: Line) -> usize {
+fn put_line(text: &mut [u8; MAX_TEXT], n: usize, line: Line) -> usize {
     let size = line.size();
     let mut at = make_room(text, n);
     for i in 0..size {
@@ -150,7 +152,7 @@ pub struct Dumped {
 }
 
 // The facts of an element, from an index on.
-fn put_facts_at(text: &mut [u8; 65536], from: Dumped, facts: Facts, el: u16) -> Dumped {
+fn put_facts_at(text: &mut [u8; MAX_TEXT], from: Dumped, facts: Facts, el: u16) -> Dumped {
     let mut n = from.n;
     let first = from.fact;
     let k = facts.size();
@@ -165,7 +167,7 @@ fn put_facts_at(text: &mut [u8; 65536], from: Dumped, facts: Facts, el: u16) -> 
 }
 
 fn put_all_els(
-    text: &mut [u8; 65536],
+    text: &mut [u8; MAX_TEXT],
     n: usize,
     u: Unification,
     marks: [bool; Structure::MAX_ELS],
@@ -184,7 +186,7 @@ fn put_all_els(
     now.n
 }
 
-fn put_func_apps(text: &mut [u8; 65536], n: usize, apps: FuncApps) -> usize {
+fn put_func_apps(text: &mut [u8; MAX_TEXT], n: usize, apps: FuncApps) -> usize {
     let mut at = n;
     let k = apps.size();
     for i in 0..k {
@@ -194,7 +196,7 @@ fn put_func_apps(text: &mut [u8; 65536], n: usize, apps: FuncApps) -> usize {
     at
 }
 
-fn put_pred_apps(text: &mut [u8; 65536], n: usize, apps: PredApps) -> usize {
+fn put_pred_apps(text: &mut [u8; MAX_TEXT], n: usize, apps: PredApps) -> usize {
     let mut at = n;
     let k = apps.size();
     for i in 0..k {
@@ -204,7 +206,7 @@ fn put_pred_apps(text: &mut [u8; 65536], n: usize, apps: PredApps) -> usize {
     at
 }
 
-fn put_vars(text: &mut [u8; 65536], n: usize, vars: VarEls) -> usize {
+fn put_vars(text: &mut [u8; MAX_TEXT], n: usize, vars: VarEls) -> usize {
     let mut at = n;
     for i in 0..Structure::MAX_VARS {
         let slot = vars.slots[i];
@@ -216,7 +218,7 @@ fn put_vars(text: &mut [u8; 65536], n: usize, vars: VarEls) -> usize {
     at
 }
 
-fn put_ambients(text: &mut [u8; 65536], n: usize, ambients: AmbientEls) -> usize {
+fn put_ambients(text: &mut [u8; MAX_TEXT], n: usize, ambients: AmbientEls) -> usize {
     let mut at = n;
     for i in 0..Signature::MAX_TYPES {
         let slot = ambients.slots[i];
@@ -228,7 +230,7 @@ fn put_ambients(text: &mut [u8; 65536], n: usize, ambients: AmbientEls) -> usize
     at
 }
 
-fn put_pairs(text: &mut [u8; 65536], n: usize, pairs: Pairs) -> usize {
+fn put_pairs(text: &mut [u8; MAX_TEXT], n: usize, pairs: Pairs) -> usize {
     let mut at = n;
     let k = pairs.size();
     for i in 0..k {
@@ -238,7 +240,7 @@ fn put_pairs(text: &mut [u8; 65536], n: usize, pairs: Pairs) -> usize {
     at
 }
 
-fn put_impositions(text: &mut [u8; 65536], n: usize, impositions: Impositions) -> usize {
+fn put_impositions(text: &mut [u8; MAX_TEXT], n: usize, impositions: Impositions) -> usize {
     let mut at = n;
     let k = impositions.size();
     for i in 0..k {
@@ -248,7 +250,7 @@ fn put_impositions(text: &mut [u8; 65536], n: usize, impositions: Impositions) -
     at
 }
 
-fn put_structure(text: &mut [u8; 65536], n: usize, s: Structure) -> usize {
+fn put_structure(text: &mut [u8; MAX_TEXT], n: usize, s: Structure) -> usize {
     let u = s.unification;
     let marks = s.inferred_parent_els;
     let facts = s.els;
@@ -268,7 +270,7 @@ fn put_structure(text: &mut [u8; 65536], n: usize, s: Structure) -> usize {
     put_line(text, g, pair_line(b"s", bit(s.started), bit(s.settled)))
 }
 
-fn put_dump(text: &mut [u8; 65536], n: usize, machine: Machine, dumps: bool) -> usize {
+fn put_dump(text: &mut [u8; MAX_TEXT], n: usize, machine: Machine, dumps: bool) -> usize {
     if !dumps {
         return n;
     }
@@ -366,7 +368,7 @@ pub struct Printed {
 }
 
 // Kind 101: the only one of the calls that no sheet has which changes the machine.
-fn find_root(text: &mut [u8; 65536], n: usize, machine: Machine, given: Record) -> Printed {
+fn find_root(text: &mut [u8; MAX_TEXT], n: usize, machine: Machine, given: Record) -> Printed {
     let signature = machine.signature;
     let structure = machine.structure;
     let rooting = structure.root(ElId(given.a));
@@ -381,7 +383,7 @@ fn find_root(text: &mut [u8; 65536], n: usize, machine: Machine, given: Record) 
     }
 }
 
-fn put_conflicts(text: &mut [u8; 65536], n: usize, found: TypeConflicts) -> usize {
+fn put_conflicts(text: &mut [u8; MAX_TEXT], n: usize, found: TypeConflicts) -> usize {
     let mut at = n;
     let k = found.size();
     for i in 0..k {
@@ -404,7 +406,7 @@ fn answer_line(answer: Answer, listed: u16) -> Line {
 }
 
 // A record of a list as a sheet has it.
-fn carry_out(text: &mut [u8; 65536], n: usize, machine: Machine, given: Record) -> Printed {
+fn carry_out(text: &mut [u8; MAX_TEXT], n: usize, machine: Machine, given: Record) -> Printed {
     let carried = carrying::carry_out(machine, given);
     let answer = carried.answer;
     let conflicts = carried.conflicts;
@@ -417,7 +419,7 @@ fn carry_out(text: &mut [u8; 65536], n: usize, machine: Machine, given: Record) 
 }
 
 // A record of a list.
-fn respond(text: &mut [u8; 65536], n: usize, machine: Machine, given: Record) -> Printed {
+fn respond(text: &mut [u8; MAX_TEXT], n: usize, machine: Machine, given: Record) -> Printed {
     let kind = given.kind;
     match kind {
         101 => find_root(text, n, machine, given),
@@ -479,7 +481,7 @@ fn read_sheet(bytes: &mut [u8; Record::MAX_BYTES], length: usize) -> usize {
 }
 
 // Prints the structure after the last piece of a record that was carried out.
-fn put_dump_after(text: &mut [u8; 65536], n: usize, progress: Progress, dumps: bool) -> usize {
+fn put_dump_after(text: &mut [u8; MAX_TEXT], n: usize, progress: Progress, dumps: bool) -> usize {
     let stage = progress.stage;
     let machine = progress.machine;
     match stage {
@@ -493,7 +495,7 @@ fn put_dump_after(text: &mut [u8; 65536], n: usize, progress: Progress, dumps: b
 
 fn run_sheet(
     bytes: &[u8; Record::MAX_BYTES],
-    text: &mut [u8; 65536],
+    text: &mut [u8; MAX_TEXT],
     n: usize,
     length: usize,
     dumps: bool,
@@ -518,7 +520,7 @@ fn run_sheet(
 // The record at the start of the bytes, as one of a list.
 fn run_record(
     bytes: &[u8; Record::MAX_BYTES],
-    text: &mut [u8; 65536],
+    text: &mut [u8; MAX_TEXT],
     n: usize,
     machine: Machine,
     dumps: bool,
@@ -534,7 +536,7 @@ fn run_record(
 // The records of a list, and then the bytes that are no whole record.
 fn run_list(
     bytes: &mut [u8; Record::MAX_BYTES],
-    text: &mut [u8; 65536],
+    text: &mut [u8; MAX_TEXT],
     n: usize,
     length: usize,
     dumps: bool,
@@ -557,7 +559,7 @@ fn run_list(
 
 fn run_entry(
     bytes: &mut [u8; Record::MAX_BYTES],
-    text: &mut [u8; 65536],
+    text: &mut [u8; MAX_TEXT],
     n: usize,
     mode: usize,
     length: usize,
@@ -593,7 +595,7 @@ const HEADER: usize = 8;
 // More entries than a stream has: a loop has to end.
 const MAX_ENTRIES: u64 = 1000000000;
 
-fn run_stream(bytes: &mut [u8; Record::MAX_BYTES], text: &mut [u8; 65536]) -> usize {
+fn run_stream(bytes: &mut [u8; Record::MAX_BYTES], text: &mut [u8; MAX_TEXT]) -> usize {
     let mut at: usize = 0;
     for i in 0..MAX_ENTRIES {
         if read(bytes, HEADER) != HEADER {
@@ -611,7 +613,7 @@ fn run_stream(bytes: &mut [u8; Record::MAX_BYTES], text: &mut [u8; 65536]) -> us
 
 fn main() {
     let mut bytes = [0u8; Record::MAX_BYTES];
-    let mut text = [0u8; 65536];
+    let mut text = [0u8; MAX_TEXT];
     let n = run_stream(&mut bytes, &mut text);
     flush(&text, n);
 }
