@@ -94,7 +94,7 @@ fn clamped(n: u16) -> u16
 }
 
 // The first n of the slots.
-fn types_in(slots: [u16; 4], n: u16) -> TypeIds
+fn types_in(slots: [u16; TypeIds::MAX_LEN], n: u16) -> TypeIds
     ensures { λ r. ⌜ givenTypes r ≡ take n slots ⌝ }
 {
     TypeIds {
@@ -108,7 +108,7 @@ fn types_in(slots: [u16; 4], n: u16) -> TypeIds
     }
 }
 
-fn els_in(slots: [u16; 4], n: u16) -> ElIds
+fn els_in(slots: [u16; ElIds::MAX_LEN], n: u16) -> ElIds
     ensures { λ r. ⌜ givenEls r ≡ take n slots ⌝ }
 {
     ElIds {

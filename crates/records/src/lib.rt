@@ -1,4 +1,5 @@
 // Records of a sheet: 16 words each, and what the words of each kind may hold.
+use ids::ElIds;
 ghost use mathlib.Core.Path.{_≡_};
 ghost use Prim.Native.Nat.{_<_};
 ghost use lib.ListN.{drop, getD};
@@ -13,8 +14,8 @@ pub struct Record {
     pub b: u16,
     pub parent_count: u16,
     pub arg_count: u16,
-    pub parents: [u16; 4],
-    pub args: [u16; 4],
+    pub parents: [u16; ElIds::MAX_LEN],
+    pub args: [u16; ElIds::MAX_LEN],
     // Words 14 and 15.
     pub rest: [u16; 2],
 }
@@ -79,11 +80,11 @@ pub fn record_at(bytes: &[u8; Record::MAX_BYTES], index: u16) -> Record
 }
 
 // Whether the slots from n on are zero.
-fn is_clear(slots: [u16; 4], n: u16) -> bool
+fn is_clear(slots: [u16; ElIds::MAX_LEN], n: u16) -> bool
     ensures { λ r. ⌜ r ≡ allZero (drop n slots) ⌝ }
 {
     let start = n as usize;
-    for i in start..4usize {
+    for i in start..ElIds::MAX_LEN {
         if slots[i] != 0 {
             return false;
         }
@@ -92,7 +93,7 @@ fn is_clear(slots: [u16; 4], n: u16) -> bool
 }
 
 // Whether a list has from `least` to `most` entries, and its other slots are zero.
-fn list_fits(slots: [u16; 4], n: u16, least: u16, most: u16) -> bool
+fn list_fits(slots: [u16; ElIds::MAX_LEN], n: u16, least: u16, most: u16) -> bool
     ensures { λ r. ⌜ r ≡ listWithin least most n slots ⌝ }
 {
     if n < least {
@@ -107,6 +108,9 @@ fn list_fits(slots: [u16; 4], n: u16, least: u16, most: u16) -> bool
 impl Record {
     // The bound of a word that may hold any number.
     const ANY: u16 = 65535;
+
+    // The most entries of a list.
+    const LIST: u16 = ElIds::MAX_LEN as u16;
 
     // Whether A and B are at most two numbers, there are at most `parents` parents and from `least` to `most` arguments,
     // and every slot that is not used is zero.
@@ -144,18 +148,18 @@ impl Record {
         match kind {
             1 => {
                 if self.a == 3 {
-                    return self.is_within(3, Record::ANY, 4, 0, 0);
+                    return self.is_within(3, Record::ANY, Record::LIST, 0, 0);
                 }
-                self.is_within(3, 0, 4, 0, 0)
+                self.is_within(3, 0, Record::LIST, 0, 0)
             }
-            2 => self.is_within(0, 0, 4, 0, 4),
-            3 => self.is_within(0, Record::ANY, 4, 0, 4),
+            2 => self.is_within(0, 0, Record::LIST, 0, Record::LIST),
+            3 => self.is_within(0, Record::ANY, Record::LIST, 0, Record::LIST),
             4 => self.is_within(Record::ANY, Record::ANY, 0, 4, 4),
             5 => self.is_within(Record::ANY, 0, 0, 2, 2),
             6 => self.is_within(1, 0, 0, 0, 0),
-            8 => self.is_within(Record::ANY, Record::ANY, 4, 0, 0),
-            9 => self.is_within(Record::ANY, Record::ANY, 4, 0, 4),
-            10 => self.is_within(Record::ANY, 0, 4, 0, 4),
+            8 => self.is_within(Record::ANY, Record::ANY, Record::LIST, 0, 0),
+            9 => self.is_within(Record::ANY, Record::ANY, Record::LIST, 0, Record::LIST),
+            10 => self.is_within(Record::ANY, 0, Record::LIST, 0, Record::LIST),
             7 | 11..=12 => self.is_within(Record::ANY, Record::ANY, 0, 0, 0),
             13..=14 => self.is_within(0, 0, 0, 0, 0),
             _ => false,
