@@ -129,9 +129,6 @@ module _ (xs : List ℕ) (n i : ℕ) (h : i < n / recordBytes) where
       (ap (take recordBytes) (drop-take (recordBytes * i) n xs)
       ∙ take-take recordBytes (n - recordBytes * i) (drop (recordBytes * i) xs) (omega (arith, room)))
 
-  pub sheet-record-in : n ≤ recordBytes * maxRecords → recordIn xs i ≡ recordAt (take n xs) i
-  sheet-record-in most = record-in xs i (omega (arith, room)) ∙ sym sheet-record
-
 -- Slots from an index on.
 
 module _ {R : Bool} (xs : List ℕ) (i : ℕ) (so-far : allZero (drop i xs) ≡ R) where

@@ -9,7 +9,6 @@ use carrying::Answer;
 use carrying::Machine;
 use conflicts::TypeConflicts;
 use equalities::Pairs;
-use facts::ConcreteType;
 use facts::Fact;
 use facts::Facts;
 use facts::Impositions;

@@ -85,9 +85,6 @@ module _ (ls : List ℕ) where
   pub root-root : (e : ℕ) → rootOf ls (rootOf ls e) ≡ rootOf ls e
   root-root e = root-stop ls (rootOf ls e) (root-ends e)
 
-  pub root-lt : (e : ℕ) → e < length ls → rootOf ls e < length ls
-  root-lt e h = omega (arith, root-le e)
-
   pub depth-le : (e : ℕ) → depthOf ls e ≤ e
   depth-le =
       along ls (λ e. depthOf ls e ≤ e) (λ e h. omega (arith, depth-stop ls e h)) (λ e h ih. omega (arith, depth-pass ls e h))

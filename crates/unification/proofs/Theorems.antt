@@ -10,7 +10,7 @@ use lib.Seq.{set-out, getD-at}
 use Rattle.ids.proofs.Tables.{push-room, push-full}
 use Rattle.unification.specs.Roots.{maxEls, link, rootOf, depthOf, shortOf, mergedOf, addedOf, Formed, Walk, ends, goes}
 use Rattle.unification.proofs.Numbers.{less-or, same-or, strong}
-use Rattle.unification.proofs.Laws.{along, link-same, link-other, root-le, root-ends, root-lt, root-stop, root-pass, root-set}
+use Rattle.unification.proofs.Laws.{along, link-same, link-other, root-le, root-ends, root-stop, root-pass, root-set}
 use Rattle.unification.proofs.Laws.{depth-le, depth-stop, depth-pass, short-stop, short-pass, short-first, merged-less}
 use Rattle.unification.proofs.Laws.{merged-more, merged-same, merged-swap, joined, joined-at, joined-other, root-merged}
 use Rattle.unification.proofs.Arrays.{link-past}
