@@ -321,7 +321,7 @@ impl PredApps {
         next
     }
 
-    // Inserts an application is not there yet.
+    // Inserts an application that is not there yet.
     pub fn insert(self, entry: PredApp) -> InsertedPredApp
         ensures { λ r. ⌜ insertedPredApp r ≡ insertOf comparePredApp (predAppOf entry) maxPredApps (predAppsOf self) ⌝ }
     {

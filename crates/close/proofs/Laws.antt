@@ -147,7 +147,7 @@ module _ (g : Sig) (preds : List PredApp) where
   abbrev pub ended : types.Core → List FuncApp → ℕ → closing.Rounds
   ended core apps count = record { core = core; apps = apps; count = count }
 
-  -- The rounds on their way: `count` ran and left `core` and `apps`, and `again` says whether another follows.
+  -- The rounds in progress: `count` ran and left `core` and `apps`, and `again` says whether another follows.
   pub record Going (whole : closing.Rounds) (core : types.Core) (apps : List FuncApp) (again : Bool) (count : ℕ) : Type 0 where
     pub few : count ≤ suc fuel
     pub more : again ≡ true → (k : ℕ) → k + count ≡ fuel → after count (roundsFrom k g preds (closing.round g preds apps core)) ≡ whole

@@ -217,12 +217,14 @@ pub fn close(structure: Structure, signature: Signature) -> Closing
     let again = 1 < ran.count;
     let grew = counted(imposed.merges, imposed.added);
     let changed = or(again, grew);
+    let merges = ran.merges + imposed.merges;
+    let rounds = ran.count;
     let closed = canonicalise_refs(with_core(structure, core, rewritten));
     Closing {
         answer: CloseAnswer::Closed(Closed {
             changed,
-            merges: ran.merges + imposed.merges,
-            rounds: ran.count,
+            merges,
+            rounds,
         }),
         structure: closed.accept(!changed),
     }

@@ -1,4 +1,4 @@
--- Laws of passes on their way: how a pass begins, takes a step, and what it is said to do.
+-- Laws of passes in progress: how a pass begins, takes a step, and what it is said to do.
 use mathlib.Core.Path.{_≡_, refl, ap, _∙_}
 use Prim.Native.Nat.{ℕ, _+_, _*_, _≤_}
 use native.Mathlib.Nat.{add-mul}

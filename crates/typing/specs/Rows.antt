@@ -1,4 +1,5 @@
--- The demands of a typing pass in rows: row k of n + m + n, for n function and m predicate applications. The first n are the arguments of
+-- The demands of a typing pass in rows; they serve the proofs, and `typing` itself is stated over `demands`.
+-- The rows: row k of n + m + n, for n function and m predicate applications. The first n are the arguments of
 -- the function applications, then come those of the predicate applications, then the results.
 use Prim.Native.Nat.{ℕ, _+_, _≤_, _<_}
 use mathlib.Core.Path.{_≡_}

@@ -217,7 +217,7 @@ impl Unification {
     }
 }
 
-// The root of `el`, with the path shortened in the table that is lent.
+// The root of `el`, with the path shortened in the table that is lent. A number that is no element is its own root.
 // A function that takes `&mut` of a struct is proved by hand, so this one only takes the table out and stores it back.
 pub fn root(unification: &mut Unification, el: ElId) -> Find
     ensures { λ r. ⌜ record { find = found r; links = linksOf (now (unification .exit)) }

@@ -71,17 +71,17 @@ counted-requires c κs = search needs
 or-requires : tie.Need-or-requires
 or-requires c κs = search needs
 
+add-merges : tie.Need-add-merges
+add-merges c =
+    let at = c .before .before .before .before .before .before in
+    let r = running at .rounds .ensures in
+    search (needs, r .count-most, r .merges-most, fuel-is, imposing at .apply-pending-type-impositions .ensures .merges-most)
+
 with-core-requires : tie.Need-with-core-requires
 with-core-requires c κs = search needs
 
 canonicalise-refs-requires : tie.Need-canonicalise-refs-requires
 canonicalise-refs-requires c κs = search needs
-
-add-t20 : tie.Need-add-t20
-add-t20 c =
-    let at = c .before .before .before .before .before .before .before .before in
-    let r = running at .rounds .ensures in
-    search (needs, r .count-most, r .merges-most, fuel-is, imposing at .apply-pending-type-impositions .ensures .merges-most)
 
 accept-requires : tie.Need-accept-requires
 accept-requires c κs = search needs
@@ -89,9 +89,9 @@ accept-requires c κs = search needs
 returns-2 : tie.Need-returns-2
 unfolding withCore
 returns-2 c =
-    let refs = c .before .before .before in
+    let refs = c .before in
     let cored = refs .before in
-    let changing = cored .before in
+    let changing = cored .before .before .before in
     let e1 = changing .before .before .before in
     let at = e1 .before in
     let a = start at .before .args in
@@ -115,8 +115,8 @@ close-spec =
     returns
     counted-requires
     or-requires
+    add-merges
     with-core-requires
     canonicalise-refs-requires
-    add-t20
     accept-requires
     returns-2)
