@@ -68,29 +68,31 @@ fn read_sheet(bytes: &mut [u8; Record::MAX_BYTES]) -> Input {
     Input::Bytes(over)
 }
 
-// The text to write: the first n bytes of an array.
+// The text to write: the first n bytes of an array. So many are gathered before they are written.
+
+const MAX_TEXT: usize = 65536;
 
 fn write_first(text: &[u8], n: usize) -> bool {
-    if 65536 < n {
+    if MAX_TEXT < n {
         return true;
     }
     let m = io::count(n as isize, text);
     io::write_all(STDOUT_FILENO, &text[..m])
 }
 
-fn flush(text: &[u8; 65536], n: usize) -> bool {
+fn flush(text: &[u8; MAX_TEXT], n: usize) -> bool {
     write_first(text, n)
 }
 
-fn put(text: &mut [u8; 65536], n: usize, b: u8) -> usize {
-    if 65536 <= n {
+fn put(text: &mut [u8; MAX_TEXT], n: usize, b: u8) -> usize {
+    if MAX_TEXT <= n {
         return n;
     }
     text[n] = b;
     n + 1
 }
 
-fn put_line(text: &mut [u8; 65536], n: usize, line: Line) -> usize {
+fn put_line(text: &mut [u8; MAX_TEXT], n: usize, line: Line) -> usize {
     let size = line.size();
     let mut at = n;
     for i in 0..size {
@@ -100,7 +102,7 @@ fn put_line(text: &mut [u8; 65536], n: usize, line: Line) -> usize {
 }
 
 // The pieces of a sheet, from the first to the last; false where a write failed.
-fn run(bytes: &[u8; Record::MAX_BYTES], text: &mut [u8; 65536], length: usize) -> bool {
+fn run(bytes: &[u8; Record::MAX_BYTES], text: &mut [u8; MAX_TEXT], length: usize) -> bool {
     let mut progress = sheet::start(length);
     let mut n: usize = 0;
     for i in 0..Progress::MAX_PIECES {
@@ -113,7 +115,7 @@ fn run(bytes: &[u8; Record::MAX_BYTES], text: &mut [u8; 65536], length: usize) -
         let next = piece.progress;
         progress = next;
         n = put_line(text, n, line);
-        if 65536 - Line::MAX_LEN < n {
+        if MAX_TEXT - Line::MAX_LEN < n {
             if !flush(text, n) {
                 return false;
             }
@@ -125,7 +127,7 @@ fn run(bytes: &[u8; Record::MAX_BYTES], text: &mut [u8; 65536], length: usize) -
 
 fn main() {
     let mut bytes = [0u8; Record::MAX_BYTES];
-    let mut text = [0u8; 65536];
+    let mut text = [0u8; MAX_TEXT];
     let input = read_sheet(&mut bytes);
     match input {
         Input::Bytes(length) => {

@@ -1,20 +1,19 @@
 -- Laws of an imposing that changes nothing.
 use mathlib.Core.Path.{_≡_, refl, sym, ap, _∙_}
-use mathlib.Core.Logic.{⊎-elim}
 use mathlib.Core.Bool.{Bool, true, false, not, _&&_, _||_}
 use mathlib.Core.List.{List, [], _∷_}
-use Prim.Native.Nat.{ℕ, _+_, _*_, _≤_, _<_}
+use Prim.Native.Nat.{ℕ, zero, suc, _+_, _*_, _≤_, _<_}
 use native.Mathlib.Nat.{add-mul}
+use native.Mathlib.Numerals.{add-one}
 use native.Mathlib.Omega.{arith}
-use lib.ListN.{length, take, drop, getD, length-take, List·getD-eq-default}
-use lib.Seq.{getD-take}
+use lib.ListN.{length, take, drop, getD, length-take, drop-of-length-le}
+use lib.Seq.{getD-take, drop-cons}
 use lib.Dec.{eqb}
 use Rattle.ids.specs.declared.Ordering.{Ordering}
 use Rattle.ids.specs.declared.Ordering.the-variants.{Less, Equal, Greater}
 use Rattle.ids.specs.Table.{present}
 use Rattle.ids.proofs.Answers.{and-right}
 use Rattle.unification.specs.Roots.{rootOf}
-use Rattle.unification.proofs.Numbers.{less-or}
 use Rattle.semantics.specs.Structure.{Fact, compareFact, canonicalFact}
 use Rattle.semantics.specs.Types as types
 use Rattle.semantics.specs.Types.{imposeAll, marked, refineRoots, refine, refineParents, refineAll, insertFact, insertCanonical}
@@ -25,25 +24,31 @@ use Rattle.facts.specs.View.{factOf, impositionsOf}
 use Rattle.merging.specs.declared.Core.{Core}
 use Rattle.merging.specs.View.{coreOf, Toward}
 use Rattle.merging.proofs.Laws.{leaves-here}
+use Rattle.imposing.specs.Idle.{anyMarked}
 use Rattle.imposing.proofs.Laws.{impositions-next}
 
--- The search for a mark, by the elements that it passed.
+-- A search for a mark that has come to the element i.
+module _ (ms : List Bool) (n i : ℕ) (so-far : anyMarked (drop i (take n ms)) ≡ anyMarked (take n ms)) where
+  module _ (there : i < length (take n ms)) where
+    next-mark : (getD ms i false || anyMarked (drop (i + 1) (take n ms))) ≡ anyMarked (take n ms)
+    unfolding anyMarked
+    next-mark =
+        let used : i < n = omega (arith, length-take n ms) in
+        let more : drop i (take n ms) ≡ getD (take n ms) i false ∷ drop (i + 1) (take n ms) = rw add-one (drop-cons (take n ms) i false there) in
+        ap (λ (b : Bool). b || anyMarked (drop (i + 1) (take n ms))) (sym (getD-take n ms i false used))
+        ∙ ap anyMarked (sym more)
+        ∙ so-far
 
-pub unmarked-next : (ms : List Bool) (i : ℕ) → ((e : ℕ) → e < i → getD ms e false ≡ false) → getD ms i false ≡ false
-    → (e : ℕ) → e < i + 1 → getD ms e false ≡ false
-unmarked-next ms i so-far h e l =
-    ⊎-elim (so-far e) (λ g. let same : e ≡ i = omega arith in ap (λ (k : ℕ). getD ms k false) same ∙ h) (less-or e i)
+    pub mark-found : getD ms i false ≡ true → true ≡ anyMarked (take n ms)
+    mark-found e = rw e at next-mark
 
-pub unmarked-all : (ms : List Bool) (n i : ℕ) → ((e : ℕ) → e < i → getD ms e false ≡ false) → length (take n ms) ≤ i
-    → (e : ℕ) → marked (take n ms) e ≡ false
-unmarked-all ms n i so-far h e =
-    ⊎-elim
-    (λ l. let used : e < n = omega (arith, length-take n ms) in
-    let first : e < i = omega (arith, h) in getD-take n ms e false used ∙ so-far e first)
-    (λ g. List·getD-eq-default (take n ms) false g)
-    (less-or e (length (take n ms)))
+    pub mark-past : getD ms i false ≡ false → anyMarked (drop (i + 1) (take n ms)) ≡ anyMarked (take n ms)
+    mark-past e = rw e at next-mark
 
--- a mark was found
+  pub marks-end : length (take n ms) ≤ i → false ≡ anyMarked (take n ms)
+  unfolding anyMarked
+  marks-end h = ap anyMarked (sym (drop-of-length-le (take n ms) {i = i} h)) ∙ so-far
+
 pub never : {A : Type 0} → true ≡ false → A
 never e = let z : _≡_ {A = ℕ} 0 1 = cc e in absurd (omega arith)
 
@@ -108,3 +113,11 @@ idle-here per i so-far e = leaves-here so-far (omega (arith, add-mul i 1 per)) e
 pub impositions-idle : (t : Impositions) (i : ℕ) (d : code.Fact) → i < length (impositionsOf t) → (w : types.Core)
     → impose (factOf (getD (t .items) i d)) w ≡ w → imposeAll (drop (i + 1) (impositionsOf t)) w ≡ imposeAll (drop i (impositionsOf t)) w
 impositions-idle t i d h w idle = ap (imposeAll (drop (i + 1) (impositionsOf t))) (sym idle) ∙ impositions-next t i d h w
+
+-- where no mark is set, no element is marked
+pub none-marked : (ms : List Bool) → anyMarked ms ≡ false → (e : ℕ) → marked ms e ≡ false
+unfolding anyMarked
+none-marked [] h e = refl
+none-marked (true ∷ ms) h e = never h
+none-marked (false ∷ ms) h zero = refl
+none-marked (false ∷ ms) h (suc e) = none-marked ms h e

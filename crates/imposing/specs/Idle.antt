@@ -1,17 +1,18 @@
--- What the tests before an imposing tell, where they tell something.
+-- What the tests before an imposing tell; those below the first tell something only where they say yes.
 use Prim.Native.Nat.{ℕ}
 use mathlib.Core.Path.{_≡_}
-use mathlib.Core.Bool.{Bool, true, false}
+use mathlib.Core.Bool.{Bool, true, false, _||_}
 use mathlib.Core.List.{List, [], _∷_}
 use Rattle.semantics.specs.Structure.{Fact}
 use Rattle.semantics.specs.Types as types
-use Rattle.semantics.specs.Types.{marked, refine, refineAll, concreteTypesOf, impose}
+use Rattle.semantics.specs.Types.{refine, refineAll, concreteTypesOf, impose}
 use Rattle.merging.specs.declared.Core.{Core}
 use Rattle.merging.specs.View.{coreOf}
 
--- where the test says no, no element is marked
-abbrev pub Unmarked : List Bool → Bool → Type 0
-Unmarked marks r = r ≡ false → (e : ℕ) → marked marks e ≡ false
+-- whether one of the marks is set
+unfoldable pub anyMarked : List Bool → Bool
+anyMarked [] = false
+anyMarked (m ∷ ms) = m || anyMarked ms
 
 -- no two parents, paired up to the shorter length, are merged
 unfoldable pub ParentsStay : List ℕ → List ℕ → types.Core → Type 0

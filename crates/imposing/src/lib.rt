@@ -20,7 +20,7 @@ ghost use Rattle.facts.specs.View.{factOf, factsOf, impositionsOf};
 ghost use Rattle.semantics.specs.Types.{refine, refineParents, refineAll, insertFact, impose, imposeAll};
 ghost use Rattle.merging.specs.View.{Passes};
 ghost use Rattle.imposing.specs.Bounds.{onePair, oneList, oneFact, oneImposed, allImpositions};
-ghost use Rattle.imposing.specs.Idle.{Unmarked, PairKept, ParentsKept, TypesKept, Idle};
+ghost use Rattle.imposing.specs.Idle.{anyMarked, PairKept, ParentsKept, TypesKept, Idle};
 
 // A pass that finds nothing to do.
 fn idle(core: Core) -> Worked
@@ -153,7 +153,7 @@ fn insert_fact(core: Core, fact: Fact) -> Worked
 
 // Whether an element in use is marked.
 pub fn any_marked(unification: Unification, marks: [bool; Unification::MAX_ELS]) -> bool
-    ensures { λ r. ⌜ Unmarked (take (unification .len) marks) r ⌝ }
+    ensures { λ r. ⌜ r ≡ anyMarked (take (unification .len) marks) ⌝ }
 {
     let n = unification.size();
     for i in 0..n {

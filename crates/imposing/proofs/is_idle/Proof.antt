@@ -3,7 +3,7 @@ use mathlib.Core.Path.{sym, _∙_}
 use borrow.Author.Tests.{not-true, not-false}
 use Rattle.facts.specs.View.{factOf}
 use Rattle.merging.specs.View.{coreOf}
-use Rattle.imposing.proofs.Nothing.{all-still, imposes-nothing, never}
+use Rattle.imposing.proofs.Nothing.{all-still, imposes-nothing, never, none-marked}
 use borrow.Author.Needs.{needs}
 use Rattle.imposing.proofs.is_idle.Statement.{statement}
 use Rattle.imposing.proofs.is_idle.Tie as tie
@@ -28,7 +28,7 @@ returns-2 c =
     let entry = asked .before .before .before in
     let a = entry .before .before .args in
     let f = factOf (a .fact) in
-    let none = marks .any-marked .ensures (not-true _ (c .if2 .taken)) in
+    let none = none-marked _ (sym (marks .any-marked .ensures) ∙ not-true _ (c .if2 .taken)) in
     let stored = sym (asked .before .holds .ensures) ∙ not-false _ (asked .if1 .left) in
     λ yes m n.
     let w = coreOf (a .core) m n in

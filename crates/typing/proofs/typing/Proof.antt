@@ -1,4 +1,6 @@
 -- `typing` meets its contract.
+use mathlib.Core.Path.{sym, _∙_}
+use Rattle.imposing.proofs.Nothing.{none-marked}
 use borrow.Author.Needs.{needs}
 use Rattle.typing.proofs.typing.Statement.{statement}
 use Rattle.typing.proofs.typing.Tie as tie
@@ -13,7 +15,7 @@ returns : tie.Need-returns
 returns c = search needs
 
 insert-demands-requires : tie.Need-insert-demands-requires
-insert-demands-requires c κs = c .before .any-marked .ensures (c .if1 .left)
+insert-demands-requires c κs = none-marked _ (sym (c .before .any-marked .ensures) ∙ c .if1 .left)
 
 returns-2 : tie.Need-returns-2
 returns-2 c = search needs
