@@ -1,5 +1,6 @@
 -- `put_ambients` is safe and ends.
 use Prim.Native.Nat.{_-_}
+use Rattle.signature.specs.Model.{maxTypes}
 use borrow.Author.Needs.{needs}
 use Rattle.replay.proofs.put_ambients.Statement.{statement}
 use Rattle.replay.proofs.put_ambients.Tie as tie
@@ -8,7 +9,7 @@ abbrev Inv-loop : tie.InvT-loop
 Inv-loop text₀ n ambients at₀ i₀ t8 text at i = Unit {0}
 
 abbrev μ-loop : tie.MeasureT-loop
-μ-loop text₀ n ambients at₀ i₀ t8 text at i = 32 - i
+μ-loop text₀ n ambients at₀ i₀ t8 text at i = maxTypes - i
 
 loop-holds : tie.Need-loop-holds Inv-loop μ-loop
 loop-holds c = tt

@@ -1,5 +1,6 @@
 -- `put_vars` is safe and ends.
 use Prim.Native.Nat.{_-_}
+use Rattle.semantics.specs.Structure.{maxVars}
 use borrow.Author.Needs.{needs}
 use Rattle.replay.proofs.put_vars.Statement.{statement}
 use Rattle.replay.proofs.put_vars.Tie as tie
@@ -8,7 +9,7 @@ abbrev Inv-loop : tie.InvT-loop
 Inv-loop text₀ n vars at₀ i₀ t8 text at i = Unit {0}
 
 abbrev μ-loop : tie.MeasureT-loop
-μ-loop text₀ n vars at₀ i₀ t8 text at i = 64 - i
+μ-loop text₀ n vars at₀ i₀ t8 text at i = maxVars - i
 
 loop-holds : tie.Need-loop-holds Inv-loop μ-loop
 loop-holds c = tt
