@@ -1,6 +1,8 @@
--- What holds of every signature and structure that calls can make (`calls-valid`, crate validity): numbers, orders and limits.
+-- What holds of every signature and structure that calls can make (`calls-valid`, crate validity): numbers, orders and limits, and what the
+-- numbers 4, 6 and 7 keep out.
 use Prim.Native.Nat.{ℕ, _≤_, _<_}
 use mathlib.Core.Path.{_≡_}
+use mathlib.Core.Bool.{true, false}
 use mathlib.Core.List.{List}
 use lib.ListN.{length}
 use Rattle.ids.specs.declared.Ordering.{Ordering}
@@ -9,10 +11,11 @@ use Rattle.ids.specs.Sorted.{All, Sorted}
 use Rattle.unification.specs.Roots.{maxEls, rootOf, Formed}
 use Rattle.signature.specs.Model.{Sig, Kind, plain, model, enum, mor, TypeM, PredM, FuncM, ModelM, MorAppM, maxTypes, maxPreds, maxFuncs}
 use Rattle.signature.specs.Model.{maxModels, maxMorApps}
-use Rattle.signature.specs.Calls.{functions}
+use Rattle.signature.specs.Calls.{functions, isModel}
 use Rattle.semantics.specs.Structure.{Fact, FuncApp, PredApp, Pair, Var, Ambient, Structure, maxPairs, maxImpositions, maxFuncApps}
 use Rattle.semantics.specs.Structure.{maxPredApps, maxFacts, maxVars, compareFact, compareFuncApp, comparePredApp, compareVar}
-use Rattle.semantics.specs.Structure.{compareAmbient}
+use Rattle.semantics.specs.Structure.{compareAmbient, empty}
+use Rattle.semantics.specs.Calls.{isReserved}
 
 -- every number of a list is below n
 abbrev pub Below : ℕ → List ℕ → Type 0
@@ -200,7 +203,22 @@ pub record ValidStructure (c : Counts) (s : Structure) : Type 0 where
   -- the impositions, in the order in which they were queued
   pub impositions : Queue (FactValid c) maxImpositions (s .impositions)
 
+-- it is no application of id, comp or a morphism application function, which number 7 refuses
+abbrev pub Unreserved : Sig → FuncApp → Type 0
+Unreserved g x = isReserved g (x .func) ≡ false
+
+-- its type is a Model: number 6 refuses any other
+abbrev pub OfModel : Sig → Ambient → Type 0
+OfModel g a = isModel g (a .typ) ≡ true
+
 -- both
 pub record Valid (g : Sig) (s : Structure) : Type 0 where
   pub sig : ValidSig g
   pub structure : ValidStructure (countsOf g s) s
+  -- "In our domain no application names a morphism application function or a model's id or comp"
+  pub unreserved : All (Unreserved g) (s .func-apps)
+  -- an ambient's type is a Model
+  pub of-models : All (OfModel g) (s .ambients)
+  -- number 4, "kinds 1 to 5 after any accepted of 6 to 14": while the signature may still grow nothing is stored, so that no later record makes
+  -- a stored application one of id, comp or a morphism application function
+  pub unstarted : s .started ≡ false → s ≡ empty

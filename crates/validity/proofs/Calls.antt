@@ -13,19 +13,18 @@ use Rattle.ids.specs.declared.Ordering.{Ordering}
 use Rattle.ids.specs.declared.Ordering.the-variants.{Less}
 use Rattle.ids.specs.Ids.{tooLong}
 use Rattle.ids.specs.Table.{present, placed, lookupOf}
-use Rattle.ids.proofs.Sorted.{all-map, all-at, Ordered, no-test, placed-all, placed-sorted, placed-present, placed-absent, lookup-sound}
+use Rattle.ids.proofs.Sorted.{All, all-map, all-at, Ordered, no-test, placed-all, placed-sorted, placed-present, placed-absent, lookup-sound}
 use Rattle.ids.proofs.Sorted.{keys-few}
 use Rattle.unification.specs.Roots as roots
 use Rattle.unification.specs.Roots.{maxEls, rootOf, shortOf, addedOf, Formed}
 use Rattle.unification.proofs.Laws.{short-length}
-use Rattle.unification.proofs.Theorems.{none-formed, added-formed, short-formed, short-root}
+use Rattle.unification.proofs.Theorems.{added-formed, short-formed, short-root}
 use Rattle.signature.specs.Model as signature
 use Rattle.signature.specs.Model.{Sig}
-use Rattle.signature.specs.Calls.{isType, isFunc}
+use Rattle.signature.specs.Calls.{isType, isFunc, isModel}
 use Rattle.semantics.specs.Structure.{Fact, FuncApp, PredApp, Pair, Var, Ambient, Structure, empty, maxPairs, maxImpositions, maxFuncApps}
 use Rattle.semantics.specs.Structure.{maxPredApps, maxVars, compareFuncApp, comparePredApp, compareVar, compareAmbient, canonicalFact}
 use Rattle.semantics.specs.Structure.{canonicalFuncApp, with-links, with-marks, with-pairs, with-func-apps, with-impositions}
-use Rattle.semantics.specs.Close as closing
 use Rattle.semantics.specs.Calls as calls
 use Rattle.semantics.specs.Calls.{isEl, areEls, isPred, pushEl, equate, equateEls, isImposed, imposeType, appliedEqual, applyAt}
 use Rattle.semantics.specs.Calls.{insertFuncAppOrEquate, applyWith, applyFunc, applyPred, bindVar, bindAmbient, conflicts, Applied}
@@ -33,7 +32,7 @@ use Rattle.semantics.specs.Calls.{Machine, Call, push-type, push-pred, push-fun
 use Rattle.semantics.specs.Calls.{impose-type, apply-func, apply-pred, bind-var, bind-ambient, close, type-conflicts, root, root-const}
 use Rattle.semantics.specs.Calls.{lookup-type, ambient-parents, step, start}
 use Rattle.semantics.specs.Valid.{Counts, countsAt, countsOf, FactValid, FuncAppValid, PredAppValid, VarValid, AmbientValid, OnRoot}
-use Rattle.semantics.specs.Valid.{Table, ValidStructure, Valid}
+use Rattle.semantics.specs.Valid.{Table, ValidStructure, Unreserved, OfModel, Valid}
 use Rattle.semantics.proofs.Orders.{func-app-ordered, pred-app-ordered, var-ordered, ambient-ordered, order-less}
 use Rattle.semantics.proofs.Cases.{test, and-first, and-second, or-first, or-second}
 use Rattle.semantics.proofs.Links.{length-push, added-is, root-push}
@@ -45,24 +44,7 @@ use Rattle.validity.proofs.Growing.{More, table-more, queue-more, queue
 use Rattle.validity.proofs.Growing.{var-more, ambient-more, counted}
 use Rattle.validity.proofs.Replacing.{accept-valid, links-valid, pairs-valid, impositions-valid, func-apps-valid, pred-apps-valid}
 use Rattle.validity.proofs.Replacing.{vars-valid, ambients-valid}
-use Rattle.validity.proofs.Signatures.{empty-sig, type-valid, pred-valid, func-valid, model-valid, mor-app-valid}
-
-pub empty-valid : (g : Sig) → ValidStructure (countsAt g 0) empty
-unfolding empty
-empty-valid g = record {
-  els = refl;
-  els-most = omega arith;
-  links = none-formed;
-  marks = refl;
-  facts = record { each = tt; sorted = tt; most = omega arith };
-  facts-rooted = tt;
-  func-apps = record { each = tt; sorted = tt; most = omega arith };
-  pred-apps = record { each = tt; sorted = tt; most = omega arith };
-  vars = record { each = tt; sorted = tt; most = omega arith };
-  ambients = record { each = tt; sorted = tt; most = omega arith };
-  pairs = record { each = tt; most = omega arith };
-  impositions = record { each = tt; most = omega arith };
-}
+use Rattle.validity.proofs.Signatures.{empty-sig, empty-valid, type-valid, pred-valid, func-valid, model-valid, mor-app-valid}
 
 -- one entry placed in a table that has room for it, or has it
 table-place : {A : Type 0} {P : A → Type 0} {cmp : A → A → Ordering} {limit : ℕ} → Ordered cmp → (x : A) (l : List A) → P x → Table P cmp limit l
@@ -96,13 +78,20 @@ module _ (g : Sig) (s : Structure) (v : Valid g s) where
   abbrev vs : ValidStructure c s
   vs = v .structure
 
-  -- a structure of as many elements
-  over : (t : Structure) → ValidStructure c t → Valid g t
-  over t h = record { sig = v .sig; structure = counted g (length (s .links)) t h }
+  -- an accepted call, where there are n elements now
+  accepted : (n : ℕ) (t : Structure) → ValidStructure (countsAt g n) t → All (Unreserved g) (t .func-apps) → All (OfModel g) (t .ambients)
+      → Valid g (calls.accepting t)
+  accepted n t h a m = record {
+    sig = v .sig;
+    structure = counted g n (calls.accepting t) (accept-valid (countsAt g n) t h (t .settled));
+    unreserved = a;
+    of-models = m;
+    unstarted = λ q. no-test refl q;
+  }
 
-  -- an accepted call
-  accepts : (t : Structure) → ValidStructure c t → Valid g (calls.accepting t)
-  accepts t h = over (calls.accepting t) (accept-valid c t h (t .settled))
+  -- one that adds no element
+  accepts : (t : Structure) → ValidStructure c t → All (Unreserved g) (t .func-apps) → All (OfModel g) (t .ambients) → Valid g (calls.accepting t)
+  accepts t h a m = accepted (length (s .links)) t h a m
 
   -- Kind 6.
 
@@ -134,11 +123,7 @@ module _ (g : Sig) (s : Structure) (v : Valid g s) where
   el-valid mark = outcome-keeps (Valid g) _ s _ _ v (λ no.
       let few = leb-false maxEls (length (s .links)) (no .0) in
       let t = with-links (addedOf (s .links)) (with-marks (s .marks ++ (mark ∷ [])) s) in
-      let d = countsAt g (suc (length (s .links))) in
-      record {
-        sig = v .sig;
-        structure = counted g (suc (length (s .links))) (calls.accepting t) (accept-valid d t (added-valid mark few) (t .settled));
-      })
+      accepted (suc (length (s .links))) t (added-valid mark few) (v .unreserved) (v .of-models))
 
   -- Kind 7.
 
@@ -162,7 +147,8 @@ module _ (g : Sig) (s : Structure) (v : Valid g s) where
   equality-valid a b = outcome-keeps (Valid g) _ s _ _ v (λ no.
       let d = not-false (isEl s a && isEl s b) (no .0) in
       accepts _ (equated a b (ltb-true a (length (s .links)) (and-first (isEl s a) (isEl s b) d))
-      (ltb-true b (length (s .links)) (and-second (isEl s a) (isEl s b) d)) (leb-false maxPairs (length (s .pairs)) (no .1 .0))))
+      (ltb-true b (length (s .links)) (and-second (isEl s a) (isEl s b) d)) (leb-false maxPairs (length (s .pairs)) (no .1 .0)))
+      (v .unreserved) (v .of-models))
 
   -- Kind 8.
 
@@ -184,10 +170,10 @@ module _ (g : Sig) (s : Structure) (v : Valid g s) where
 
       go : FactValid c f → (b : Bool) → isImposed entry (s .impositions) ≡ b → (not b && leb maxImpositions (length (s .impositions))) ≡ false
           → Valid g (calls.accepting (elim b [ true ↦ s | false ↦ with-impositions (s .impositions ++ (entry ∷ [])) s ]))
-      go new true e t = accepts s vs
+      go new true e t = accepts s vs (v .unreserved) (v .of-models)
       go new false e t = accepts _ (impositions-valid c s vs (s .impositions ++ (entry ∷ []))
           (queue-push (λ x k. k) maxImpositions (s .impositions) entry (vs .impositions) (leb-false maxImpositions (length (s .impositions)) t)
-          (canonical-valid c (s .links) f new)))
+          (canonical-valid c (s .links) f new))) (v .unreserved) (v .of-models)
 
   -- Kind 9.
 
@@ -220,6 +206,24 @@ module _ (g : Sig) (s : Structure) (v : Valid g s) where
         go true t = vs
         go false t = (unfold appliedEqual in equated (y .result) (x .result) (old .result) (new .result) (leb-false maxPairs (length (s .pairs)) t))
 
+  -- roots are taken of its parents, arguments and result, and its function stays
+  canonical-unreserved : (x : FuncApp) → Unreserved g x → Unreserved g (canonicalFuncApp (s .links) x)
+  unfolding canonicalFuncApp
+  canonical-unreserved x h = h
+
+  applied-unreserved : (x : FuncApp) → Unreserved g x → (o : Option FuncApp)
+      → All (Unreserved g) (applyAt o x (s .links) (s .pairs) (s .func-apps) .apps)
+  unfolding applyAt appliedEqual
+  applied-unreserved x h none = placed-all compareFuncApp x (Unreserved g) (s .func-apps) h (v .unreserved)
+  applied-unreserved x h (some y) = go (eqb (y .result) (x .result))
+    where
+      go : (b : Bool) → All (Unreserved g) ((elim b as (λ _. Applied) [
+        | true ↦ record { links = s .links; pairs = s .pairs; apps = s .func-apps; yes = false; full = false }
+        | false ↦ appliedEqual (equate (s .links) (s .pairs) (y .result) (x .result)) (s .pairs) (s .func-apps)
+      ]) .apps)
+      go true = v .unreserved
+      go false = v .unreserved
+
   pub application-valid : (x : FuncApp) → Valid g (applyFunc g s x .left)
   unfolding applyFunc applyWith insertFuncAppOrEquate
   application-valid x = outcome-keeps (Valid g) _ s _ _ v (λ no.
@@ -238,7 +242,9 @@ module _ (g : Sig) (s : Structure) (v : Valid g s) where
         result = ltb-true (x .result) (length (s .links)) (and-second (areEls s (x .args)) results f);
       } in
       let y = canonicalFuncApp (s .links) x in
-      accepts _ (applied y (canonical-entry c (s .links) x new .valid) (lookupOf compareFuncApp y (s .func-apps)) refl (no .1 .1 .1 .0)))
+      let o = lookupOf compareFuncApp y (s .func-apps) in
+      accepts _ (applied y (canonical-entry c (s .links) x new .valid) o refl (no .1 .1 .1 .0))
+      (applied-unreserved y (canonical-unreserved x (no .1 .1 .0)) o) (v .of-models))
 
   -- Kind 10.
 
@@ -257,7 +263,8 @@ module _ (g : Sig) (s : Structure) (v : Valid g s) where
       } in
       let full = leb maxPredApps (length (s .pred-apps)) in
       accepts _ (pred-apps-valid c s vs (placed comparePredApp x (s .pred-apps)) (table-place pred-app-ordered x (s .pred-apps) new (vs .pred-apps)
-      (λ e. leb-false maxPredApps (length (s .pred-apps)) (room-if (present comparePredApp x (s .pred-apps)) full (no .1 .1 .0) e)))))
+      (λ e. leb-false maxPredApps (length (s .pred-apps)) (room-if (present comparePredApp x (s .pred-apps)) full (no .1 .1 .0) e))))
+      (v .unreserved) (v .of-models))
 
   -- Kinds 11 and 12: the keys bound the number of entries.
 
@@ -275,7 +282,7 @@ module _ (g : Sig) (s : Structure) (v : Valid g s) where
         each = each;
         sorted = sorted;
         most = keys-few compareVar (λ (y : Var). y .key) var-less maxVars l sorted (all-map (λ y k. k .key) l each);
-      })))
+      })) (v .unreserved) (v .of-models))
 
   pub ambient-valid : (x : Ambient) → Valid g (bindAmbient g s x .left)
   unfolding bindAmbient
@@ -292,19 +299,30 @@ module _ (g : Sig) (s : Structure) (v : Valid g s) where
         each = each;
         sorted = sorted;
         most = keys-few compareAmbient (λ (y : Ambient). y .typ) ambient-less (c .types) l sorted (all-map (λ y k. k .typ) l each);
-      })))
+      }))
+      (v .unreserved)
+      (placed-all compareAmbient x (OfModel g) (s .ambients) (not-false (isModel g (x .typ)) (no .1 .0)) (v .of-models)))
 
   -- Kinds 13 and 14, and the finds.
 
   pub conflicts-valid : Valid g (conflicts s .left)
   unfolding conflicts
-  conflicts-valid = outcome-keeps (Valid g) _ s _ _ v (λ no. accepts s vs)
+  conflicts-valid = outcome-keeps (Valid g) _ s _ _ v (λ no. accepts s vs (v .unreserved) (v .of-models))
 
   pub find-valid : (e : ℕ) → Valid g (with-links (roots.root (s .links) e .left) s)
-  unfolding roots.root
+  unfolding roots.root empty
   find-valid e = outcome-keeps (λ (ks : List ℕ). Valid g (with-links ks s)) _ (s .links) _ _ v (λ no.
-      let r = shorter (s .links) e (vs .links) refl (λ x. refl) (leb-false (length (s .links)) e (no .0)) in
-      over (with-links (shortOf (s .links) e) s) (links-valid c s vs (shortOf (s .links) e) (r .0) (r .1 .0) (r .1 .1)))
+      let there = leb-false (length (s .links)) e (no .0) in
+      let r = shorter (s .links) e (vs .links) refl (λ x. refl) there in
+      let t = with-links (shortOf (s .links) e) s in
+      record {
+        sig = v .sig;
+        structure = counted g (length (s .links)) t (links-valid c s vs (shortOf (s .links) e) (r .0) (r .1 .0) (r .1 .1));
+        unreserved = v .unreserved;
+        of-models = v .of-models;
+        -- an empty structure has no element to find
+        unstarted = λ q. absurd (omega (arith, there, ap (λ (z : Structure). length (z .links)) (v .unstarted q)));
+      })
 
   pub find-const-valid : (e : ℕ) → Valid g (with-links (roots.rootConst (s .links) e .left) s)
   unfolding roots.rootConst
@@ -317,15 +335,15 @@ ValidMachine m = Valid (m .sig) (m .structure)
 
 pub start-valid : ValidMachine start
 unfolding start
-start-valid = record { sig = empty-sig; structure = counted signature.empty 0 empty (empty-valid signature.empty) }
+start-valid = empty-valid signature.empty empty-sig
 
 pub step-valid : (k : Call) (m : Machine) → ValidMachine m → ValidMachine (step k m .after)
 unfolding step
-step-valid (push-type t) m v = type-valid (m .structure .started) (m .sig) (m .structure) v t
-step-valid (push-pred p) m v = pred-valid (m .structure .started) (m .sig) (m .structure) v p
-step-valid (push-func f) m v = func-valid (m .structure .started) (m .sig) (m .structure) v f
-step-valid (push-model x) m v = model-valid (m .structure .started) (m .sig) (m .structure) v x
-step-valid (push-mor-app x) m v = mor-app-valid (m .structure .started) (m .sig) (m .structure) v x
+step-valid (push-type t) m v = type-valid (m .sig) (m .structure) v t
+step-valid (push-pred p) m v = pred-valid (m .sig) (m .structure) v p
+step-valid (push-func f) m v = func-valid (m .sig) (m .structure) v f
+step-valid (push-model x) m v = model-valid (m .sig) (m .structure) v x
+step-valid (push-mor-app x) m v = mor-app-valid (m .sig) (m .structure) v x
 step-valid (push-el mark) m v = el-valid (m .sig) (m .structure) v mark
 step-valid (equate-els a b) m v = equality-valid (m .sig) (m .structure) v a b
 step-valid (impose-type f) m v = imposition-valid (m .sig) (m .structure) v f
@@ -333,7 +351,7 @@ step-valid (apply-func x) m v = application-valid (m .sig) (m .structure) v x
 step-valid (apply-pred x) m v = predication-valid (m .sig) (m .structure) v x
 step-valid (bind-var x) m v = variable-valid (m .sig) (m .structure) v x
 step-valid (bind-ambient a) m v = ambient-valid (m .sig) (m .structure) v a
-step-valid close m v = over (m .sig) (m .structure) v (closing.close (m .sig) (m .structure) .left) (close-valid (m .sig) (m .structure) v)
+step-valid close m v = close-valid (m .sig) (m .structure) v
 step-valid type-conflicts m v = conflicts-valid (m .sig) (m .structure) v
 step-valid (root e) m v = find-valid (m .sig) (m .structure) v e
 step-valid (root-const e) m v = find-const-valid (m .sig) (m .structure) v e

@@ -9,7 +9,7 @@ use native.Mathlib.Omega.{arith}
 use lib.ListN.{length-map}
 use Rattle.ids.specs.Answers.{Outcome, accepted, refused, tooManyFacts}
 use Rattle.ids.specs.Table.{rewriteInto}
-use Rattle.ids.proofs.Sorted.{All, all-map, all-image, rewrite-all, rewrite-sorted, rewrite-length, sorted-image}
+use Rattle.ids.proofs.Sorted.{All, all-map, all-image, no-test, rewrite-all, rewrite-sorted, rewrite-length, sorted-image}
 use Rattle.unification.proofs.Laws.{root-le}
 use Rattle.signature.specs.Model.{Sig}
 use Rattle.semantics.specs.Structure.{Fact, PredApp, Var, Structure, compareFact, comparePredApp, compareVar, compareFuncApp, maxFuncApps}
@@ -17,8 +17,9 @@ use Rattle.semantics.specs.Structure.{canonicalFact, canonicalPredApp, canonica
 use Rattle.semantics.specs.Types.{Core, imposeAll}
 use Rattle.semantics.specs.Close.{Turn, Rounds, Closed, round, rounds, roundsFrom, isNone, fuel, coreOf, canonicaliseRefs, withCore}
 use Rattle.semantics.specs.Close.{answerOf, leftBy, closeWith, closeImposed, closeAfter, close}
+use Rattle.semantics.specs.Calls.{isReserved}
 use Rattle.semantics.specs.Valid.{Counts, countsOf, FactValid, PredAppValid, VarValid, FuncAppValid, OnRoot, Queue, Table, ValidStructure}
-use Rattle.semantics.specs.Valid.{Valid}
+use Rattle.semantics.specs.Valid.{Unreserved, Valid}
 use Rattle.semantics.proofs.Orders.{fact-ordered, pred-app-ordered}
 use Rattle.semantics.proofs.Queues.{Room}
 use Rattle.semantics.proofs.Pairs.{Imposes, Fits, rounds-fit, impositions-fit}
@@ -26,6 +27,8 @@ use Rattle.validity.proofs.Drain.{Whole}
 use Rattle.validity.proofs.Imposing.{Imposed, imposeAll-went, roots-listed, canonical-valid, canonical-rooted}
 use Rattle.validity.proofs.Turns.{Turned}
 use Rattle.validity.proofs.Fuel.{goesOn, Last, more-fuel, rounds-end, rounds-turned}
+use Rattle.validity.proofs.Applied.{rounds-applied}
+use Rattle.validity.proofs.Growing.{counted}
 
 pub core-whole : (c : Counts) (s : Structure) → ValidStructure c s → Whole c (coreOf s)
 unfolding coreOf
@@ -185,6 +188,20 @@ module _ (g : Sig) (s : Structure) (v : Valid g s) where
         impositions = impositions-queue c ls _ (s .impositions) (vs .impositions);
       }
 
+  -- the applications are rewritten, their functions are not
+  ran-unreserved : All (Unreserved g) (ran .apps)
+  unfolding ran
+  ran-unreserved = rounds-applied (λ f. isReserved g f ≡ false) g (s .pred-apps) (s .func-apps) (coreOf s) (v .unreserved)
+
+  left-over : Valid g (leftBy ran end s)
+  left-over = record {
+    sig = v .sig;
+    structure = counted g (c .els) (leftBy ran end s) left-valid;
+    unreserved = (unfold leftBy canonicaliseRefs withCore in ran-unreserved);
+    of-models = (unfold leftBy canonicaliseRefs withCore in v .of-models);
+    unstarted = λ q. (unfold leftBy in no-test refl q);
+  }
+
   accepts : end .met ≡ none → close g s ≡ record { answer = accepted (answerOf ran end); left = leftBy ran end s }
   unfolding close closeAfter closeImposed closeWith end ran
   accepts q = ap (λ (o : Option ℕ). closeWith o ran end s) q
@@ -221,8 +238,8 @@ module _ (g : Sig) (s : Structure) (v : Valid g s) where
       left-pairs : leftBy ran end s .pairs ≡ end .pairs
       left-pairs = (unfold leftBy canonicaliseRefs withCore in refl)
 
-  pub close-valid : ValidStructure c (close g s .left)
-  close-valid = elim (to-end .went .whole .met) [ inl q ↦ rw (accepts q) left-valid | inr q ↦ rw (refuses q) vs ]
+  pub close-valid : Valid g (close g s .left)
+  close-valid = elim (to-end .went .whole .met) [ inl q ↦ rw (accepts q) left-over | inr q ↦ rw (refuses q) v ]
 
   -- at every moment of the close at most `maxPairs` pairs wait: in each round, and while the impositions are imposed, also those of a close
   -- that 11 refuses

@@ -1,5 +1,5 @@
 -- What is valid stays so where more is declared.
-use mathlib.Core.Path.{_≡_, sym, subst, _∙_}
+use mathlib.Core.Path.{sym, subst}
 use mathlib.Core.List.{List, [], _∷_, _++_}
 use Prim.Native.Nat.{ℕ, _≤_, _<_}
 use native.Mathlib.Omega.{arith}
@@ -108,23 +108,6 @@ module _ (c d : Counts) (k : More c d) where
 
   pub ambient-more : (a : Ambient) → AmbientValid c a → AmbientValid d a
   ambient-more a h = record { typ = omega (arith, h .typ, k .types); el = omega (arith, h .el, k .els) }
-
-  -- the same structure, more in the signature
-  pub structure-more : (s : Structure) → d .els ≡ c .els → ValidStructure c s → ValidStructure d s
-  structure-more s e v = record {
-    els = v .els ∙ sym e;
-    els-most = omega (arith, v .els-most);
-    links = v .links;
-    marks = v .marks ∙ sym e;
-    facts = table-more fact-more _ _ _ (s .facts) (omega arith) (v .facts);
-    facts-rooted = v .facts-rooted;
-    func-apps = table-more func-app-more _ _ _ (s .func-apps) (omega arith) (v .func-apps);
-    pred-apps = table-more pred-app-more _ _ _ (s .pred-apps) (omega arith) (v .pred-apps);
-    vars = table-more var-more _ _ _ (s .vars) (omega arith) (v .vars);
-    ambients = table-more ambient-more _ _ _ (s .ambients) (k .types) (v .ambients);
-    pairs = queue-more pair-more _ (s .pairs) (v .pairs);
-    impositions = queue-more fact-more _ (s .impositions) (v .impositions);
-  }
 
 -- the counts are those of the structure
 pub counted : (g : Sig) (n : ℕ) (s : Structure) → ValidStructure (countsAt g n) s → ValidStructure (countsOf g s) s

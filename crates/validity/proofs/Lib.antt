@@ -4,8 +4,10 @@ pub mod Entering
 pub mod Demands
 pub mod Turns
 pub mod Fuel
+pub mod Applied
 pub mod Closing
 pub mod Growing
 pub mod Signatures
 pub mod Replacing
 pub mod Calls
+pub mod Reserved

@@ -1,6 +1,6 @@
--- Each call of kinds 1 to 5 keeps the signature valid, and the structure over it.
-use mathlib.Core.Path.{_≡_, refl}
-use mathlib.Core.Bool.{Bool, true, _&&_}
+-- Each call of kinds 1 to 5 keeps the signature valid, and the structure over it: it is accepted only while nothing is stored.
+use mathlib.Core.Path.{_≡_, refl, sym, subst}
+use mathlib.Core.Bool.{true, false, _&&_}
 use mathlib.Core.List.{List, [], _∷_, _++_}
 use Prim.Native.Nat.{_≤_}
 use native.Mathlib.Omega.{arith}
@@ -8,17 +8,19 @@ use native.Mathlib.Nat.{le-refl}
 use lib.ListN.{length}
 use borrow.Author.Tests.{ltb-true, leb-false, not-false}
 use Rattle.ids.specs.Ids.{tooLong, allBelow}
+use Rattle.unification.proofs.Theorems.{none-formed}
 use Rattle.signature.specs.Model.{Sig, Kind, plain, model, enum, mor, TypeM, PredM, FuncM, ModelM, MorAppM, maxTypes, maxPreds, maxFuncs}
-use Rattle.signature.specs.Model.{maxModels, maxMorApps, empty, with-types, with-preds, with-funcs, with-models, with-mor-apps}
+use Rattle.signature.specs.Model as signature
+use Rattle.signature.specs.Model.{maxModels, maxMorApps, with-types, with-preds, with-funcs, with-models, with-mor-apps}
 use Rattle.signature.specs.Calls.{isType, areTypes, isFunc, modelDeclared, functions, modelIdsDeclared, pushType, pushPred, pushFunc}
 use Rattle.signature.specs.Calls.{pushModel, pushMorApp}
-use Rattle.semantics.specs.Structure.{Structure}
-use Rattle.semantics.specs.Valid.{Counts, ValidStructure, KindDeclared, ValidSig, countsOf, Valid}
+use Rattle.semantics.specs.Structure.{Structure, empty}
+use Rattle.semantics.specs.Valid.{KindDeclared, ValidSig, Valid}
 use Rattle.semantics.proofs.Cases.{and-first, and-second, or-first, or-second}
 use Rattle.semantics.proofs.Links.{length-push}
 use Rattle.semantics.proofs.Outcomes.{outcome-keeps, below-if, listed-if}
 use Rattle.validity.proofs.Growing.{queue-more, queue-push, kind-more, listed-more, type-more, pred-more, func-more, model-more}
-use Rattle.validity.proofs.Growing.{mor-app-more, More, structure-more}
+use Rattle.validity.proofs.Growing.{mor-app-more}
 
 kind-declared : (g : Sig) (t : Kind) → modelDeclared g t ≡ true → KindDeclared (length (g .types)) t
 kind-declared g plain e = tt
@@ -30,12 +32,36 @@ kind-declared g (mor t) e = ltb-true t (length (g .types)) e
 longer : {A : Type 0} (l : List A) (x : A) → length l ≤ length (l ++ (x ∷ []))
 longer l x = omega (arith, length-push l x)
 
-module _ (started : Bool) (g : Sig) (s : Structure) (v : Valid g s) where
-  -- the structure over a larger signature
-  over : {d : Counts} → More (countsOf g s) d → d .els ≡ length (s .links) → ValidStructure d s
-  over {d} k e = structure-more (countsOf g s) d k s e (v .structure)
+-- nothing is stored yet
+pub empty-valid : (g : Sig) → ValidSig g → Valid g empty
+unfolding empty
+empty-valid g sig = record {
+  sig = sig;
+  structure = record {
+    els = refl;
+    els-most = omega arith;
+    links = none-formed;
+    marks = refl;
+    facts = record { each = tt; sorted = tt; most = omega arith };
+    facts-rooted = tt;
+    func-apps = record { each = tt; sorted = tt; most = omega arith };
+    pred-apps = record { each = tt; sorted = tt; most = omega arith };
+    vars = record { each = tt; sorted = tt; most = omega arith };
+    ambients = record { each = tt; sorted = tt; most = omega arith };
+    pairs = record { each = tt; most = omega arith };
+    impositions = record { each = tt; most = omega arith };
+  };
+  unreserved = tt;
+  of-models = tt;
+  unstarted = λ q. refl;
+}
 
-  pub type-valid : (t : TypeM) → Valid (pushType started g t .left) s
+module _ (g : Sig) (s : Structure) (v : Valid g s) where
+  -- a declaration is accepted only while nothing is stored
+  declared : (h : Sig) → s .started ≡ false → ValidSig h → Valid h s
+  declared h q sig = subst (Valid h) (sym (v .unstarted q)) (empty-valid h sig)
+
+  pub type-valid : (t : TypeM) → Valid (pushType (s .started) g t .left) s
   unfolding pushType with-types
   type-valid t = outcome-keeps (λ h. Valid h s) _ g _ _ v (λ no.
       let d = not-false (areTypes g (t .parents) && modelDeclared g (t .kind)) (no .1 .1 .0) in
@@ -43,40 +69,34 @@ module _ (started : Bool) (g : Sig) (s : Structure) (v : Valid g s) where
       let more = longer (g .types) t in
       let parents = listed-if (length (g .types)) (t .parents) (no .0) (and-first (areTypes g (t .parents)) (modelDeclared g (t .kind)) d) in
       let kind = kind-declared g (t .kind) (and-second (areTypes g (t .parents)) (modelDeclared g (t .kind)) d) in
-      record {
-        sig = record {
-          types = queue-push (type-more more) maxTypes (g .types) t (v .sig .types) few
-              (record { kind = kind-more more (t .kind) kind; parents = listed-more more (t .parents) parents });
-          preds = queue-more (pred-more more) maxPreds (g .preds) (v .sig .preds);
-          funcs = queue-more (func-more more) maxFuncs (g .funcs) (v .sig .funcs);
-          models = queue-more (model-more more (le-refl (length (g .funcs)))) maxModels (g .models) (v .sig .models);
-          mor-apps = queue-more (mor-app-more more (le-refl (length (g .funcs)))) maxMorApps (g .mor-apps) (v .sig .mor-apps);
-        };
-        structure = over (record { els = omega arith; types = more; preds = omega arith; funcs = omega arith }) refl;
-      })
+      declared _ (no .1 .0) (record {
+        types = queue-push (type-more more) maxTypes (g .types) t (v .sig .types) few
+            (record { kind = kind-more more (t .kind) kind; parents = listed-more more (t .parents) parents });
+        preds = queue-more (pred-more more) maxPreds (g .preds) (v .sig .preds);
+        funcs = queue-more (func-more more) maxFuncs (g .funcs) (v .sig .funcs);
+        models = queue-more (model-more more (le-refl (length (g .funcs)))) maxModels (g .models) (v .sig .models);
+        mor-apps = queue-more (mor-app-more more (le-refl (length (g .funcs)))) maxMorApps (g .mor-apps) (v .sig .mor-apps);
+      }))
 
-  pub pred-valid : (p : PredM) → Valid (pushPred started g p .left) s
+  pub pred-valid : (p : PredM) → Valid (pushPred (s .started) g p .left) s
   unfolding pushPred with-preds
   pred-valid p = outcome-keeps (λ h. Valid h s) _ g _ _ v (λ no.
       let d = not-false (areTypes g (p .parents) && areTypes g (p .arity)) (no .1 .1 .0) in
       let few = leb-false maxPreds (length (g .preds)) (no .1 .1 .1 .0) in
-      record {
-        sig = record {
-          types = v .sig .types;
-          preds = queue-push (λ x k. k) maxPreds (g .preds) p (v .sig .preds) few (record {
-            parents = listed-if (length (g .types)) (p .parents) (or-first (tooLong (p .parents)) (tooLong (p .arity)) (no .0))
-                (and-first (areTypes g (p .parents)) (areTypes g (p .arity)) d);
-            arity = listed-if (length (g .types)) (p .arity) (or-second (tooLong (p .parents)) (tooLong (p .arity)) (no .0))
-                (and-second (areTypes g (p .parents)) (areTypes g (p .arity)) d);
-          });
-          funcs = v .sig .funcs;
-          models = v .sig .models;
-          mor-apps = v .sig .mor-apps;
-        };
-        structure = over (record { els = omega arith; types = omega arith; preds = longer (g .preds) p; funcs = omega arith }) refl;
-      })
+      declared _ (no .1 .0) (record {
+        types = v .sig .types;
+        preds = queue-push (λ x k. k) maxPreds (g .preds) p (v .sig .preds) few (record {
+          parents = listed-if (length (g .types)) (p .parents) (or-first (tooLong (p .parents)) (tooLong (p .arity)) (no .0))
+              (and-first (areTypes g (p .parents)) (areTypes g (p .arity)) d);
+          arity = listed-if (length (g .types)) (p .arity) (or-second (tooLong (p .parents)) (tooLong (p .arity)) (no .0))
+              (and-second (areTypes g (p .parents)) (areTypes g (p .arity)) d);
+        });
+        funcs = v .sig .funcs;
+        models = v .sig .models;
+        mor-apps = v .sig .mor-apps;
+      }))
 
-  pub func-valid : (f : FuncM) → Valid (pushFunc started g f .left) s
+  pub func-valid : (f : FuncM) → Valid (pushFunc (s .started) g f .left) s
   unfolding pushFunc with-funcs
   func-valid f = outcome-keeps (λ h. Valid h s) _ g _ _ v (λ no.
       let rest = areTypes g (f .domain) && isType g (f .codomain) in
@@ -84,24 +104,21 @@ module _ (started : Bool) (g : Sig) (s : Structure) (v : Valid g s) where
       let e = and-second (areTypes g (f .parents)) rest d in
       let few = leb-false maxFuncs (length (g .funcs)) (no .1 .1 .1 .0) in
       let more = longer (g .funcs) f in
-      record {
-        sig = record {
-          types = v .sig .types;
-          preds = v .sig .preds;
-          funcs = queue-push (λ x k. k) maxFuncs (g .funcs) f (v .sig .funcs) few (record {
-            parents = listed-if (length (g .types)) (f .parents) (or-first (tooLong (f .parents)) (tooLong (f .domain)) (no .0))
-                (and-first (areTypes g (f .parents)) rest d);
-            domain = listed-if (length (g .types)) (f .domain) (or-second (tooLong (f .parents)) (tooLong (f .domain)) (no .0))
-                (and-first (areTypes g (f .domain)) (isType g (f .codomain)) e);
-            codomain = ltb-true (f .codomain) (length (g .types)) (and-second (areTypes g (f .domain)) (isType g (f .codomain)) e);
-          });
-          models = queue-more (model-more (le-refl (length (g .types))) more) maxModels (g .models) (v .sig .models);
-          mor-apps = queue-more (mor-app-more (le-refl (length (g .types))) more) maxMorApps (g .mor-apps) (v .sig .mor-apps);
-        };
-        structure = over (record { els = omega arith; types = omega arith; preds = omega arith; funcs = more }) refl;
-      })
+      declared _ (no .1 .0) (record {
+        types = v .sig .types;
+        preds = v .sig .preds;
+        funcs = queue-push (λ x k. k) maxFuncs (g .funcs) f (v .sig .funcs) few (record {
+          parents = listed-if (length (g .types)) (f .parents) (or-first (tooLong (f .parents)) (tooLong (f .domain)) (no .0))
+              (and-first (areTypes g (f .parents)) rest d);
+          domain = listed-if (length (g .types)) (f .domain) (or-second (tooLong (f .parents)) (tooLong (f .domain)) (no .0))
+              (and-first (areTypes g (f .domain)) (isType g (f .codomain)) e);
+          codomain = ltb-true (f .codomain) (length (g .types)) (and-second (areTypes g (f .domain)) (isType g (f .codomain)) e);
+        });
+        models = queue-more (model-more (le-refl (length (g .types))) more) maxModels (g .models) (v .sig .models);
+        mor-apps = queue-more (mor-app-more (le-refl (length (g .types))) more) maxMorApps (g .mor-apps) (v .sig .mor-apps);
+      }))
 
-  pub model-valid : (m : ModelM) → Valid (pushModel started g m .left) s
+  pub model-valid : (m : ModelM) → Valid (pushModel (s .started) g m .left) s
   unfolding pushModel with-models modelIdsDeclared
   model-valid m = outcome-keeps (λ h. Valid h s) _ g _ _ v (λ no.
       let funcs = allBelow (length (g .funcs)) (functions m) in
@@ -109,45 +126,39 @@ module _ (started : Bool) (g : Sig) (s : Structure) (v : Valid g s) where
       let d = not-false (isType g (m .typ) && rest) (no .1 .0) in
       let e = and-second (isType g (m .typ)) rest d in
       let few = leb-false maxModels (length (g .models)) (no .1 .1 .1 .1 .0) in
-      record {
-        sig = record {
-          types = v .sig .types;
-          preds = v .sig .preds;
-          funcs = v .sig .funcs;
-          models = queue-push (λ x k. k) maxModels (g .models) m (v .sig .models) few (record {
-            typ = ltb-true (m .typ) (length (g .types)) (and-first (isType g (m .typ)) rest d);
-            mor = ltb-true (m .mor) (length (g .types)) (and-first (isType g (m .mor)) funcs e);
-            funcs = below-if (length (g .funcs)) (functions m) (and-second (isType g (m .mor)) funcs e);
-          });
-          mor-apps = v .sig .mor-apps;
-        };
-        structure = v .structure;
-      })
+      declared _ (no .0) (record {
+        types = v .sig .types;
+        preds = v .sig .preds;
+        funcs = v .sig .funcs;
+        models = queue-push (λ x k. k) maxModels (g .models) m (v .sig .models) few (record {
+          typ = ltb-true (m .typ) (length (g .types)) (and-first (isType g (m .typ)) rest d);
+          mor = ltb-true (m .mor) (length (g .types)) (and-first (isType g (m .mor)) funcs e);
+          funcs = below-if (length (g .funcs)) (functions m) (and-second (isType g (m .mor)) funcs e);
+        });
+        mor-apps = v .sig .mor-apps;
+      }))
 
-  pub mor-app-valid : (m : MorAppM) → Valid (pushMorApp started g m .left) s
+  pub mor-app-valid : (m : MorAppM) → Valid (pushMorApp (s .started) g m .left) s
   unfolding pushMorApp with-mor-apps
   mor-app-valid m = outcome-keeps (λ h. Valid h s) _ g _ _ v (λ no.
       let rest = isType g (m .morphism-type) && isType g (m .member-type) in
       let d = not-false (isFunc g (m .func) && rest) (no .1 .0) in
       let e = and-second (isFunc g (m .func)) rest d in
       let few = leb-false maxMorApps (length (g .mor-apps)) (no .1 .1 .1 .1 .0) in
-      record {
-        sig = record {
-          types = v .sig .types;
-          preds = v .sig .preds;
-          funcs = v .sig .funcs;
-          models = v .sig .models;
-          mor-apps = queue-push (λ x k. k) maxMorApps (g .mor-apps) m (v .sig .mor-apps) few (record {
-            func = ltb-true (m .func) (length (g .funcs)) (and-first (isFunc g (m .func)) rest d);
-            morphism-type = ltb-true (m .morphism-type) (length (g .types)) (and-first (isType g (m .morphism-type)) (isType g (m .member-type)) e);
-            member-type = ltb-true (m .member-type) (length (g .types)) (and-second (isType g (m .morphism-type)) (isType g (m .member-type)) e);
-          });
-        };
-        structure = v .structure;
-      })
+      declared _ (no .0) (record {
+        types = v .sig .types;
+        preds = v .sig .preds;
+        funcs = v .sig .funcs;
+        models = v .sig .models;
+        mor-apps = queue-push (λ x k. k) maxMorApps (g .mor-apps) m (v .sig .mor-apps) few (record {
+          func = ltb-true (m .func) (length (g .funcs)) (and-first (isFunc g (m .func)) rest d);
+          morphism-type = ltb-true (m .morphism-type) (length (g .types)) (and-first (isType g (m .morphism-type)) (isType g (m .member-type)) e);
+          member-type = ltb-true (m .member-type) (length (g .types)) (and-second (isType g (m .morphism-type)) (isType g (m .member-type)) e);
+        });
+      }))
 
-pub empty-sig : ValidSig empty
-unfolding empty
+pub empty-sig : ValidSig signature.empty
+unfolding signature.empty
 empty-sig = record {
   types = record { each = tt; most = omega arith };
   preds = record { each = tt; most = omega arith };
