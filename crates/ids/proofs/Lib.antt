@@ -9,3 +9,4 @@ pub mod Judging
 pub mod Tests
 pub mod Counted
 pub mod Appending
+pub mod Membership
