@@ -4,17 +4,17 @@ use mathlib.Core.Path.{_≡_, refl}
 use mathlib.Core.Bool.{Bool, true, false}
 use mathlib.Core.List.{List, [], _∷_, _++_, map, List·Memᴰ, List·Memᴰ·head, List·Memᴰ·tail}
 use mathlib.Core.Option.{Option, none, some}
-use Prim.Native.Nat.{ℕ, _/_, _%_}
+use Prim.Native.Nat.{ℕ, zero, suc, _/_, _%_}
 use Prim.Native.Char.{code}
 use Prim.Native.String.{String, [] as no-text, _∷_ as _∷ᵗ_}
 use lib.ListN.{length, take, getD}
 use Rattle.ids.specs.Table.{lookupOf}
-use Rattle.signature.specs.Model.{Kind, plain, model}
-use Rattle.semantics.specs.Structure.{Fact, FuncApp, compareFuncApp}
+use Rattle.signature.specs.Model.{Kind, plain, model, mor}
+use Rattle.semantics.specs.Structure.{Fact, FuncApp, compareFuncApp, maxVars}
 use Rattle.semantics.specs.Types.{factsAt}
 use Rattle.semantics.specs.Conflicts.{Conflict}
 use Rattle.semantics.specs.Calls.{Call, push-type, push-func, push-pred, push-el, equate-els, impose-type, apply-func, apply-pred}
-use Rattle.semantics.specs.Calls.{bind-ambient}
+use Rattle.semantics.specs.Calls.{push-model, push-mor-app, bind-var, bind-ambient}
 use Rattle.semantics.specs.Calls.{close, type-conflicts, lookup-type, ambient-parents}
 use Rattle.semantics.specs.Calls.{Answer, number, says, done, closed, conflicting, found, typed, els, refuse, Machine, start, step}
 use Rattle.semantics.specs.Sheet.{bit, newline, runSheet}
@@ -214,6 +214,31 @@ imposed5 =
     ++ (plainEl ∷ markedEl ∷ plainEl ∷ plainEl ∷ plainEl
     ∷ app 0 (0 ∷ []) [] 2 ∷ app 0 (1 ∷ []) [] 3 ∷ impose 4 1 (0 ∷ []) ∷ impose 4 1 (1 ∷ []) ∷ [])
 
+-- n calls, of the numbers n - 1 down to 0: in this order each entry of an ordered table goes before the others
+unfoldable pub downFrom : ℕ → (ℕ → Call) → List Call
+downFrom zero call = []
+downFrom (suc n) call = call n ∷ downFrom n call
+
+abbrev pub modelOf : ℕ → ℕ → List ℕ → Call
+modelOf t m fs = push-model (record { typ = t; mor = m; dom = getD fs 0 0; cod = getD fs 1 0; id = getD fs 2 0; comp = getD fs 3 0 })
+
+abbrev pub morApp : ℕ → ℕ → ℕ → Call
+morApp f mo me = push-mor-app (record { func = f; morphism-type = mo; member-type = me })
+
+abbrev pub var : ℕ → ℕ → Call
+var k e = bind-var (record { key = k; el = e })
+
+abbrev pub ambient : ℕ → ℕ → Call
+ambient t e = bind-ambient (record { typ = t; el = e })
+
+-- two Model types 0 and 1, a Mor type of each, 2 and 3, a Plain type 4, and nine functions
+abbrev pub typesAndFuncs : List Call
+typesAndFuncs = typ model [] ∷ typ model [] ∷ typ (mor 0) [] ∷ typ (mor 1) [] ∷ typ plain [] ∷ downFrom 9 (λ n. func [] [] 0)
+
+-- with the model of type 0, whose id is 2 and comp 3, and the morphism application function 4
+abbrev pub signature7 : List Call
+signature7 = typesAndFuncs ++ (modelOf 0 2 (0 ∷ 1 ∷ 2 ∷ 3 ∷ []) ∷ morApp 4 2 4 ∷ [])
+
 -- The table.
 
 unfoldable pub table : List Row
@@ -349,7 +374,7 @@ table =
     ∷ record {
       source = calls
           (typ model [] ∷ pred [] (0 ∷ []) ∷ plainEl ∷ plainEl
-          ∷ predicate 0 [] (1 ∷ []) ∷ bind-ambient (record { typ = 0; el = 1 }) ∷ equate-els 0 1 ∷ close ∷ []);
+          ∷ predicate 0 [] (1 ∷ []) ∷ ambient 0 1 ∷ equate-els 0 1 ∷ close ∷ []);
       output = tells (closes 1 1 2 ∷ []);
       claims =
           answer (predicate 0 [] (0 ∷ [])) is said (says false) ∷ answer (predicate 0 [] (1 ∷ [])) is said (says true)
@@ -452,13 +477,63 @@ table =
       output = prints (lines ("refused 3 at 0" ∷ []));
       claims = machine is whole start ∷ [];
     }
+    -- number 3: ".., key, A ..": a variable of key 64, an element of mark 2
+    ∷ record {
+      source = calls (plainEl ∷ var maxVars 0 ∷ []);
+      output = tells (refuses 3 ∷ []);
+      claims = machine is whole (leftBy (plainEl ∷ []) start) ∷ [];
+    }
+    ∷ record {
+      source = sheet (entry 0 6 2 0 [] []);
+      output = prints (lines ("refused 3 at 0" ∷ []));
+      claims = machine is whole start ∷ [];
+    }
+    -- number 6: "Mor's model, or a type in 4 or 12, not Model; record 4's mor not a Mor of A; record 5's morphism type not Mor"
+    ∷ record {
+      source = calls
+          (typesAndFuncs
+          ++ (typ (mor 4) [] ∷ modelOf 4 2 (0 ∷ 1 ∷ 2 ∷ 3 ∷ []) ∷ modelOf 0 3 (0 ∷ 1 ∷ 2 ∷ 3 ∷ []) ∷ modelOf 0 4 (0 ∷ 1 ∷ 2 ∷ 3 ∷ [])
+          ∷ morApp 4 0 4 ∷ plainEl ∷ ambient 4 0 ∷ []));
+      output = tells (refuses 6 ∷ refuses 6 ∷ refuses 6 ∷ refuses 6 ∷ refuses 6 ∷ refuses 6 ∷ []);
+      claims = machine is whole (leftBy (typesAndFuncs ++ (plainEl ∷ [])) start) ∷ [];
+    }
+    -- number 7: "application of id, comp or a morphism application function"; dom, cod and other functions may be applied
+    ∷ record {
+      source = calls (signature7 ++ (plainEl ∷ app 2 [] [] 0 ∷ app 3 [] [] 0 ∷ app 4 [] [] 0 ∷ []));
+      output = tells (refuses 7 ∷ refuses 7 ∷ refuses 7 ∷ []);
+      claims =
+          machine is whole (leftBy (signature7 ++ (plainEl ∷ [])) start)
+          ∷ answer (app 0 [] [] 0) is said (says true) ∷ answer (app 1 [] [] 0) is said (says true) ∷ answer (app 5 [] [] 0) is said (says true)
+          ∷ [];
+    }
+    -- number 8: "model type, function in records 4 and 5, morphism pair, .. given again"
+    ∷ record {
+      source = calls
+          (signature7
+          ++ (modelOf 0 2 (5 ∷ 6 ∷ 7 ∷ 8 ∷ []) ∷ modelOf 1 3 (5 ∷ 6 ∷ 7 ∷ 0 ∷ []) ∷ modelOf 1 3 (4 ∷ 6 ∷ 7 ∷ 8 ∷ [])
+          ∷ modelOf 1 3 (5 ∷ 6 ∷ 7 ∷ 5 ∷ []) ∷ morApp 3 3 4 ∷ morApp 4 3 4 ∷ morApp 5 2 4 ∷ []));
+      output = tells (refuses 8 ∷ refuses 8 ∷ refuses 8 ∷ refuses 8 ∷ refuses 8 ∷ refuses 8 ∷ refuses 8 ∷ []);
+      claims = machine is whole (leftBy signature7 start) ∷ [];
+    }
+    -- number 8: ".., variable or ambient given again"
+    ∷ record {
+      source = calls (typ model [] ∷ plainEl ∷ plainEl ∷ var 7 0 ∷ var 7 1 ∷ ambient 0 0 ∷ ambient 0 1 ∷ []);
+      output = tells (refuses 8 ∷ refuses 8 ∷ []);
+      claims = machine is whole (leftBy (typ model [] ∷ plainEl ∷ plainEl ∷ var 7 0 ∷ ambient 0 0 ∷ []) start) ∷ [];
+    }
+    -- number 10: "ambient lookup of a type with none"
+    ∷ record {
+      source = calls (typ model [] ∷ typ model [] ∷ plainEl ∷ ambient 0 0 ∷ ambient-parents (0 ∷ 1 ∷ []) ∷ []);
+      output = tells (refuses 10 ∷ []);
+      claims = machine is whole (leftBy (typ model [] ∷ typ model [] ∷ plainEl ∷ ambient 0 0 ∷ []) start) ∷ [];
+    }
     ∷ []
 
 -- The theorem.
 
 -- all rows at once, by computing
 rowsShow : map shownBy table ≡ map statedBy table
-unfolding everything told toldBy leftBy outputOf machineOf resultOf look shownBy statedBy bytesOf lines littleEndian entry table
+unfolding everything told toldBy leftBy outputOf machineOf resultOf look shownBy statedBy bytesOf lines littleEndian entry downFrom table
 rowsShow = refl
 
 -- two functions that agree on a list agree at each of its entries
