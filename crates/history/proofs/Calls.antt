@@ -1,4 +1,4 @@
--- What ties the book to the structure, where no element is marked, and that every call keeps it.
+-- What ties the book to the structure, where no element is marked, what holds of it with marks too, and that every call keeps both.
 use mathlib.Core.Path.{_≡_, refl, sym, subst, _∙_}
 use mathlib.Core.Logic.{_≢_, ⊎-elim}
 use mathlib.Core.Bool.{Bool, true, false, _&&_, _||_}
@@ -21,6 +21,7 @@ use Rattle.unification.proofs.Theorems.{added-formed, short-formed, short-root}
 use Rattle.signature.specs.Calls.{isFunc}
 use Rattle.semantics.specs.Structure.{Fact, FuncApp, Pair, Structure, compareFuncApp, canonicalFact, canonicalFuncApp, with-impositions}
 use Rattle.semantics.specs.Types.{Core}
+use Rattle.semantics.specs.Valid.{Below}
 use Rattle.semantics.specs.Close as closing
 use Rattle.semantics.specs.Close.{Closed, coreOf, fuel}
 use Rattle.semantics.specs.Calls.{isEl, areEls, accepting, Call, push-type, push-pred, push-func, push-model, push-mor-app, push-el}
@@ -29,11 +30,14 @@ use Rattle.semantics.specs.Calls.{root-const, lookup-type, ambient-parents, Ans
 use Rattle.semantics.specs.Calls.{Machine, Step, step, answerOf, onStructure, onLinks, pushEl, equate, equateEls, imposeType, Applied}
 use Rattle.semantics.specs.Calls.{appliedEqual, applyAt, insertFuncAppOrEquate, applyWith, applyFunc, applyPred, bindVar, bindAmbient}
 use Rattle.semantics.specs.Calls.{conflicts, isImposed}
-use Rattle.history.specs.Book.{Book, elements, taken, fed, isAccepted, mergesOf, someMark, Partition}
+use Rattle.history.specs.Book.{Book, elements, taken, fed, isAccepted, mergesOf, someMark}
 use Rattle.semantics.proofs.Links.{length-push}
-use Rattle.semantics.proofs.Outcomes.{NoneApplies, decided-by}
+use Rattle.semantics.proofs.Outcomes.{NoneApplies, decided-by, below-if}
 use Rattle.semantics.proofs.Cases.{and-first, and-second, or-first, or-second}
-use Rattle.history.proofs.Relation.{Respects, says-image, image-says}
+use Rattle.validity.proofs.Closing.{close-valid}
+use Rattle.validity.proofs.Calls.{ValidMachine}
+use Rattle.history.proofs.Relation.{Equivalence, Respects, says-image, image-says}
+use Rattle.history.proofs.Elements.{Named, pair-more, app-more}
 use Rattle.semantics.proofs.Counts.{roots, roots-alike}
 use Rattle.history.proofs.Counts.{roots-added, added-length, added-root}
 use Rattle.history.proofs.Drain.{Even, Unmarked}
@@ -52,8 +56,8 @@ pub record Tied (b : Book) (w : Core) (xs : List FuncApp) : Type 1 where
   -- elements are roots and merges
   pub sum : roots (w .links) + b .merges ≡ elements b
   -- a partition agrees with the book exactly when it agrees with the structure
-  pub on : (R : ℕ → ℕ → Type 0) (S : FuncApp → Type 0) → Partition R → Respects R S → Told R S b → Fair R S w xs
-  pub back : (R : ℕ → ℕ → Type 0) (S : FuncApp → Type 0) → Partition R → Respects R S → Fair R S w xs → Told R S b
+  pub on : (R : ℕ → ℕ → Type 0) (S : FuncApp → Type 0) → Equivalence R → Respects R S → Told R S b → Fair R S w xs
+  pub back : (R : ℕ → ℕ → Type 0) (S : FuncApp → Type 0) → Equivalence R → Respects R S → Fair R S w xs → Told R S b
 
 abbrev pub TiedTo : Book → Structure → Type 1
 TiedTo b s = Tied b (coreOf s) (s .func-apps)
@@ -91,8 +95,8 @@ relinked b w xs e g h =
 
 module _ (b b′ : Book) (w : Core) (xs : List FuncApp) (x y : ℕ) (g : Tied b w xs) (hx : x < elements b) (hy : y < elements b)
     (many : elements b′ ≡ elements b) (merged : b′ .merges ≡ b .merges)
-    (tells : (R : ℕ → ℕ → Type 0) (S : FuncApp → Type 0) → Partition R → Respects R S → Told R S b′ → Told R S b × R x y)
-    (told : (R : ℕ → ℕ → Type 0) (S : FuncApp → Type 0) → Partition R → Respects R S → Fair R S w xs → Told R S b → R x y → Told R S b′) where
+    (tells : (R : ℕ → ℕ → Type 0) (S : FuncApp → Type 0) → Equivalence R → Respects R S → Told R S b′ → Told R S b × R x y)
+    (told : (R : ℕ → ℕ → Type 0) (S : FuncApp → Type 0) → Equivalence R → Respects R S → Fair R S w xs → Told R S b → R x y → Told R S b′) where
   queued : Tied b′ (altered (shortOf (shortOf (w .links) x) y) (record { left = x; right = y } ∷ w .pairs) w) xs
   queued =
       let v = altered (shortOf (shortOf (w .links) x) y) (record { left = x; right = y } ∷ w .pairs) w in
@@ -188,12 +192,12 @@ module _ (b : Book) (w : Core) (xs : List FuncApp) (x : FuncApp) (g : Tied b w x
   abbrev b′ : Book
   b′ = taken (apply-func x) 0 b
 
-  tells-image : (R : ℕ → ℕ → Type 0) (S : FuncApp → Type 0) → Partition R → Respects R S → Told R S b′ → Told R S b × S y
+  tells-image : (R : ℕ → ℕ → Type 0) (S : FuncApp → Type 0) → Equivalence R → Respects R S → Told R S b′ → Told R S b × S y
   unfolding taken
   tells-image R S q law f =
       let t : Told R S b = (f .0, f .1 .1) in (t, says-image R q S law (w .links) (g .on R S q law t .rooted) x (f .1 .0))
 
-  told-image : (R : ℕ → ℕ → Type 0) (S : FuncApp → Type 0) → Partition R → Respects R S → Fair R S w xs → Told R S b → S y → Told R S b′
+  told-image : (R : ℕ → ℕ → Type 0) (S : FuncApp → Type 0) → Equivalence R → Respects R S → Fair R S w xs → Told R S b → S y → Told R S b′
   unfolding taken
   told-image R S q law a f h = (f .0, (image-says R q S law (w .links) (a .rooted) x h, f .1))
 
@@ -256,6 +260,29 @@ module _ (b : Book) (w : Core) (xs : List FuncApp) (x : FuncApp) (g : Tied b w x
       go none e = key-new e
       go (some z) e = by z e (eqb (z .result) (y .result)) refl
 
+-- as many links are left
+module _ (x : FuncApp) (ls : List ℕ) (ps : List Pair) (xs : List FuncApp) where
+  abbrev AsLong : Applied → Type 0
+  AsLong a = length (a .links) ≡ length ls
+
+  applied-length : AsLong (insertFuncAppOrEquate x ls ps xs)
+  unfolding insertFuncAppOrEquate applyAt appliedEqual equate
+  applied-length = go (lookupOf compareFuncApp y xs)
+    where
+      y : FuncApp
+      y = canonicalFuncApp ls x
+
+      by : (z : FuncApp) (t : Bool) → AsLong (elim t [
+        | true ↦ record { links = ls; pairs = ps; apps = xs; yes = false; full = false }
+        | false ↦ appliedEqual (equate ls ps (z .result) (y .result)) ps xs
+      ])
+      by z true = refl
+      by z false = short-length (shortOf ls (z .result)) (y .result) ∙ short-length ls (z .result)
+
+      go : (o : Option FuncApp) → AsLong (applyAt o y ls ps xs)
+      go none = refl
+      go (some z) = by z (eqb (z .result) (y .result))
+
 -- Kind 13.
 
 pub closed-shut : (b : Book) (m : Machine) → TiedTo b (m .structure) → (c : Closed) → closing.close (m .sig) (m .structure) .answer ≡ accepted c
@@ -286,7 +313,7 @@ unfolding outcome
 outcome-cases P causes before value after refuses accepts =
     decided-by P causes (λ n. record { answer = refused n; left = before }) (record { answer = accepted value; left = after }) refuses accepts
 
-pub someMark-last : (l : List Bool) (m : Bool) → someMark (l ++ (m ∷ [])) ≡ false → (someMark l ≡ false) × (m ≡ false)
+someMark-last : (l : List Bool) (m : Bool) → someMark (l ++ (m ∷ [])) ≡ false → (someMark l ≡ false) × (m ≡ false)
 unfolding someMark
 someMark-last [] m e = (refl, or-first m false e)
 someMark-last (x ∷ xs) m e = let h = someMark-last xs m (or-second x _ e) in (neither x (someMark xs) (or-first x _ e) (h .0), h .1)
@@ -295,12 +322,24 @@ someMark-last (x ∷ xs) m e = let h = someMark-last xs m (or-second x _ e) in (
     neither true b p q = p
     neither false b p q = q
 
-module _ (m : Machine) (b : Book) (g : TiedTo b (m .structure)) where
+-- What holds of the book at each moment, marks or not.
+pub record Held (b : Book) (w : Core) (xs : List FuncApp) : Type 1 where
+  -- there are as many links as elements
+  pub long : length (w .links) ≡ elements b
+  -- it names no others
+  pub named : Named b
+  -- with no element marked, it is tied to the structure
+  pub tied : someMark (b .marks) ≡ false → Tied b w xs
+
+abbrev pub HeldTo : Book → Structure → Type 1
+HeldTo b s = Held b (coreOf s) (s .func-apps)
+
+module _ (m : Machine) (b : Book) (v : ValidMachine m) (g : HeldTo b (m .structure)) where
   abbrev fedBy : Call → Answer → Book
   fedBy k a = fed k (isAccepted a) (mergesOf a) b
 
   abbrev pub Next : Call → Step → Type 1
-  Next k s = someMark (fedBy k (s .answer) .marks) ≡ false → TiedTo (fedBy k (s .answer)) (s .after .structure)
+  Next k s = HeldTo (fedBy k (s .answer)) (s .after .structure)
 
   -- a call of the structure: a refusal leaves all, and the rest is to be shown
   judged : {A : Type 0} (k : Call) (f : A → Answer) (causes : List Cause) (value : A) (after : Structure)
@@ -308,12 +347,12 @@ module _ (m : Machine) (b : Book) (g : TiedTo b (m .structure)) where
       → Next k (onStructure f m (outcome causes (m .structure) value after))
   unfolding answerOf
   judged k f causes value after accepts =
-      outcome-cases (λ o. Next k (onStructure f m o)) causes (m .structure) value after (λ n e. unfold fed isAccepted in g) accepts
+      outcome-cases (λ o. Next k (onStructure f m o)) causes (m .structure) value after (λ n. unfold fed isAccepted in g) accepts
 
   -- a call of which the book takes nothing, and that alters nothing that the book is tied to
-  untold : (k : Call) (a : Answer) → taken k (mergesOf a) b ≡ b → TiedTo (fedBy k a) (m .structure)
+  untold : (k : Call) (a : Answer) → taken k (mergesOf a) b ≡ b → HeldTo (fedBy k a) (m .structure)
   unfolding fed
-  untold k a e = subst (λ c. TiedTo c (m .structure)) (sym (same (isAccepted a))) g
+  untold k a e = subst (λ c. HeldTo c (m .structure)) (sym (same (isAccepted a))) g
     where
       same : (t : Bool) → fed k t (mergesOf a) b ≡ b
       same true = e
@@ -322,98 +361,142 @@ module _ (m : Machine) (b : Book) (g : TiedTo b (m .structure)) where
   -- an element that is declared is one of the book's
   declared : (e : ℕ) → isEl (m .structure) e ≡ true → e < elements b
   unfolding coreOf
-  declared e t = omega (arith, ltb-true e (length (m .structure .links)) t, g .ready .kept .long)
+  declared e t = omega (arith, ltb-true e (length (m .structure .links)) t, g .long)
+
+  all-declared : (es : List ℕ) → areEls (m .structure) es ≡ true → Below (elements b) es
+  unfolding coreOf
+  all-declared es t = subst (λ n. Below n es) (g .long) (below-if (length (m .structure .links)) es t)
 
   next-el : (mark : Bool) → Next (push-el mark) (step (push-el mark) m)
   unfolding step pushEl answerOf fed isAccepted mergesOf coreOf taken
   next-el mark =
+      let ls = m .structure .links in
+      let more = length-push (b .marks) mark in
       judged (push-el mark) number _ _ _
-      (λ none-applies e.
-      element-tied b (coreOf (m .structure)) (m .structure .func-apps) mark g
-      (omega (arith, leb-false maxEls (length (m .structure .links)) (none-applies .0), g .ready .kept .long)) (someMark-last (b .marks) mark e .1))
+      (λ none-applies.
+      let room = leb-false maxEls (length ls) (none-applies .0) in
+      record {
+        long = omega (arith, added-length ls room, more, g .long);
+        named = record {
+          equalities = all-map (pair-more (elements b) _ (omega (arith, more))) (b .equalities) (g .named .equalities);
+          apps = all-map (app-more (elements b) _ (omega (arith, more))) (b .apps) (g .named .apps);
+        };
+        tied = λ e.
+            let u = someMark-last (b .marks) mark e in
+            element-tied b (coreOf (m .structure)) (m .structure .func-apps) mark (g .tied (u .0)) (omega (arith, room, g .long)) (u .1);
+      })
 
   next-equality : (x y : ℕ) → Next (equate-els x y) (step (equate-els x y) m)
-  unfolding step equateEls equate answerOf fed isAccepted mergesOf coreOf
+  unfolding step equateEls equate answerOf fed isAccepted mergesOf coreOf taken
   next-equality x y =
+      let ls = m .structure .links in
       let p = isEl (m .structure) x in
       let q = isEl (m .structure) y in
       judged (equate-els x y) says _ _ _
-      (λ none-applies e.
+      (λ none-applies.
       let a = not-false (p && q) (none-applies .0) in
-      equality-tied b (coreOf (m .structure)) (m .structure .func-apps) x y g (declared x (and-first p q a)) (declared y (and-second p q a)))
+      let hx = declared x (and-first p q a) in
+      let hy = declared y (and-second p q a) in
+      record {
+        long = short-length (shortOf ls x) y ∙ short-length ls x ∙ g .long;
+        named = record { equalities = (record { left = hx; right = hy }, g .named .equalities); apps = g .named .apps };
+        tied = λ e. equality-tied b (coreOf (m .structure)) (m .structure .func-apps) x y (g .tied e) hx hy;
+      })
 
   next-application : (x : FuncApp) → Next (apply-func x) (step (apply-func x) m)
-  unfolding step applyFunc applyWith answerOf fed isAccepted mergesOf coreOf
+  unfolding step applyFunc applyWith answerOf fed isAccepted mergesOf coreOf taken
   next-application x =
+      let s = m .structure in
       let o = isFunc (m .sig) (x .func) in
-      let p = areEls (m .structure) (x .parents) in
-      let q = areEls (m .structure) (x .args) in
-      let r = isEl (m .structure) (x .result) in
+      let p = areEls s (x .parents) in
+      let q = areEls s (x .args) in
+      let r = isEl s (x .result) in
       judged (apply-func x) says _ _ _
-      (λ none-applies e.
-      let a = not-false (o && (p && (q && r))) (none-applies .1 .0) in
-      application-tied b (coreOf (m .structure)) (m .structure .func-apps) x g
-      (declared (x .result) (and-second q r (and-second p (q && r) (and-second o (p && (q && r)) a)))))
+      (λ none-applies.
+      let a = and-second o (p && (q && r)) (not-false (o && (p && (q && r))) (none-applies .1 .0)) in
+      let c = and-second p (q && r) a in
+      let hx = declared (x .result) (and-second q r c) in
+      record {
+        long = applied-length x (s .links) (s .pairs) (s .func-apps) ∙ g .long;
+        named = record {
+          equalities = g .named .equalities;
+          apps = (
+            record { parents = all-declared (x .parents) (and-first p (q && r) a); args = all-declared (x .args) (and-first q r c); result = hx },
+            g .named .apps,
+          );
+        };
+        tied = λ e. application-tied b (coreOf s) (s .func-apps) x (g .tied e) hx;
+      })
 
   next-close : Next close (step close m)
   unfolding step answerOf
   next-close = go (closing.close (m .sig) (m .structure) .answer) refl
     where
+      long : length (closing.close (m .sig) (m .structure) .left .links) ≡ elements b
+      long = (unfold coreOf in close-valid (m .sig) (m .structure) v .els ∙ g .long)
+
       go : (a : Answered Closed) → closing.close (m .sig) (m .structure) .answer ≡ a
-          → someMark (fedBy close (answerOf closed a) .marks) ≡ false
-          → TiedTo (fedBy close (answerOf closed a)) (closing.close (m .sig) (m .structure) .left)
-      go (accepted c) e u = (unfold answerOf fed isAccepted mergesOf in close-tied b m g c e)
-      go (refused n) e u = (unfold answerOf fed isAccepted in subst (TiedTo b) (sym (refused-close (m .sig) (m .structure) n e)) g)
+          → HeldTo (fedBy close (answerOf closed a)) (closing.close (m .sig) (m .structure) .left)
+      go (accepted c) e =
+          (unfold answerOf fed isAccepted mergesOf taken coreOf in
+          record { long = long; named = record { equalities = g .named .equalities; apps = g .named .apps }; tied = λ u. close-tied b m (g .tied u) c e })
+      go (refused n) e = (unfold answerOf fed isAccepted in subst (HeldTo b) (sym (refused-close (m .sig) (m .structure) n e)) g)
 
   next-root : (e : ℕ) → Next (root e) (step (root e) m)
   unfolding step links.root answerOf coreOf
   next-root e =
-      outcome-cases (λ o. Next (root e) (onLinks m o)) _ (m .structure .links) _ _ (λ n u. untold (root e) (refuse n) (unfold taken in refl))
-      (λ none-applies u.
+      let ls = m .structure .links in
+      outcome-cases (λ o. Next (root e) (onLinks m o)) _ ls _ _ (λ n. untold (root e) (refuse n) (unfold taken in refl))
+      (λ none-applies.
       unfold fed isAccepted taken in
-      relinked b (coreOf (m .structure)) (m .structure .func-apps) e g
-      (omega (arith, leb-false (length (m .structure .links)) e (none-applies .0), g .ready .kept .long)))
+      record {
+        long = short-length ls e ∙ g .long;
+        named = g .named;
+        tied = λ u.
+            relinked b (coreOf (m .structure)) (m .structure .func-apps) e (g .tied u)
+            (omega (arith, leb-false (length ls) e (none-applies .0), g .long));
+      })
 
   next-root-const : (e : ℕ) → Next (root-const e) (step (root-const e) m)
   unfolding step links.rootConst taken
   next-root-const e =
-      outcome-cases (λ o. Next (root-const e) (onLinks m o)) _ (m .structure .links) _ _ (λ n u. untold (root-const e) _ refl)
-      (λ none-applies u. untold (root-const e) _ refl)
+      outcome-cases (λ o. Next (root-const e) (onLinks m o)) _ (m .structure .links) _ _ (λ n. untold (root-const e) _ refl)
+      (λ none-applies. untold (root-const e) _ refl)
 
   next-imposition : (f : Fact) → Next (impose-type f) (step (impose-type f) m)
   unfolding step imposeType coreOf taken
   next-imposition f =
       judged (impose-type f) says _ _ _
-      (λ none-applies u. go (isImposed (canonicalFact (m .structure .links) f) (m .structure .impositions)) _)
+      (λ none-applies. go (isImposed (canonicalFact (m .structure .links) f) (m .structure .impositions)) _)
     where
       y : Fact
       y = canonicalFact (m .structure .links) f
 
-      go : (t : Bool) (a : Answer) → TiedTo (fedBy (impose-type f) a) (accepting (elim t [
+      go : (t : Bool) (a : Answer) → HeldTo (fedBy (impose-type f) a) (accepting (elim t [
         | true ↦ m .structure
         | false ↦ with-impositions (m .structure .impositions ++ (y ∷ [])) (m .structure)
       ]))
       go true a = (unfold coreOf taken in untold (impose-type f) a refl)
       go false a = (unfold coreOf taken in untold (impose-type f) a refl)
 
-  -- every call keeps the book tied to the structure
-  pub next-tied : (k : Call) → Next k (step k m)
+  -- every call keeps this
+  pub fed-held : (k : Call) → Next k (step k m)
   unfolding step taken applyPred bindVar bindAmbient conflicts coreOf
-  next-tied (push-type t) u = untold (push-type t) _ refl
-  next-tied (push-pred p) u = untold (push-pred p) _ refl
-  next-tied (push-func f) u = untold (push-func f) _ refl
-  next-tied (push-model x) u = untold (push-model x) _ refl
-  next-tied (push-mor-app x) u = untold (push-mor-app x) _ refl
-  next-tied (push-el mark) u = next-el mark u
-  next-tied (equate-els x y) u = next-equality x y u
-  next-tied (impose-type f) u = next-imposition f u
-  next-tied (apply-func x) u = next-application x u
-  next-tied (apply-pred x) u = judged (apply-pred x) says _ _ _ (λ none-applies u. untold (apply-pred x) _ refl) u
-  next-tied (bind-var v) u = judged (bind-var v) (λ x. done) _ _ _ (λ none-applies u. untold (bind-var v) _ refl) u
-  next-tied (bind-ambient a) u = judged (bind-ambient a) (λ x. done) _ _ _ (λ none-applies u. untold (bind-ambient a) _ refl) u
-  next-tied close u = next-close u
-  next-tied type-conflicts u = judged type-conflicts conflicting _ _ _ (λ none-applies u. untold type-conflicts _ refl) u
-  next-tied (root e) u = next-root e u
-  next-tied (root-const e) u = next-root-const e u
-  next-tied (lookup-type t ps) u = untold (lookup-type t ps) _ refl
-  next-tied (ambient-parents ts) u = untold (ambient-parents ts) _ refl
+  fed-held (push-type t) = untold (push-type t) _ refl
+  fed-held (push-pred p) = untold (push-pred p) _ refl
+  fed-held (push-func f) = untold (push-func f) _ refl
+  fed-held (push-model x) = untold (push-model x) _ refl
+  fed-held (push-mor-app x) = untold (push-mor-app x) _ refl
+  fed-held (push-el mark) = next-el mark
+  fed-held (equate-els x y) = next-equality x y
+  fed-held (impose-type f) = next-imposition f
+  fed-held (apply-func x) = next-application x
+  fed-held (apply-pred x) = judged (apply-pred x) says _ _ _ (λ none-applies. untold (apply-pred x) _ refl)
+  fed-held (bind-var v) = judged (bind-var v) (λ x. done) _ _ _ (λ none-applies. untold (bind-var v) _ refl)
+  fed-held (bind-ambient a) = judged (bind-ambient a) (λ x. done) _ _ _ (λ none-applies. untold (bind-ambient a) _ refl)
+  fed-held close = next-close
+  fed-held type-conflicts = judged type-conflicts conflicting _ _ _ (λ none-applies. untold type-conflicts _ refl)
+  fed-held (root e) = next-root e
+  fed-held (root-const e) = next-root-const e
+  fed-held (lookup-type t ps) = untold (lookup-type t ps) _ refl
+  fed-held (ambient-parents ts) = untold (ambient-parents ts) _ refl

@@ -14,8 +14,9 @@ use Rattle.unification.proofs.Numbers.{same-or}
 use Rattle.unification.proofs.Laws.{root-le, root-root}
 use Rattle.semantics.specs.Structure.{FuncApp, compareFuncApp, canonicalFuncApp}
 use Rattle.semantics.specs.Types.{Core}
-use Rattle.history.specs.Book.{Book, elements, Partition, FitsBook, SharedBy, Shared, Classes}
-use Rattle.history.proofs.Relation.{OneRoot, one-root, one-rooted, Like, like-self, like-respects}
+use Rattle.history.specs.Book.{Book, elements, Fits, Shared, Classes}
+use Rattle.history.proofs.Relation.{Equivalence, OneRoot, one-root, one-rooted, Like, like-self, like-respects}
+use Rattle.history.proofs.Elements.{Named, restricted, shared-among-all}
 use Rattle.semantics.proofs.Counts.{roots, isRoot, count-alike}
 use Rattle.history.proofs.Drain.{Even}
 use Rattle.history.proofs.Functionality.{Canon, settled-agree, meet-images}
@@ -39,20 +40,20 @@ like-image ls l x k =
     let m = meet-images ls (k .of) x (k .meet) in
     λ i. record { func = m .func i; parents = m .parents i; args = m .args i; result = k .result i }
 
-module _ (b : Book) (w : Core) (xs : List FuncApp) (g : Tied b w xs) where
+module _ (b : Book) (w : Core) (xs : List FuncApp) (named : Named b) (g : Tied b w xs) where
   abbrev ls : List ℕ
   ls = w .links
 
-  -- a partition that fits the book agrees with the structure
-  fits-fair : (R : ℕ → ℕ → Type 0) → Partition R → FitsBook b R → Fair R (Like R (In (b .apps))) w xs
+  -- a relation that fits the book agrees with the structure
+  fits-fair : (R : ℕ → ℕ → Type 0) → Equivalence R → Fits b R → Fair R (Like R (In (b .apps))) w xs
   fits-fair R q f =
       g .on R (Like R (In (b .apps))) q (like-respects R q (In (b .apps)) (f .functional))
       (all-from (Even R) (b .equalities) (f .equal), all-from (Like R (In (b .apps))) (b .apps) (like-self R q (In (b .apps))))
 
-  pub shared-if : (x y : ℕ) → OneRoot ls x y → Shared b x y
-  unfolding SharedBy
-  shared-if x y e R q f =
-      let r = fits-fair R q f .rooted in q .trans (q .flip (r x)) (subst (λ z. R z y) (sym e) (r y))
+  pub shared-if : (x y : ℕ) → x < elements b → OneRoot ls x y → Shared b x y
+  shared-if x y h e =
+      shared-among-all b named x y h .1 (λ R q f.
+      let r = fits-fair R q f .rooted in q .trans (q .flip (r x)) (subst (λ z. R z y) (sym e) (r y)))
 
   module _ (none : w .pairs ≡ []) (sorted : Sorted compareFuncApp xs) (canon : All (Canon ls) xs) where
     root-told : Told (OneRoot ls) (Like (OneRoot ls) (In xs)) b
@@ -66,7 +67,7 @@ module _ (b : Book) (w : Core) (xs : List FuncApp) (g : Tied b w xs) where
         })
 
     -- the partition by roots fits
-    root-fits : FitsBook b (OneRoot ls)
+    root-fits : Fits b (OneRoot ls)
     root-fits = record {
       equal = all-at (Even (OneRoot ls)) (b .equalities) (root-told .0);
       functional = λ x y mx my m.
@@ -75,15 +76,15 @@ module _ (b : Book) (w : Core) (xs : List FuncApp) (g : Tied b w xs) where
     }
 
     pub only-shared : (x y : ℕ) → Shared b x y → OneRoot ls x y
-    unfolding SharedBy
-    only-shared x y h = h (OneRoot ls) (one-root ls) root-fits
+    unfolding Shared
+    only-shared x y h = h (OneRoot ls) (restricted (elements b) (OneRoot ls) (one-root ls)) root-fits
 
     -- there are as many classes as roots
     pub root-classes : Classes b (roots ls)
     unfolding roots isRoot
     root-classes = record {
       lowest = isRoot ls;
-      is = λ e h. (λ t d l z. only e t d l (only-shared d e z), λ f. first e f (same-or (rootOf ls e) e));
+      is = λ e h. (λ t d l z. only e t d l (only-shared d e z), λ f. first e h f (same-or (rootOf ls e) e));
       many = ap (count (isRoot ls)) (sym (g .ready .kept .long));
     }
       where
@@ -94,9 +95,10 @@ module _ (b : Book) (w : Core) (xs : List FuncApp) (g : Tied b w xs) where
         only : (e : ℕ) → T (eqb (rootOf ls e) e) → (d : ℕ) → d < e → rootOf ls d ≡ rootOf ls e → ⊥
         only e t d l z = omega (arith, root-le ls d, eqb-true (rootOf ls e) e (passes (eqb (rootOf ls e) e) t))
 
-        first : (e : ℕ) → ((d : ℕ) → d < e → Shared b d e → ⊥) → (rootOf ls e ≡ e) ⊎ (rootOf ls e ≢ e) → T (eqb (rootOf ls e) e)
-        first e f (inl q) = rw (eq-eqb (rootOf ls e) e q) tt
-        first e f (inr q) = absurd (f (rootOf ls e) (omega (arith, root-le ls e)) (shared-if (rootOf ls e) e (root-root ls e)))
+        first : (e : ℕ) → e < elements b → ((d : ℕ) → d < e → Shared b d e → ⊥) → (rootOf ls e ≡ e) ⊎ (rootOf ls e ≢ e) → T (eqb (rootOf ls e) e)
+        first e h f (inl q) = rw (eq-eqb (rootOf ls e) e q) tt
+        first e h f (inr q) =
+            absurd (f (rootOf ls e) (omega (arith, root-le ls e)) (shared-if (rootOf ls e) e (omega (arith, root-le ls e)) (root-root ls e)))
 
     -- each stored application is the root image of one in the book
     pub stored-image : (x : FuncApp) → List·Memᴰ x xs → ImageOf ls (b .apps) x

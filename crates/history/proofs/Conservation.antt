@@ -17,14 +17,15 @@ returned-conserves h c r =
     let b = h .book in
     let v = h .machine .structure in
     let w = coreOf v in
-    let only = only-shared b w (v .func-apps) (r .tied) (r .pairs) (r .sorted) (r .canon) in
-    let shared = shared-if b w (v .func-apps) (r .tied) in
+    let only = only-shared b w (v .func-apps) (r .named) (r .tied) (r .pairs) (r .sorted) (r .canon) in
+    let shared = shared-if b w (v .func-apps) (r .named) (r .tied) in
     record {
+      long = r .long;
       classes = _;
-      counted = root-classes b w (v .func-apps) (r .tied) (r .pairs) (r .sorted) (r .canon);
+      counted = root-classes b w (v .func-apps) (r .named) (r .tied) (r .pairs) (r .sorted) (r .canon);
       sum = sym (r .tied .sum);
-      one-root = λ x y hx hy. (shared x y, only x y);
-      of-class = λ x hx. (omega (arith, root-le (v .links) x), shared x (rootOf (v .links) x) (sym (root-root (v .links) x)));
+      one-root = λ x y hx hy. (shared x y hx, only x y);
+      of-class = λ x hx. (omega (arith, root-le (v .links) x), shared x (rootOf (v .links) x) hx (sym (root-root (v .links) x)));
       lowest = λ x y hx hy z. omega (arith, root-le (v .links) y, only x y z);
       few = r .few;
     }

@@ -18,8 +18,7 @@ use Rattle.unification.proofs.Theorems.{merged-formed}
 use Rattle.semantics.specs.Structure.{Pair}
 use Rattle.semantics.specs.Types.{Core, with-pairs, marked, mergedMarks, merge, join, joinRoots, drain, drainPairs}
 use Rattle.validity.proofs.Drain.{ordered}
-use Rattle.history.specs.Book.{Partition}
-use Rattle.history.proofs.Relation.{Rooted}
+use Rattle.history.proofs.Relation.{Equivalence, Rooted}
 use Rattle.history.proofs.Counts.{Two, merged-length, merged-root, two-merged}
 use Rattle.semantics.proofs.Counts.{roots}
 
@@ -125,19 +124,19 @@ merged-unmarked l keep drop u =
 -- from w to v by joining the pairs for which Q asks
 pub record Joined (n total : ℕ) (w v : Core) (Q : (ℕ → ℕ → Type 0) → Type 0) : Type 1 where
   pub kept : Kept n total v
-  pub on : (R : ℕ → ℕ → Type 0) → Partition R → Rooted R (w .links) → Q R → Rooted R (v .links)
-  pub back : (R : ℕ → ℕ → Type 0) → Partition R → Rooted R (v .links) → Rooted R (w .links) × Q R
+  pub on : (R : ℕ → ℕ → Type 0) → Equivalence R → Rooted R (w .links) → Q R → Rooted R (v .links)
+  pub back : (R : ℕ → ℕ → Type 0) → Equivalence R → Rooted R (v .links) → Rooted R (w .links) × Q R
   pub plain : Unmarked (w .marks) → Unmarked (v .marks)
 
 module _ (n total : ℕ) (w : Core) (k : Kept n total w) (keep drop : ℕ) (m : Two (w .links) keep drop) where
-  merge-rooted : (R : ℕ → ℕ → Type 0) → Partition R → Rooted R (w .links) → R keep drop → Rooted R (mergedOf (w .links) keep drop)
+  merge-rooted : (R : ℕ → ℕ → Type 0) → Equivalence R → Rooted R (w .links) → R keep drop → Rooted R (mergedOf (w .links) keep drop)
   merge-rooted R v r q e =
       rw (merged-root (w .links) keep drop m e)
       (⊎-elim (λ (z : rootOf (w .links) e ≡ drop).
       rw (z, joined-at keep drop) (v .trans q (subst (λ x. R x e) z (r e))))
       (λ z. rw (joined-other keep drop (rootOf (w .links) e) z) (r e)) (same-or (rootOf (w .links) e) drop))
 
-  merge-was : (R : ℕ → ℕ → Type 0) → Partition R → Rooted R (mergedOf (w .links) keep drop) → Rooted R (w .links) × R keep drop
+  merge-was : (R : ℕ → ℕ → Type 0) → Equivalence R → Rooted R (mergedOf (w .links) keep drop) → Rooted R (w .links) × R keep drop
   merge-was R v r = (was, one)
     where
       one : R keep drop
@@ -152,8 +151,8 @@ module _ (n total : ℕ) (w : Core) (k : Kept n total w) (keep drop : ℕ) (m : 
           (λ z. subst (λ x. R x e) (merged-root (w .links) keep drop m e ∙ joined-other keep drop (rootOf (w .links) e) z) (r e))
           (same-or (rootOf (w .links) e) drop)
 
-  merge-joined : (Q : (ℕ → ℕ → Type 0) → Type 0) → ((R : ℕ → ℕ → Type 0) → Partition R → Rooted R (w .links) → Q R → R keep drop)
-      → ((R : ℕ → ℕ → Type 0) → Partition R → Rooted R (w .links) → R keep drop → Q R) → Joined n total w (merge keep drop w) Q
+  merge-joined : (Q : (ℕ → ℕ → Type 0) → Type 0) → ((R : ℕ → ℕ → Type 0) → Equivalence R → Rooted R (w .links) → Q R → R keep drop)
+      → ((R : ℕ → ℕ → Type 0) → Equivalence R → Rooted R (w .links) → R keep drop → Q R) → Joined n total w (merge keep drop w) Q
   unfolding merge
   merge-joined Q f g = record {
     kept = record {

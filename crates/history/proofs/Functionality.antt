@@ -16,14 +16,14 @@ use Rattle.unification.proofs.Laws.{root-root}
 use Rattle.semantics.specs.Structure.{FuncApp, Pair, compareFuncApp, canonicalFuncApp}
 use Rattle.semantics.specs.Close.{Rewritten, enterAt, enter, enterAll}
 use Rattle.semantics.proofs.Orders.{func-app-ordered, func-app-same, same-func-app, SameKey}
-use Rattle.history.specs.Book.{Partition, Together, none, more, Meet}
-use Rattle.history.proofs.Relation.{Rooted, OneRoot, Respects, meet-key, says-image, image-says}
+use Rattle.history.specs.Book.{Together, none, more, Meet}
+use Rattle.history.proofs.Relation.{Equivalence, Rooted, OneRoot, Respects, meet-key, says-image, image-says}
 use Rattle.history.proofs.Drain.{Even}
 use Rattle.history.proofs.Tables.{all-of, lookup-past}
 
 -- an application that is looked up, and one with its key
 
-module _ (R : ℕ → ℕ → Type 0) (S : FuncApp → Type 0) (q : Partition R) (law : Respects R S)
+module _ (R : ℕ → ℕ → Type 0) (S : FuncApp → Type 0) (q : Equivalence R) (law : Respects R S)
     (x y : FuncApp) (l : List FuncApp) (says : All S l) (e : lookupOf compareFuncApp x l ≡ some y) where
   meets : Meet R y x
   meets = let k = func-app-same y x (lookup-sound compareFuncApp x l e .1) in meet-key R q y x (k .func) (k .parents) (k .args)
@@ -63,7 +63,7 @@ pub record Agrees (R : ℕ → ℕ → Type 0) (S : FuncApp → Type 0) (t : Rew
   pub apps : All S (t .apps)
   pub pairs : All (Even R) (t .pairs)
 
-module _ (R : ℕ → ℕ → Type 0) (S : FuncApp → Type 0) (q : Partition R) (law : Respects R S) where
+module _ (R : ℕ → ℕ → Type 0) (S : FuncApp → Type 0) (q : Equivalence R) (law : Respects R S) where
   enter-on : (x : FuncApp) (t : Rewritten) → Agrees R S t → S x → Agrees R S (enter x t)
   enter-on x t a s =
       enter-cases (Agrees R S) x t (λ e. record { apps = placed-all compareFuncApp x S (t .apps) s (a .apps); pairs = a .pairs }) (λ y e r. a)

@@ -1,65 +1,38 @@
--- Lists of calls: while no element is marked, the book is tied to the structure.
-use mathlib.Core.Path.{_≡_, refl, sym, subst, ap}
+-- Lists of calls: what holds of the book at each moment, and at the return of an accepted close.
+use mathlib.Core.Path.{_≡_, refl, sym, subst, ap, _∙_}
+use mathlib.Core.Logic.{_↔_}
 use mathlib.Core.Bool.{Bool, true, false}
 use mathlib.Core.List.{List, [], _∷_, _++_}
-use Prim.Native.Nat.{ℕ, _+_, _≤_}
+use Prim.Native.Nat.{ℕ, _+_, _≤_, _<_}
 use native.Mathlib.Omega.{arith}
-use Rattle.ids.specs.Answers.{Answered, accepted, refused}
+use lib.ListN.{length}
+use Rattle.ids.specs.Answers.{Answered, accepted, refused, Outcome, outcome}
 use Rattle.ids.proofs.Sorted.{All, Sorted}
 use Rattle.ids.specs.Count.{count}
 use Rattle.unification.specs.Roots.{rootOf}
 use Rattle.unification.proofs.Theorems.{none-formed}
 use Rattle.unification.proofs.Laws.{root-stop}
 use Rattle.unification.proofs.Arrays.{link-past}
-use Rattle.semantics.specs.Structure.{empty, compareFuncApp}
+use Rattle.semantics.specs.Structure.{Structure, empty, compareFuncApp}
 use Rattle.semantics.specs.Close as closing
 use Rattle.semantics.specs.Close.{Closed, coreOf}
-use Rattle.semantics.specs.Calls.{Call, push-type, push-pred, push-func, push-model, push-mor-app, push-el, equate-els, impose-type}
-use Rattle.semantics.specs.Calls.{apply-func, apply-pred, bind-var, bind-ambient, close, type-conflicts, root, root-const, lookup-type}
-use Rattle.semantics.specs.Calls.{ambient-parents, closed, answerOf, start, step}
-use Rattle.history.specs.Book.{Book, blank, taken, fed, someMark, History, noted, next, run, begin, history}
+use Rattle.semantics.specs.Calls.{Call, push-el, close, number, closed, refuse, answerOf, pushEl, start, step}
+use Rattle.history.specs.Book.{Book, blank, elements, taken, fed, someMark, History, noted, next, run, begin, history, Shared}
 use Rattle.semantics.proofs.Counts.{roots}
+use Rattle.semantics.proofs.Outcomes.{decided-by}
+use Rattle.validity.proofs.Calls.{ValidMachine, start-valid, step-valid}
+use Rattle.history.proofs.Elements.{Named, SharedAmongAll, shared-among-all}
 use Rattle.history.proofs.Functionality.{Canon}
-use Rattle.history.proofs.Calls.{TiedTo, closed-shut, next-tied, someMark-last}
+use Rattle.history.proofs.Calls.{TiedTo, HeldTo, closed-shut, fed-held}
 
--- a mark that the book has stays there
-taken-marks : (k : Call) (n : ℕ) (b : Book) → someMark (taken k n b .marks) ≡ false → someMark (b .marks) ≡ false
-unfolding taken
-taken-marks (push-type t) n b e = e
-taken-marks (push-pred p) n b e = e
-taken-marks (push-func f) n b e = e
-taken-marks (push-model x) n b e = e
-taken-marks (push-mor-app x) n b e = e
-taken-marks (push-el mark) n b e = someMark-last (b .marks) mark e .0
-taken-marks (equate-els x y) n b e = e
-taken-marks (impose-type f) n b e = e
-taken-marks (apply-func x) n b e = e
-taken-marks (apply-pred x) n b e = e
-taken-marks (bind-var v) n b e = e
-taken-marks (bind-ambient a) n b e = e
-taken-marks close n b e = e
-taken-marks type-conflicts n b e = e
-taken-marks (root x) n b e = e
-taken-marks (root-const x) n b e = e
-taken-marks (lookup-type t ps) n b e = e
-taken-marks (ambient-parents ts) n b e = e
+-- what holds at each moment of a list
+pub record Held (h : History) : Type 1 where
+  pub valid : ValidMachine (h .machine)
+  pub book : HeldTo (h .book) (h .machine .structure)
 
-fed-marks : (k : Call) (t : Bool) (n : ℕ) (b : Book) → someMark (fed k t n b .marks) ≡ false → someMark (b .marks) ≡ false
-unfolding fed
-fed-marks k true n b e = taken-marks k n b e
-fed-marks k false n b e = e
-
-pub next-marks : (k : Call) (h : History) → someMark (next k h .book .marks) ≡ false → someMark (h .book .marks) ≡ false
+next-held : (k : Call) (h : History) → Held h → Held (next k h)
 unfolding next noted
-next-marks k h e = fed-marks k _ _ (h .book) e
-
--- with no element marked, the book is tied to the structure
-abbrev pub Held : History → Type 1
-Held h = someMark (h .book .marks) ≡ false → TiedTo (h .book) (h .machine .structure)
-
-pub next-held : (k : Call) (h : History) → Held h → Held (next k h)
-unfolding next noted
-next-held k h t e = next-tied (h .machine) (h .book) (t (fed-marks k _ _ (h .book) e)) k e
+next-held k h t = record { valid = step-valid k (h .machine) (t .valid); book = fed-held (h .machine) (h .book) (t .valid) (t .book) k }
 
 run-held : (ks : List Call) (h : History) → Held h → Held (run ks h)
 unfolding run
@@ -71,17 +44,45 @@ root-empty e = root-stop [] e (omega (arith, link-past [] e (omega arith)))
 
 begin-held : Held begin
 unfolding begin start blank empty coreOf roots count
-begin-held e = record {
-  ready = record { kept = record { formed = none-formed; long = refl; sum = refl }; pairs = tt; results = tt; plain = λ e. refl };
-  small = omega arith;
-  sum = refl;
-  on = λ R S q law f. record { rooted = λ x. subst (λ z. R z x) (sym (root-empty x)) (q .same x); pairs = tt; apps = tt };
-  back = λ R S q law f. (tt, tt);
+begin-held = record {
+  valid = start-valid;
+  book = record {
+    long = refl;
+    named = record { equalities = tt; apps = tt };
+    tied = λ e. record {
+      ready = record { kept = record { formed = none-formed; long = refl; sum = refl }; pairs = tt; results = tt; plain = λ e. refl };
+      small = omega arith;
+      sum = refl;
+      on = λ R S q law f. record { rooted = λ x. subst (λ z. R z x) (sym (root-empty x)) (q .same x); pairs = tt; apps = tt };
+      back = λ R S q law f. (tt, tt);
+    };
+  };
 }
 
 pub history-held : (ks : List Call) → Held (history ks)
 unfolding history
 history-held ks = run-held ks begin begin-held
+
+-- The book of every list names its elements only, so that it is the same whether partitions of its elements or of all numbers are meant.
+
+pub history-named : (ks : List Call) → Named (history ks .book)
+history-named ks = history-held ks .book .named
+
+pub history-shared : (ks : List Call) (x y : ℕ) → x < elements (history ks .book) → Shared (history ks .book) x y ↔ SharedAmongAll (history ks .book) x y
+history-shared ks = shared-among-all (history ks .book) (history-named ks)
+
+-- An accepted `push_el` answers the book's next element.
+
+pushed-number : (s : Structure) (mark : Bool) (n : ℕ) → answerOf number (pushEl s mark .answer) ≡ number n → n ≡ length (s .links)
+unfolding pushEl outcome answerOf
+pushed-number s mark n =
+    decided-by (λ (o : Outcome ℕ Structure). answerOf number (o .answer) ≡ number n → n ≡ length (s .links)) _ _ _
+    (λ k (e : refuse k ≡ number n). let z : _≡_ {A = ℕ} 0 1 = cc in absurd (omega arith))
+    (λ none-applies (e : number (length (s .links)) ≡ number n). cc)
+
+pub next-element : (ks : List Call) (mark : Bool) (n : ℕ) → step (push-el mark) (history ks .machine) .answer ≡ number n → n ≡ elements (history ks .book)
+unfolding step coreOf
+next-element ks mark n e = pushed-number (history ks .machine .structure) mark n e ∙ history-held ks .book .long
 
 -- calls after calls go on from where those came to
 pub run-append : (ks js : List Call) (h : History) → run (ks ++ js) h ≡ run js (run ks h)
@@ -101,6 +102,8 @@ history-next ks k = history-goes-on ks (k ∷ [])
 -- The return of an accepted close, with no element marked up to then.
 
 pub record Returned (h : History) (c : Closed) : Type 1 where
+  pub long : length (h .machine .structure .links) ≡ elements (h .book)
+  pub named : Named (h .book)
   pub tied : TiedTo (h .book) (h .machine .structure)
   pub pairs : h .machine .structure .pairs ≡ []
   pub sorted : Sorted compareFuncApp (h .machine .structure .func-apps)
@@ -113,13 +116,28 @@ unfolding answerOf
 accepted-close (accepted d) c e = let z : d ≡ c = cc in ap accepted z
 accepted-close (refused n) c e = let z : _≡_ {A = ℕ} 0 1 = cc in absurd (omega arith)
 
+-- a close marks nothing
+close-marks : (t : Bool) (n : ℕ) (b : Book) → fed close t n b .marks ≡ b .marks
+unfolding fed taken
+close-marks true n b = refl
+close-marks false n b = refl
+
 next-returned : (h : History) → Held h → (c : Closed) → step close (h .machine) .answer ≡ closed c → someMark (next close h .book .marks) ≡ false
     → Returned (next close h) c
-unfolding next noted step
+unfolding next noted step coreOf
 next-returned h held c e unmarked =
-    let s = closed-shut (h .book) (h .machine) (held (next-marks close h unmarked)) c
+    let after = next-held close h held .book in
+    let s = closed-shut (h .book) (h .machine) (held .book .tied (rw (close-marks _ _ (h .book)) at unmarked)) c
     (accepted-close (closing.close (h .machine .sig) (h .machine .structure) .answer) c e) in
-    record { tied = next-held close h held unmarked; pairs = s .pairs; sorted = s .sorted; canon = s .canon; few = s .few }
+    record {
+      long = after .long;
+      named = after .named;
+      tied = after .tied unmarked;
+      pairs = s .pairs;
+      sorted = s .sorted;
+      canon = s .canon;
+      few = s .few;
+    }
 
 pub returned : (before : List Call) (c : Closed) → step close (history before .machine) .answer ≡ closed c
     → someMark (history (before ++ (close ∷ [])) .book .marks) ≡ false → Returned (history (before ++ (close ∷ []))) c

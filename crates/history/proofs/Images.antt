@@ -24,6 +24,6 @@ mirrored before c e unmarked =
     let s = h .machine .structure in
     let r = returned before c e unmarked in
     record {
-      image = stored-image (h .book) (coreOf s) (s .func-apps) (r .tied) (r .pairs) (r .sorted) (r .canon);
-      stored = image-stored (h .book) (coreOf s) (s .func-apps) (r .tied) (r .pairs) (r .sorted) (r .canon);
+      image = stored-image (h .book) (coreOf s) (s .func-apps) (r .named) (r .tied) (r .pairs) (r .sorted) (r .canon);
+      stored = image-stored (h .book) (coreOf s) (s .func-apps) (r .named) (r .tied) (r .pairs) (r .sorted) (r .canon);
     }

@@ -1,4 +1,5 @@
 pub mod Relation
+pub mod Elements
 pub mod Counts
 pub mod Drain
 pub mod Tables

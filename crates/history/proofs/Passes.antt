@@ -19,10 +19,9 @@ use Rattle.semantics.specs.Types.{Core, drain, imposeAll, grew}
 use Rattle.semantics.specs.Close.{Rewritten, enterAll, demands, Turn, reports, drained, drainPass, rewrote, functionalityPass, typed}
 use Rattle.semantics.specs.Close.{typingPass, Pass, passes, runPasses, round}
 use Rattle.semantics.proofs.Queues.{drain-pairs}
-use Rattle.history.specs.Book.{Partition}
 use Rattle.semantics.proofs.Cases.{or-first, or-second}
 use Rattle.history.proofs.Tables.{all-of}
-use Rattle.history.proofs.Relation.{Rooted, Respects}
+use Rattle.history.proofs.Relation.{Equivalence, Rooted, Respects}
 use Rattle.semantics.proofs.Counts.{roots}
 use Rattle.history.proofs.Drain.{Kept, Even, Inside, Unmarked, Apart, Joined, drain-law, drain-counted, drain-met, drain-none}
 use Rattle.history.proofs.Drain.{drain-grows}
@@ -45,8 +44,8 @@ pub record Ready (n total : ℕ) (w : Core) (xs : List FuncApp) : Type 0 where
 
 -- what every partition that agrees with the one agrees with the other, in both directions
 pub record Sound (w : Core) (xs : List FuncApp) (v : Core) (ys : List FuncApp) : Type 1 where
-  pub on : (R : ℕ → ℕ → Type 0) (S : FuncApp → Type 0) → Partition R → Respects R S → Fair R S w xs → Fair R S v ys
-  pub back : (R : ℕ → ℕ → Type 0) (S : FuncApp → Type 0) → Partition R → Respects R S → Fair R S v ys → Fair R S w xs
+  pub on : (R : ℕ → ℕ → Type 0) (S : FuncApp → Type 0) → Equivalence R → Respects R S → Fair R S w xs → Fair R S v ys
+  pub back : (R : ℕ → ℕ → Type 0) (S : FuncApp → Type 0) → Equivalence R → Respects R S → Fair R S v ys → Fair R S w xs
 
 -- from one core and its applications to another
 pub record Passed (n total : ℕ) (w : Core) (xs : List FuncApp) (v : Core) (ys : List FuncApp) : Type 1 where

@@ -1,11 +1,17 @@
--- Partitions, and what they make of applications.
+-- Partitions of all numbers, and what they make of applications.
 use mathlib.Core.Path.{_≡_, refl, sym, subst, _∙_}
 use mathlib.Core.List.{List, [], _∷_, map}
 use Prim.Native.Nat.{ℕ}
 use Rattle.unification.specs.Roots.{rootOf}
 use Rattle.unification.proofs.Laws.{root-root}
 use Rattle.semantics.specs.Structure.{FuncApp, canonicalFuncApp}
-use Rattle.history.specs.Book.{Partition, Together, none, more, Meet}
+use Rattle.history.specs.Book.{Together, none, more, Meet}
+
+-- R is a partition of all numbers, elements or not: the proofs go by these, and `shared-among-all` (Elements) says that the classes are the same
+pub record Equivalence (R : ℕ → ℕ → Type 0) : Type 0 where
+  pub same : (x : ℕ) → R x x
+  pub flip : {x y : ℕ} → R x y → R y x
+  pub trans : {x y z : ℕ} → R x y → R y z → R x z
 
 -- each element is together with its root
 abbrev pub Rooted : (ℕ → ℕ → Type 0) → List ℕ → Type 0
@@ -15,7 +21,7 @@ Rooted R ls = (e : ℕ) → R (rootOf ls e) e
 abbrev pub OneRoot : List ℕ → ℕ → ℕ → Type 0
 OneRoot ls x y = rootOf ls x ≡ rootOf ls y
 
-pub one-root : (ls : List ℕ) → Partition (OneRoot ls)
+pub one-root : (ls : List ℕ) → Equivalence (OneRoot ls)
 one-root ls = record { same = λ x. refl; flip = λ p. sym p; trans = λ p q. p ∙ q }
 
 pub one-rooted : (ls : List ℕ) → Rooted (OneRoot ls) ls
@@ -33,7 +39,7 @@ pub record Like (R : ℕ → ℕ → Type 0) (App : FuncApp → Type 0) (x : Fun
   pub meet : Meet R of x
   pub result : R (of .result) (x .result)
 
-module _ (R : ℕ → ℕ → Type 0) (q : Partition R) where
+module _ (R : ℕ → ℕ → Type 0) (q : Equivalence R) where
   together-same : (l : List ℕ) → Together R l l
   together-same [] = none
   together-same (x ∷ xs) = more (q .same x) (together-same xs)

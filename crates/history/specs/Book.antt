@@ -115,11 +115,11 @@ history ks = run ks begin
 
 -- The classes.
 
--- "A partition": R x y says that x and y are together. Of numbers that are no elements nothing is asked, so that they may stand alone.
-pub record Partition (R : ℕ → ℕ → Type 0) : Type 0 where
-  pub same : (x : ℕ) → R x x
-  pub flip : {x y : ℕ} → R x y → R y x
-  pub trans : {x y z : ℕ} → R x y → R y z → R x z
+-- "A partition of the book's elements", which are the numbers below n: R x y says that x and y are together
+pub record Partition (n : ℕ) (R : ℕ → ℕ → Type 0) : Type 0 where
+  pub same : (x : ℕ) → x < n → R x x
+  pub flip : (x y : ℕ) → x < n → y < n → R x y → R y x
+  pub trans : (x y z : ℕ) → x < n → y < n → z < n → R x y → R y z → R x z
 
 -- "equally many and together place by place"
 pub data Together (R : ℕ → ℕ → Type 0) : List ℕ → List ℕ → Type 0 where
@@ -132,21 +132,14 @@ pub record Meet (R : ℕ → ℕ → Type 0) (x y : FuncApp) : Type 0 where
   pub parents : Together R (x .parents) (y .parents)
   pub args : Together R (x .args) (y .args)
 
--- "fits when it puts together the two elements of each equality, and the results of any two applications ..", for any equalities and applications
-pub record Fits (Equal : Pair → Type 0) (App : FuncApp → Type 0) (R : ℕ → ℕ → Type 0) : Type 0 where
-  pub equal : (p : Pair) → Equal p → R (p .left) (p .right)
-  pub functional : (x y : FuncApp) → App x → App y → Meet R x y → R (x .result) (y .result)
+-- "fits when it puts together the two elements of each equality, and the results of any two applications .."
+pub record Fits (b : Book) (R : ℕ → ℕ → Type 0) : Type 0 where
+  pub equal : (p : Pair) → List·Memᴰ p (b .equalities) → R (p .left) (p .right)
+  pub functional : (x y : FuncApp) → List·Memᴰ x (b .apps) → List·Memᴰ y (b .apps) → Meet R x y → R (x .result) (y .result)
 
--- "two elements share a class exactly when every fitting partition puts them together", for any equalities and applications
-unfoldable pub SharedBy : (Pair → Type 0) → (FuncApp → Type 0) → ℕ → ℕ → Type 1
-SharedBy Equal App x y = (R : ℕ → ℕ → Type 0) → Partition R → Fits Equal App R → R x y
-
--- the equalities and the applications are the book's
-abbrev pub FitsBook : Book → (ℕ → ℕ → Type 0) → Type 0
-FitsBook b R = Fits (λ p. List·Memᴰ p (b .equalities)) (λ x. List·Memᴰ x (b .apps)) R
-
-abbrev pub Shared : Book → ℕ → ℕ → Type 1
-Shared b x y = SharedBy (λ p. List·Memᴰ p (b .equalities)) (λ x. List·Memᴰ x (b .apps)) x y
+-- "two elements share a class exactly when every fitting partition puts them together"
+unfoldable pub Shared : Book → ℕ → ℕ → Type 1
+Shared b x y = (R : ℕ → ℕ → Type 0) → Partition (elements b) R → Fits b R → R x y
 
 -- the number of classes is k: each class has one lowest element, and k elements are the lowest of theirs
 pub record Classes (b : Book) (k : ℕ) : Type 1 where
@@ -163,6 +156,8 @@ someMark (m ∷ ms) = m || someMark ms
 
 -- what holds at the return of an accepted close that answered c, of the book and the links that it leaves
 pub record Conserved (b : Book) (links : List ℕ) (c : Closed) : Type 1 where
+  -- there are as many links as elements
+  pub long : length links ≡ elements b
   pub classes : ℕ
   pub counted : Classes b classes
   -- elements added are classes and merges
