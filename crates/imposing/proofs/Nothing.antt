@@ -1,6 +1,6 @@
 -- Laws of an imposing that changes nothing.
-use mathlib.Core.Path.{_≡_, refl, sym, ap, _∙_}
-use mathlib.Core.Bool.{Bool, true, false, not, _&&_, _||_}
+use mathlib.Core.Path.{_≡_, refl, sym, ap, subst, _∙_}
+use mathlib.Core.Bool.{Bool, true, false, _||_}
 use mathlib.Core.List.{List, [], _∷_}
 use Prim.Native.Nat.{ℕ, zero, suc, _+_, _*_, _≤_, _<_}
 use native.Mathlib.Nat.{add-mul}
@@ -8,23 +8,21 @@ use native.Mathlib.Numerals.{add-one}
 use native.Mathlib.Omega.{arith}
 use lib.ListN.{length, take, drop, getD, length-take, drop-of-length-le}
 use lib.Seq.{getD-take, drop-cons}
-use lib.Dec.{eqb}
 use Rattle.ids.specs.declared.Ordering.{Ordering}
 use Rattle.ids.specs.declared.Ordering.the-variants.{Less, Equal, Greater}
 use Rattle.ids.specs.Table.{present}
-use Rattle.ids.proofs.Answers.{and-right}
-use Rattle.unification.specs.Roots.{rootOf}
 use Rattle.semantics.specs.Structure.{Fact, compareFact, canonicalFact}
 use Rattle.semantics.specs.Types as types
-use Rattle.semantics.specs.Types.{imposeAll, marked, refineRoots, refine, refineParents, refineAll, insertFact, insertCanonical}
-use Rattle.semantics.specs.Types.{concreteTypesOf, impose}
+use Rattle.semantics.specs.Types.{imposeAll, marked, refineAll, insertFact, insertCanonical, concreteTypesOf, impose}
+use Rattle.semantics.proofs.Cases.{and-first, and-second}
 use Rattle.facts.specs.declared.Fact as code
 use Rattle.facts.specs.declared.Impositions.{Impositions}
 use Rattle.facts.specs.View.{factOf, impositionsOf}
 use Rattle.merging.specs.declared.Core.{Core}
 use Rattle.merging.specs.View.{coreOf, Toward}
 use Rattle.merging.proofs.Laws.{leaves-here}
-use Rattle.imposing.specs.Idle.{anyMarked}
+use Rattle.imposing.specs.Idle.{anyMarked, keepsTypes, isIdle}
+use Rattle.imposing.proofs.Kept.{Tells, all-tell, types-tell, all-free}
 use Rattle.imposing.proofs.Laws.{impositions-next}
 
 -- A search for a mark that has come to the element i.
@@ -67,29 +65,9 @@ module _ (x y : Fact) (ys : List Fact) {p : Bool} (so-far : present compareFact 
   unfolding present
   passed e = rw (e, present) at so-far
 
--- No element is marked.
-module _ (w : types.Core) (none : (e : ℕ) → marked (w .marks) e ≡ false) where
-  refine-still : (p q : ℕ) → refine p q w ≡ w
-  unfolding refine refineRoots
-  refine-still p q =
-      let a = rootOf (w .links) p in
-      let b = rootOf (w .links) q in
-      rw (none a, none b, and-right (not (eqb a b)) {b = false} refl, refineRoots)
-
-  parents-still : (ps qs : List ℕ) → refineParents ps qs w ≡ w
-  unfolding refineParents
-  parents-still [] qs = refl
-  parents-still (p ∷ ps) [] = refl
-  parents-still (p ∷ ps) (q ∷ qs) = ap (refineParents ps qs) (refine-still p q) ∙ parents-still ps qs
-
-  pub all-still : (gs : List Fact) (f : Fact) → refineAll gs f w ≡ w
-  unfolding refineAll
-  all-still [] f = refl
-  all-still (g ∷ gs) f = ap (refineAll gs f) (go (eqb (g .typ) (f .typ))) ∙ all-still gs f
-    where
-      go : (b : Bool) → _≡_ {A = types.Core} (elim b [ true ↦ refineParents (g .parents) (f .parents) w | false ↦ w ]) w
-      go true = parents-still (g .parents) (f .parents)
-      go false = refl
+-- where no element is marked no type is refined
+pub all-still : (w : types.Core) → ((e : ℕ) → marked (w .marks) e ≡ false) → (gs : List Fact) (f : Fact) → refineAll gs f w ≡ w
+all-still w none gs f = subst (λ (b : Bool). Tells b w (refineAll gs f w)) (all-free (w .links) (w .marks) none f gs) (all-tell f gs w)
 
 -- what is stored is not inserted
 insert-stored : (f : Fact) (w : types.Core) → present compareFact f (w .facts) ≡ true → insertFact f w ≡ w
@@ -102,6 +80,15 @@ pub imposes-nothing : (f : Fact) (w : types.Core) → refineAll (concreteTypesOf
 unfolding impose insertCanonical
 imposes-nothing f w still {x} is stored =
     ap (insertCanonical f) still ∙ insert-stored (canonicalFact (w .links) f) w (ap (λ (y : Fact). present compareFact y (w .facts)) (sym is) ∙ stored)
+
+-- an imposing that is idle changes nothing
+pub idle-same : (f : Fact) (w : types.Core) → isIdle f w ≡ true → impose f w ≡ w
+idle-same f w h =
+    let stored = present compareFact (canonicalFact (w .links) f) (w .facts) in
+    let kept = keepsTypes (w .links) (w .marks) f (w .facts) in
+    imposes-nothing f w
+    (subst (λ (b : Bool). Tells b w (refineAll (concreteTypesOf (w .links) (w .facts) (f .el)) f w)) (and-second stored kept h) (types-tell f w))
+    refl (and-first stored kept h)
 
 -- A turn of a loop that changes nothing where it is.
 pub idle-here : {before now : Core} {merges added : ℕ} (per : ℕ) {rest whole : types.Core → types.Core} (i : ℕ)

@@ -1,43 +1,47 @@
--- What the tests before an imposing tell; those below the first tell something only where they say yes.
+-- When imposing a fact changes nothing: no parents are merged, and nothing is inserted (01, "To impose a fact").
+-- `Exact` of the proofs says that this is exactly so.
 use Prim.Native.Nat.{ℕ}
-use mathlib.Core.Path.{_≡_}
-use mathlib.Core.Bool.{Bool, true, false, _||_}
+use mathlib.Core.Bool.{Bool, true, false, not, _&&_, _||_}
 use mathlib.Core.List.{List, [], _∷_}
-use Rattle.semantics.specs.Structure.{Fact}
-use Rattle.semantics.specs.Types as types
-use Rattle.semantics.specs.Types.{refine, refineAll, concreteTypesOf, impose}
-use Rattle.merging.specs.declared.Core.{Core}
-use Rattle.merging.specs.View.{coreOf}
+use lib.Dec.{eqb}
+use Rattle.ids.specs.Table.{present}
+use Rattle.unification.specs.Roots.{rootOf}
+use Rattle.semantics.specs.Structure.{Fact, compareFact, canonicalFact}
+use Rattle.semantics.specs.Types.{Core, marked, factsAt}
 
 -- whether one of the marks is set
 unfoldable pub anyMarked : List Bool → Bool
 anyMarked [] = false
 anyMarked (m ∷ ms) = m || anyMarked ms
 
--- no two parents, paired up to the shorter length, are merged
-unfoldable pub ParentsStay : List ℕ → List ℕ → types.Core → Type 0
-ParentsStay [] qs w = Unit {0}
-ParentsStay (p ∷ ps) [] w = Unit {0}
-ParentsStay (p ∷ ps) (q ∷ qs) w = (refine p q w ≡ w) × ParentsStay ps qs w
+-- "Where two roots differ and either is marked": of these two roots that is not so
+unfoldable pub keepsRoots : List Bool → ℕ → ℕ → Bool
+keepsRoots ms a b = eqb a b || not (marked ms a || marked ms b)
 
--- nor are those of a fact, against each of the same type
-unfoldable pub TypesStay : List Fact → Fact → types.Core → Type 0
-TypesStay [] f w = Unit {0}
-TypesStay (g ∷ gs) f w = (g .typ ≡ f .typ → ParentsStay (g .parents) (f .parents) w) × TypesStay gs f w
+-- with the links ls and the marks ms
+module _ (ls : List ℕ) (ms : List Bool) where
+  -- of these two parents
+  unfoldable pub keepsPair : ℕ → ℕ → Bool
+  keepsPair p q = keepsRoots ms (rootOf ls p) (rootOf ls q)
 
--- where the test says yes, that is so, whatever was counted before
-abbrev pub PairKept : Core → ℕ → ℕ → Bool → Type 0
-PairKept core p q r = r ≡ true → (m a : ℕ) → refine p q (coreOf core m a) ≡ coreOf core m a
+  -- nor of any two, "up to the shorter length"
+  unfoldable pub keepsParents : List ℕ → List ℕ → Bool
+  keepsParents [] qs = true
+  keepsParents (p ∷ ps) [] = true
+  keepsParents (p ∷ ps) (q ∷ qs) = keepsPair p q && keepsParents ps qs
 
-abbrev pub ParentsKept : Core → List ℕ → List ℕ → Bool → Type 0
-ParentsKept core ps qs r = r ≡ true → (m a : ℕ) → ParentsStay ps qs (coreOf core m a)
+  -- "For each of the same type"
+  unfoldable pub keepsFact : Fact → Fact → Bool
+  keepsFact f g = not (eqb (g .typ) (f .typ)) || keepsParents (g .parents) (f .parents)
 
-abbrev pub TypesKept : Core → Fact → Bool → Type 0
-TypesKept core f r =
-    r ≡ true → (m a : ℕ) →
-    let w = coreOf core m a in
-    refineAll (concreteTypesOf (w .links) (w .facts) (f .el)) f w ≡ w
+  unfoldable pub keepsAll : Fact → List Fact → Bool
+  keepsAll f [] = true
+  keepsAll f (g ∷ gs) = keepsFact f g && keepsAll f gs
 
--- where the test says yes, imposing the fact changes nothing
-abbrev pub Idle : Core → Fact → Bool → Type 0
-Idle core f r = r ≡ true → (m a : ℕ) → impose f (coreOf core m a) ≡ coreOf core m a
+  -- of the facts fs, those stored at the root of the element
+  abbrev pub keepsTypes : Fact → List Fact → Bool
+  keepsTypes f fs = keepsAll f (factsAt (rootOf ls (f .el)) fs)
+
+-- the fact, with its parents as roots, is stored at the root, and against no fact stored there a parent is merged
+abbrev pub isIdle : Fact → Core → Bool
+isIdle f w = present compareFact (canonicalFact (w .links) f) (w .facts) && keepsTypes (w .links) (w .marks) f (w .facts)

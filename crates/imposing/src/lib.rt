@@ -15,12 +15,13 @@ ghost use mathlib.Core.Path.{_≡_};
 ghost use lib.ListN.{take};
 ghost use Rattle.ids.specs.Ids.{elsOf};
 ghost use Rattle.ids.specs.Table.{present};
+ghost use Rattle.unification.specs.Roots.{linksOf};
 ghost use Rattle.semantics.specs.Structure.{compareFact};
 ghost use Rattle.facts.specs.View.{factOf, factsOf, impositionsOf};
 ghost use Rattle.semantics.specs.Types.{refine, refineParents, refineAll, insertFact, impose, imposeAll};
-ghost use Rattle.merging.specs.View.{Passes};
+ghost use Rattle.merging.specs.View.{coreOf, marksOf, Passes};
 ghost use Rattle.imposing.specs.Bounds.{onePair, oneList, oneFact, oneImposed, allImpositions};
-ghost use Rattle.imposing.specs.Idle.{anyMarked, PairKept, ParentsKept, TypesKept, Idle};
+ghost use Rattle.imposing.specs.Idle.{anyMarked, keepsPair, keepsParents, keepsTypes, isIdle};
 
 // A pass that finds nothing to do.
 fn idle(core: Core) -> Worked
@@ -188,7 +189,7 @@ fn holds(facts: Facts, entry: Fact) -> bool
 
 // Whether two parents are not merged: their roots are one, or neither is marked.
 fn keeps_pair(core: Core, p: ElId, q: ElId) -> bool
-    ensures { λ r. ⌜ PairKept core (p .0) (q .0) r ⌝ }
+    ensures { λ r. ⌜ r ≡ keepsPair (linksOf (core .unification)) (marksOf core) (p .0) (q .0) ⌝ }
 {
     let u = core.unification;
     let first = u.find(p);
@@ -206,7 +207,7 @@ fn keeps_pair(core: Core, p: ElId, q: ElId) -> bool
 
 // Whether no parents of two lists are merged.
 fn keeps_parents(core: Core, ps: ElIds, qs: ElIds) -> bool
-    ensures { λ r. ⌜ ParentsKept core (elsOf ps) (elsOf qs) r ⌝ }
+    ensures { λ r. ⌜ r ≡ keepsParents (linksOf (core .unification)) (marksOf core) (elsOf ps) (elsOf qs) ⌝ }
 {
     let n = ps.size();
     let k = qs.size();
@@ -225,7 +226,7 @@ fn keeps_parents(core: Core, ps: ElIds, qs: ElIds) -> bool
 
 // Whether no type that the element has is refined.
 fn keeps_types(core: Core, fact: Fact) -> bool
-    ensures { λ r. ⌜ TypesKept core (factOf fact) r ⌝ }
+    ensures { λ r. ⌜ r ≡ keepsTypes (linksOf (core .unification)) (marksOf core) (factOf fact) (factsOf (core .facts)) ⌝ }
 {
     let u = core.unification;
     let found = u.find(fact.el);
@@ -249,9 +250,9 @@ fn keeps_types(core: Core, fact: Fact) -> bool
     true
 }
 
-// Whether imposing a fact changes nothing: it is stored, and no type is refined. The test writes no table.
+// Whether imposing a fact changes nothing, whatever was counted before: it is stored, and no type is refined. The test writes no table.
 pub fn is_idle(core: Core, fact: Fact) -> bool
-    ensures { λ r. ⌜ Idle core (factOf fact) r ⌝ }
+    ensures { λ r. ⌜ r ≡ isIdle (factOf fact) (coreOf core 0 0) ⌝ }
 {
     let u = core.unification;
     let entry = canonical::canonical_fact(u, fact);

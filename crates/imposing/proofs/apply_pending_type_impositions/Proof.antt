@@ -1,4 +1,5 @@
 -- `apply_pending_type_impositions` meets its contract.
+use mathlib.Core.Path.{sym, _∙_}
 use Prim.Native.Nat.{_≤_, _<_, _*_, _-_}
 use native.Mathlib.Omega.{arith}
 use lib.ListN.{length, drop}
@@ -7,7 +8,7 @@ use Rattle.facts.specs.View.{impositionsOf, noFact}
 use Rattle.merging.specs.View.{coreOf, Toward}
 use Rattle.imposing.specs.Bounds.{oneImposed}
 use Rattle.merging.proofs.Laws.{begins, leaves, turn}
-use Rattle.imposing.proofs.Nothing.{idle-here, impositions-idle}
+use Rattle.imposing.proofs.Nothing.{idle-same, idle-here, impositions-idle}
 use Rattle.imposing.proofs.Laws.{impositions-next, impositions-done}
 use borrow.Author.Needs.{needs}
 use Rattle.imposing.proofs.apply_pending_type_impositions.Statement.{statement}
@@ -52,7 +53,7 @@ loop-again c =
     let l = test .before .loop in
     let at : l .i < length (impositionsOf t) = omega (arith, sized .size .ensures .is, test .loop-test .taken) in (
       omega (arith, test .loop-test .taken),
-      idle-here oneImposed (l .i) (l .inv .1) (λ m n. impositions-idle t (l .i) noFact at (coreOf (l .now) m n) (asked .is-idle .ensures (c .if1 .taken) m n)),
+      idle-here oneImposed (l .i) (l .inv .1) (λ m n. impositions-idle t (l .i) noFact at (coreOf (l .now) m n) (idle-same _ (coreOf (l .now) m n) (sym (asked .is-idle .ensures) ∙ c .if1 .taken))),
     )
 
 impose-concrete-type-requires : tie.Need-impose-concrete-type-requires Inv-loop μ-loop

@@ -1,24 +1,23 @@
 -- `keeps_types` meets its contract.
-use mathlib.Core.Path.{sym, ap}
-use Prim.Native.Nat.{ℕ, _≤_, _<_, _-_}
+use mathlib.Core.Path.{_≡_, refl, sym, ap, _∙_}
+use Prim.Native.Nat.{_≤_, _<_, _-_}
 use native.Mathlib.Omega.{arith}
 use lib.ListN.{length, drop}
-use borrow.Author.Tests.{not-false}
-use Rattle.unification.specs.Roots.{FindM, findOf}
+use borrow.Author.Tests.{not-true, not-false}
+use Rattle.unification.specs.Roots.{linksOf, FindM, findOf}
 use Rattle.semantics.specs.Types.{factsAt}
 use Rattle.facts.specs.View.{factOf, factsOf, noFact}
-use Rattle.merging.specs.View.{coreOf}
-use Rattle.imposing.specs.Idle.{TypesStay}
-use Rattle.imposing.proofs.Kept.{other-el, this-el, types-done, types-kept}
-use Rattle.imposing.proofs.Nothing.{never}
+use Rattle.merging.specs.View.{marksOf}
+use Rattle.imposing.specs.Idle.{keepsAll, keepsTypes}
+use Rattle.imposing.proofs.Kept.{other-el, other-type, type-kept, type-refined, types-done}
 use borrow.Author.Needs.{needs}
 use Rattle.imposing.proofs.keeps_types.Statement.{statement}
 use Rattle.imposing.proofs.keeps_types.Tie as tie
 
 abbrev Inv-loop : tie.InvT-loop
 Inv-loop core fact root facts n parents i₀ i =
-    (m a : ℕ) → TypesStay (factsAt root (drop i (factsOf facts))) (factOf fact) (coreOf core m a)
-    → TypesStay (factsAt root (factsOf facts)) (factOf fact) (coreOf core m a)
+    keepsAll (linksOf (core .unification)) (marksOf core) (factOf fact) (factsAt root (drop i (factsOf facts)))
+    ≡ keepsAll (linksOf (core .unification)) (marksOf core) (factOf fact) (factsAt root (factsOf facts))
 
 abbrev μ-loop : tie.MeasureT-loop
 μ-loop core fact root facts n parents i₀ i = n - i
@@ -30,7 +29,18 @@ size-requires : tie.Need-size-requires Inv-loop μ-loop
 size-requires c κs = search needs
 
 loop-holds : tie.Need-loop-holds Inv-loop μ-loop
-loop-holds c = λ m a h. h
+loop-holds c = refl
+
+-- the facts at the root that was found
+at-found : (c : tie.After-find Inv-loop μ-loop) →
+    let a = c .before .before .args in
+    keepsAll (linksOf (a .core .unification)) (marksOf (a .core)) (factOf (a .fact)) (factsAt (c .find .result .root .0) (factsOf (a .core .facts)))
+    ≡ keepsTypes (linksOf (a .core .unification)) (marksOf (a .core)) (factOf (a .fact)) (factsOf (a .core .facts))
+unfolding findOf
+at-found c =
+    let a = c .before .before .args in
+    ap (λ (r : FindM). keepsAll (linksOf (a .core .unification)) (marksOf (a .core)) (factOf (a .fact)) (factsAt (r .root) (factsOf (a .core .facts))))
+    (c .find .ensures)
 
 mul-here : tie.Need-mul-here Inv-loop μ-loop
 mul-here c = search needs
@@ -53,8 +63,8 @@ loop-again c =
     let a = at-root .before .before .args in
     let l = test .before .loop in
     let at : l .i < length (factsOf (a .core .facts)) = omega (arith, sized .size .ensures .is, test .loop-test .taken) in
-    λ m n.
-    other-el (a .core .facts) (at-root .find .result .root .0) (factOf (a .fact)) (l .i) (coreOf (a .core) m n) (l .inv m n) noFact at (c .if1 .taken)
+    other-el (linksOf (a .core .unification)) (marksOf (a .core)) (a .core .facts) (at-root .find .result .root .0) (factOf (a .fact)) (l .i) (l .inv)
+    noFact at (c .if1 .taken)
 
 add-i-2 : tie.Need-add-i-2 Inv-loop μ-loop
 add-i-2 c = search needs
@@ -72,15 +82,27 @@ loop-again-2 c =
     let a = at-root .before .before .args in
     let l = test .before .loop in
     let at : l .i < length (factsOf (a .core .facts)) = omega (arith, sized .size .ensures .is, test .loop-test .taken) in
-    λ m n.
-    this-el (a .core .facts) (at-root .find .result .root .0) (factOf (a .fact)) (l .i) (coreOf (a .core) m n) (l .inv m n) noFact at (here .if1 .left)
-    (λ e. absurd (c .if2 .taken e))
+    other-type (linksOf (a .core .unification)) (marksOf (a .core)) (a .core .facts) (at-root .find .result .root .0) (factOf (a .fact)) (l .i) (l .inv)
+    noFact at (here .if1 .left) (c .if2 .taken)
 
 keeps-parents-requires : tie.Need-keeps-parents-requires Inv-loop μ-loop
 keeps-parents-requires c κs = search needs
 
 returns : tie.Need-returns Inv-loop μ-loop
-returns c = λ e. never (sym e)
+returns c =
+    let asked = c .before in
+    let second = asked .before .before in
+    let here = second .before .before .before in
+    let first = here .before in
+    let test = first .before .before in
+    let sized = test .before .before .before in
+    let at-root = sized .before .before in
+    let a = at-root .before .before .args in
+    let l = test .before .loop in
+    let at : l .i < length (factsOf (a .core .facts)) = omega (arith, sized .size .ensures .is, test .loop-test .taken) in
+    type-refined (linksOf (a .core .unification)) (marksOf (a .core)) (a .core .facts) (at-root .find .result .root .0) (factOf (a .fact)) (l .i) (l .inv)
+    noFact at (here .if1 .left) (second .if2 .left) (sym (asked .keeps-parents .ensures) ∙ not-true _ (c .if3 .taken))
+    ∙ at-found at-root
 
 add-i-3 : tie.Need-add-i-3 Inv-loop μ-loop
 add-i-3 c = search needs
@@ -91,7 +113,8 @@ loop-less-3 c = search needs
 loop-again-3 : tie.Need-loop-again-3 Inv-loop μ-loop
 loop-again-3 c =
     let asked = c .before in
-    let here = asked .before .before .before .before .before in
+    let second = asked .before .before in
+    let here = second .before .before .before in
     let first = here .before in
     let test = first .before .before in
     let sized = test .before .before .before in
@@ -99,23 +122,18 @@ loop-again-3 c =
     let a = at-root .before .before .args in
     let l = test .before .loop in
     let at : l .i < length (factsOf (a .core .facts)) = omega (arith, sized .size .ensures .is, test .loop-test .taken) in
-    λ m n.
-    this-el (a .core .facts) (at-root .find .result .root .0) (factOf (a .fact)) (l .i) (coreOf (a .core) m n) (l .inv m n) noFact at (here .if1 .left)
-    (λ e. asked .keeps-parents .ensures (not-false _ (c .if3 .left)) m n)
+    type-kept (linksOf (a .core .unification)) (marksOf (a .core)) (a .core .facts) (at-root .find .result .root .0) (factOf (a .fact)) (l .i) (l .inv)
+    noFact at (here .if1 .left) (second .if2 .left) (sym (asked .keeps-parents .ensures) ∙ not-false _ (c .if3 .left))
 
 returns-2 : tie.Need-returns-2 Inv-loop μ-loop
-unfolding findOf
 returns-2 c =
     let sized = c .before .before .before in
     let at-root = sized .before .before in
     let a = at-root .before .before .args in
     let l = c .before .loop in
     let past : length (factsOf (a .core .facts)) ≤ l .i = omega (arith, sized .size .ensures .is, c .loop-test .left) in
-    let root = at-root .find .result .root .0 in
-    let f = factOf (a .fact) in
-    λ yes m n.
-    let w = coreOf (a .core) m n in
-    types-kept w f root (ap (λ (r : FindM). r .root) (at-root .find .ensures)) (types-done (a .core .facts) root f (l .i) w (l .inv m n) past)
+    types-done (linksOf (a .core .unification)) (marksOf (a .core)) (a .core .facts) (at-root .find .result .root .0) (factOf (a .fact)) (l .i) (l .inv) past
+    ∙ at-found at-root
 
 pub keeps-types-spec : {M : Type 1} → statement M
 keeps-types-spec =

@@ -1,5 +1,5 @@
 -- `type_row` meets its contract.
-use mathlib.Core.Path.{_≡_, refl}
+use mathlib.Core.Path.{_≡_, refl, sym, _∙_}
 use Prim.Native.Nat.{_+_, _*_, _≤_, _<_, _-_}
 use native.Mathlib.Omega.{arith}
 use lib.ListN.{length, drop}
@@ -7,8 +7,9 @@ use Rattle.ids.specs.Ids.{elsOf, typesOf}
 use Rattle.signature.specs.Model.{Sig, viewTypes}
 use Rattle.semantics.specs.Types.{imposeAll}
 use Rattle.semantics.specs.Close.{demandedArgs}
-use Rattle.merging.specs.View.{Toward}
+use Rattle.merging.specs.View.{coreOf, Toward}
 use Rattle.imposing.specs.Bounds.{oneImposed}
+use Rattle.imposing.proofs.Nothing.{idle-same}
 use Rattle.merging.proofs.Laws.{begins, leaves}
 use Rattle.typing.specs.Bounds.{oneRow}
 use Rattle.typing.proofs.Laws.{onlyTypes, type-absent, type-imposed, type-idle, arg-typed, arg-untyped, arg-idle, no-arg, types-end}
@@ -144,7 +145,7 @@ loop-again-3 c =
           (record { 0 = 0 }) (record { 0 = 0 }) ht hx
           (λ m n.
           type-idle g _ (elsOf (a .row .parents)) _ (looked .concrete-type-at .ensures) same (sized .size3 .ensures .is)
-          (known .typ .given .1) (led .leading .ensures) (asked .is-idle .ensures (c .if2 .taken) m n)),
+          (known .typ .given .1) (led .leading .ensures) (idle-same _ (coreOf (l .now) m n) (sym (asked .is-idle .ensures) ∙ c .if2 .taken))),
     )
 
 impose-concrete-type-requires : tie.Need-impose-concrete-type-requires Inv-loop μ-loop
