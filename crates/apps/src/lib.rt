@@ -9,7 +9,7 @@ ghost use mathlib.Core.Path.{_≡_};
 ghost use mathlib.Core.List.{_++_, [], _∷_};
 ghost use Prim.Native.Nat.{_+_, _≤_, _<_};
 ghost use lib.ListN.{take, drop};
-ghost use Rattle.ids.specs.Table.{Sized, goesLast, positionFrom, insertOf, lookupOf};
+ghost use Rattle.ids.specs.Table.{Sized, goesLast, positionFrom, insertOf, lookupOf, lenOf};
 ghost use Rattle.semantics.specs.Structure.{maxFuncApps, maxPredApps, compareFuncApp, comparePredApp};
 ghost use Rattle.apps.specs.View.{funcAppOf, funcAppsOf, insertedFuncApp, resultOf, found, predAppOf, predAppsOf, insertedPredApp};
 
@@ -59,7 +59,7 @@ pub enum Stored {
 }
 
 impl FuncApp {
-    pub fn compare(self, other: FuncApp) -> Ordering
+    fn compare(self, other: FuncApp) -> Ordering
         ensures { λ r. ⌜ r ≡ compareFuncApp (funcAppOf self) (funcAppOf other) ⌝ }
     {
         match ids::compare_numbers(self.func.0, other.func.0) {
@@ -100,7 +100,7 @@ impl FuncApp {
 }
 
 impl PredApp {
-    pub fn compare(self, other: PredApp) -> Ordering
+    fn compare(self, other: PredApp) -> Ordering
         ensures { λ r. ⌜ r ≡ comparePredApp (predAppOf self) (predAppOf other) ⌝ }
     {
         match ids::compare_numbers(self.pred.0, other.pred.0) {
@@ -212,7 +212,7 @@ impl FuncApps {
 
     // Inserts an application whose key is not there yet.
     pub fn insert(self, entry: FuncApp) -> InsertedFuncApp
-        ensures { λ r. ⌜ insertedFuncApp r ≡ insertOf compareFuncApp (funcAppOf entry) maxFuncApps (funcAppsOf self) ⌝ }
+        ensures { λ r. ⌜ (insertedFuncApp r ≡ insertOf compareFuncApp (funcAppOf entry) maxFuncApps (funcAppsOf self)) × (r .«func_apps» .len ≡ lenOf (self .len) (funcAppsOf self) (funcAppsOf (r .«func_apps»))) ⌝ }
     {
         let n = self.size();
         let found = self.position(entry);
@@ -323,7 +323,7 @@ impl PredApps {
 
     // Inserts an application that is not there yet.
     pub fn insert(self, entry: PredApp) -> InsertedPredApp
-        ensures { λ r. ⌜ insertedPredApp r ≡ insertOf comparePredApp (predAppOf entry) maxPredApps (predAppsOf self) ⌝ }
+        ensures { λ r. ⌜ (insertedPredApp r ≡ insertOf comparePredApp (predAppOf entry) maxPredApps (predAppsOf self)) × (r .«pred_apps» .len ≡ lenOf (self .len) (predAppsOf self) (predAppsOf (r .«pred_apps»))) ⌝ }
     {
         let n = self.size();
         let found = self.position(entry);

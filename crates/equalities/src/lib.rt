@@ -3,7 +3,7 @@ use ids::ElId;
 use unification::Unification;
 ghost use mathlib.Core.Path.{_≡_};
 ghost use mathlib.Core.List.{[]};
-ghost use Rattle.ids.specs.Table.{Sized};
+ghost use Rattle.ids.specs.Table.{Sized, lenOf};
 ghost use Rattle.unification.specs.Roots.{linksOf};
 ghost use Rattle.semantics.specs.Structure.{maxPairs};
 ghost use Rattle.equalities.specs.View.{pairOf, pairsOf, queuedOf, equateIn, equatedOf};
@@ -56,7 +56,7 @@ impl Pairs {
 
     // One more pair, where there is room.
     pub fn push(self, pair: Pair) -> Pairs
-        ensures { λ r. ⌜ pairsOf r ≡ queuedOf (pairsOf self) (pairOf pair) ⌝ }
+        ensures { λ r. ⌜ (pairsOf r ≡ queuedOf (pairsOf self) (pairOf pair)) × (r .len ≡ lenOf (self .len) (pairsOf self) (pairsOf r)) ⌝ }
     {
         let mut next = self;
         let n = self.size();

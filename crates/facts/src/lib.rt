@@ -8,7 +8,7 @@ ghost use mathlib.Core.Path.{_≡_};
 ghost use mathlib.Core.List.{_++_, [], _∷_};
 ghost use Prim.Native.Nat.{_+_, _≤_, _<_};
 ghost use lib.ListN.{take, drop};
-ghost use Rattle.ids.specs.Table.{Sized, goesLast, positionFrom, insertOf, pushOf};
+ghost use Rattle.ids.specs.Table.{Sized, goesLast, positionFrom, insertOf, pushOf, lenOf};
 ghost use Rattle.semantics.specs.Structure.{maxFacts, maxImpositions, compareFact};
 ghost use Rattle.semantics.specs.Calls.{isImposed};
 ghost use Rattle.facts.specs.View.{factOf, factsOf, inserted, impositionsOf};
@@ -152,7 +152,7 @@ impl Facts {
 
     // Inserts a fact where it is not there yet.
     pub fn insert(self, entry: Fact) -> InsertedFact
-        ensures { λ r. ⌜ inserted r ≡ insertOf compareFact (factOf entry) maxFacts (factsOf self) ⌝ }
+        ensures { λ r. ⌜ (inserted r ≡ insertOf compareFact (factOf entry) maxFacts (factsOf self)) × (r .facts .len ≡ lenOf (self .len) (factsOf self) (factsOf (r .facts))) ⌝ }
     {
         let n = self.size();
         let found = self.position(entry);
@@ -234,7 +234,7 @@ impl Impositions {
 
     // One more at the end, where there is room.
     pub fn push(self, entry: Fact) -> Impositions
-        ensures { λ r. ⌜ impositionsOf r ≡ pushOf maxImpositions (impositionsOf self) (factOf entry) ⌝ }
+        ensures { λ r. ⌜ (impositionsOf r ≡ pushOf maxImpositions (impositionsOf self) (factOf entry)) × (r .len ≡ lenOf (self .len) (impositionsOf self) (impositionsOf r)) ⌝ }
     {
         let mut next = self;
         let n = self.size();

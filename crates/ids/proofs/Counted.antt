@@ -1,15 +1,33 @@
 -- Laws of tables that are arrays with a count, over any type of entries: each table of the code cites them.
 use mathlib.Core.Path.{_≡_, sym, ap, _∙_}
 use mathlib.Core.Bool.{Bool, true, false, _||_}
-use mathlib.Core.List.{List, [], _∷_, map}
+use mathlib.Core.List.{List, [], _∷_, _++_, map}
 use Prim.Native.Nat.{ℕ, _+_, _≤_, _<_}
 use native.Mathlib.Omega.{arith}
-use lib.ListN.{length, take, drop, getD, set, List·getD-eq-default}
+use lib.ListN.{length, take, drop, getD, set, List·getD-eq-default, length-append, length-take, length-drop, length-set}
 use lib.Dec.{leb}
-use borrow.Author.Tests.{le-leb, lt-leb}
-use Rattle.ids.specs.Table.{Sized, pushOf}
+use borrow.Author.Tests.{le-leb, lt-leb, lt-ltb, le-ltb}
+use Rattle.ids.specs.Table.{Sized, pushOf, lenOf}
 use Rattle.ids.proofs.Views.{length-view, view-at, view-pushed, view-next, view-done}
 use Rattle.ids.proofs.Tables.{push-room, push-full}
+
+-- The length that a table says after a change; it said `len` before.
+module _ {B : Type 0} (len : ℕ) (before : List B) where
+  pub len-kept : len ≡ lenOf len before before
+  unfolding lenOf
+  len-kept = sym (rw (le-ltb (length before) (length before) (omega arith), lenOf))
+
+  module _ {n : ℕ} (many : n ≡ length before) where
+    pub len-grown : (after : List B) → length after ≡ n + 1 → n + 1 ≡ lenOf len before after
+    unfolding lenOf
+    len-grown after h = sym (rw (lt-ltb (length before) (length after) (omega arith), lenOf) h)
+
+    -- x was put at an index
+    pub len-placed : (after : List B) (x : B) (at : ℕ) → at ≤ n → after ≡ take at before ++ x ∷ drop at before → n + 1 ≡ lenOf len before after
+    len-placed after x at h e =
+        let more : length (take at before ++ x ∷ drop at before) ≡ n + 1 =
+        simp length-append (omega (arith, length-take at before, length-drop at before)) in
+        len-grown after (ap length e ∙ more)
 
 -- A table over an array xs, of which n entries are in use; n may say more than there are.
 module _ {A B : Type 0} (f : A → B) (n : ℕ) (xs : List A) where
@@ -38,6 +56,18 @@ module _ {A B : Type 0} (f : A → B) (n : ℕ) (xs : List A) where
 
     pub push-past : (y : B) → limit ≤ size → map f (take n xs) ≡ pushOf limit (map f (take n xs)) y
     push-past y h = sym (push-full limit _ y (omega (arith, sized .is)))
+
+    -- the same with the length that the table then says
+    pub counted-at : (x : A) → length xs ≡ limit → size < limit
+        → (map f (take (size + 1) (set xs size x)) ≡ pushOf limit (map f (take n xs)) (f x))
+        × (size + 1 ≡ lenOf n (map f (take n xs)) (map f (take (size + 1) (set xs size x))))
+    counted-at x long h =
+        let more : length (map f (take (size + 1) (set xs size x))) ≡ size + 1 = omega (arith, length-view f (size + 1) (set xs size x), length-set xs size x) in
+        (push-at x long h, len-grown n _ (sized .is) _ more)
+
+    pub counted-past : (y : B) → limit ≤ size
+        → (map f (take n xs) ≡ pushOf limit (map f (take n xs)) y) × (n ≡ lenOf n (map f (take n xs)) (map f (take n xs)))
+    counted-past y h = (push-past y h, len-kept n _)
 
 -- The room of a table.
 module _ {B : Type 0} {ys : List B} {limit size : ℕ} (sized : Sized ys limit size) where

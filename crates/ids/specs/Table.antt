@@ -59,6 +59,10 @@ module _ {A : Type 0} (cmp : A → A → Ordering) (x : A) where
 unfoldable pub pushOf : {A : Type 0} → ℕ → List A → A → List A
 pushOf cap ys x = elim (ltb (length ys) cap) [ true ↦ ys ++ (x ∷ []) | false ↦ ys ]
 
+-- the length that a table says after a change: how many entries it holds where it grew, else what it said before
+unfoldable pub lenOf : {A : Type 0} → ℕ → List A → List A → ℕ
+lenOf len before after = elim (ltb (length before) (length after)) [ true ↦ length after | false ↦ len ]
+
 -- whether x goes after y, the last of a sorted table's n entries: there is room, and y is smaller or there is none.
 -- It serves the proofs of loops that fill a table, and no public promise names it.
 unfoldable pub goesLast : {A : Type 0} → (A → A → Ordering) → ℕ → ℕ → A → A → Bool

@@ -147,7 +147,7 @@ fn app_is_declared(structure: Structure, signature: Signature, app: FuncApp) -> 
     structure.is_el(app.result)
 }
 
-pub fn is_pred(signature: Signature, pred: PredId) -> bool
+fn is_pred(signature: Signature, pred: PredId) -> bool
     ensures { λ r. ⌜ r ≡ isPred (sigOf signature) (pred .0) ⌝ }
 {
     let preds = signature.preds;

@@ -9,7 +9,7 @@ ghost use mathlib.Core.Path.{_≡_};
 ghost use mathlib.Core.List.{[]};
 ghost use lib.ListN.{getD};
 ghost use Rattle.ids.specs.Ids.{typesOf, givenEls};
-ghost use Rattle.ids.specs.Table.{Sized, pushOf};
+ghost use Rattle.ids.specs.Table.{Sized, pushOf, lenOf};
 ghost use Rattle.signature.specs.Model.{maxTypes, maxPreds, maxFuncs, maxModels, maxMorApps, noType, noPred, noFunc, empty, typeOf};
 ghost use Rattle.signature.specs.Model.{predOf, funcOf, modelOf, morAppOf, viewTypes, viewPreds, viewFuncs, viewModels};
 ghost use Rattle.signature.specs.Model.{viewMorApps, sigOf};
@@ -118,7 +118,7 @@ pub struct Signature {
 }
 
 impl Types {
-    pub fn new() -> Self
+    fn new() -> Self
         ensures { λ r. ⌜ viewTypes r ≡ [] ⌝ }
     {
         let none = Type {
@@ -145,7 +145,7 @@ impl Types {
 
     // One more at the end, where there is room.
     pub fn push(self, item: Type) -> Types
-        ensures { λ r. ⌜ viewTypes r ≡ pushOf maxTypes (viewTypes self) (typeOf item) ⌝ }
+        ensures { λ r. ⌜ (viewTypes r ≡ pushOf maxTypes (viewTypes self) (typeOf item)) × (r .len ≡ lenOf (self .len) (viewTypes self) (viewTypes r)) ⌝ }
     {
         let mut next = self;
         let n = self.size();
@@ -159,7 +159,7 @@ impl Types {
     }
 
     // The type of a number, or one with no lists where it is not declared.
-    pub fn get(self, id: TypeId) -> Type
+    fn get(self, id: TypeId) -> Type
         ensures { λ r. ⌜ typeOf r ≡ getD (viewTypes self) (id .0) noType ⌝ }
     {
         if self.size() <= id.0 {
@@ -174,7 +174,7 @@ impl Types {
 }
 
 impl Preds {
-    pub fn new() -> Self
+    fn new() -> Self
         ensures { λ r. ⌜ viewPreds r ≡ [] ⌝ }
     {
         let none = Pred {
@@ -201,7 +201,7 @@ impl Preds {
 
     // One more at the end, where there is room.
     pub fn push(self, item: Pred) -> Preds
-        ensures { λ r. ⌜ viewPreds r ≡ pushOf maxPreds (viewPreds self) (predOf item) ⌝ }
+        ensures { λ r. ⌜ (viewPreds r ≡ pushOf maxPreds (viewPreds self) (predOf item)) × (r .len ≡ lenOf (self .len) (viewPreds self) (viewPreds r)) ⌝ }
     {
         let mut next = self;
         let n = self.size();
@@ -230,7 +230,7 @@ impl Preds {
 }
 
 impl Funcs {
-    pub fn new() -> Self
+    fn new() -> Self
         ensures { λ r. ⌜ viewFuncs r ≡ [] ⌝ }
     {
         let none = Func {
@@ -258,7 +258,7 @@ impl Funcs {
 
     // One more at the end, where there is room.
     pub fn push(self, item: Func) -> Funcs
-        ensures { λ r. ⌜ viewFuncs r ≡ pushOf maxFuncs (viewFuncs self) (funcOf item) ⌝ }
+        ensures { λ r. ⌜ (viewFuncs r ≡ pushOf maxFuncs (viewFuncs self) (funcOf item)) × (r .len ≡ lenOf (self .len) (viewFuncs self) (viewFuncs r)) ⌝ }
     {
         let mut next = self;
         let n = self.size();
@@ -288,7 +288,7 @@ impl Funcs {
 }
 
 impl Models {
-    pub fn new() -> Self
+    fn new() -> Self
         ensures { λ r. ⌜ viewModels r ≡ [] ⌝ }
     {
         let none = ModelIds {
@@ -319,7 +319,7 @@ impl Models {
 
     // One more at the end, where there is room.
     pub fn push(self, item: ModelIds) -> Models
-        ensures { λ r. ⌜ viewModels r ≡ pushOf maxModels (viewModels self) (modelOf item) ⌝ }
+        ensures { λ r. ⌜ (viewModels r ≡ pushOf maxModels (viewModels self) (modelOf item)) × (r .len ≡ lenOf (self .len) (viewModels self) (viewModels r)) ⌝ }
     {
         let mut next = self;
         let n = self.size();
@@ -364,7 +364,7 @@ impl Models {
 }
 
 impl MorAppFuncs {
-    pub fn new() -> Self
+    fn new() -> Self
         ensures { λ r. ⌜ viewMorApps r ≡ [] ⌝ }
     {
         let none = MorAppFunc {
@@ -394,7 +394,7 @@ impl MorAppFuncs {
 
     // One more at the end, where there is room.
     pub fn push(self, item: MorAppFunc) -> MorAppFuncs
-        ensures { λ r. ⌜ viewMorApps r ≡ pushOf maxMorApps (viewMorApps self) (morAppOf item) ⌝ }
+        ensures { λ r. ⌜ (viewMorApps r ≡ pushOf maxMorApps (viewMorApps self) (morAppOf item)) × (r .len ≡ lenOf (self .len) (viewMorApps self) (viewMorApps r)) ⌝ }
     {
         let mut next = self;
         let n = self.size();

@@ -48,7 +48,7 @@ returns-3 c =
     let made = c .before in
     let got = made .before .before .before in
     let nothing = sym (ap apps.found (made .before .enum-told .given .1)) ∙ got .get .ensures in
-    app-new _ _ _ _ _ (got .before .before .canonical-func-app .ensures) nothing (made .insert .ensures)
+    app-new _ _ _ _ _ (got .before .before .canonical-func-app .ensures) nothing (made .insert .ensures .0)
 
 returns-4 : tie.Need-returns-4
 returns-4 c =

@@ -84,7 +84,7 @@ returns-2 c =
         domain = sym (held-types (a .f .domain) (domain-long start) (none .1 .0)) k;
         codomain = a .f .codomain .0;
       },
-    )) (c .push .ensures)
+    )) (c .push .ensures .0)
 
 pub push-func-spec : {M : Type 1} → statement M
 push-func-spec =

@@ -104,7 +104,7 @@ returns-2 c =
     let g = sigOf (a .signature) in
     let told = ap answered (c .before .enum-told2 .given .1) in
     appends maxModels (g .models) (modelOf (a .ids)) (with-models g) (model-judged _ _ _) (so-far judged) told
-    (λ none. (none .1 .1 .1 .1 .1 .1 .1 .0, refl)) (c .push .ensures)
+    (λ none. (none .1 .1 .1 .1 .1 .1 .1 .0, refl)) (c .push .ensures .0)
 
 pub push-model-spec : {M : Type 1} → statement M
 push-model-spec =

@@ -104,7 +104,7 @@ returns-2 c =
     let g = sigOf (a .signature) in
     let told = ap answered (c .before .enum-told2 .given .1) in
     appends maxMorApps (g .mor-apps) (morAppOf (a .m)) (with-mor-apps g) (mor-app-judged _ _ _) (so-far judged) told
-    (λ none. (none .1 .1 .1 .1 .1 .1 .1 .0, refl)) (c .push .ensures)
+    (λ none. (none .1 .1 .1 .1 .1 .1 .1 .0, refl)) (c .push .ensures .0)
 
 pub push-mor-app-func-spec : {M : Type 1} → statement M
 push-mor-app-func-spec =

@@ -74,7 +74,7 @@ returns-2 c =
         parents = sym (held-types (a .p .parents) (parents-long start) (none .0)) k;
         arity = sym (held-types (a .p .arity) (arity-long start) (none .1 .0)) k;
       },
-    )) (c .push .ensures)
+    )) (c .push .ensures .0)
 
 pub push-pred-spec : {M : Type 1} → statement M
 push-pred-spec =

@@ -119,7 +119,7 @@ returns-2 c =
         kind = kindOf (a .t .kind);
         parents = sym (held-types (a .t .parents) (parents-long start) (none .0)) k;
       },
-    )) (c .push .ensures)
+    )) (c .push .ensures .0)
 
 pub push-type-spec : {M : Type 1} → statement M
 push-type-spec =

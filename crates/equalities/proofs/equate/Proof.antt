@@ -17,7 +17,7 @@ returns : tie.Need-returns
 returns c =
     let second = c .before .before in
     let first = second .before .before in
-    equated _ _ _ _ _ (first .root-value .ensures) (second .root-value2 .ensures) (c .push .ensures)
+    equated _ _ _ _ _ (first .root-value .ensures) (second .root-value2 .ensures) (c .push .ensures .0)
 
 pub equate-spec : {M : Type 1} → statement M
 equate-spec = tie.close (tie.spec root-value-requires root-value-requires-2 push-requires returns)

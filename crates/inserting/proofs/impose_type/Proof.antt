@@ -178,7 +178,7 @@ returns-7 c =
     let imps = impositionsOf (s .«pending_type_impositions») in
     let absent = told (queued looked) (sized .before .if5 .left) in
     let fits : length imps < maxImpositions = omega (arith, sized .size .ensures .is, e6 .if6 .left) in
-    let pushed = c .before .push .ensures ∙ push-room maxImpositions imps _ fits
+    let pushed = c .before .push .ensures .0 ∙ push-room maxImpositions imps _ fits
     ∙ ap (λ (f : model.Fact). imps ++ (f ∷ [])) (looked .before .canonical-fact .ensures) in
     as-given (e1 e4) (judged (on (parents (e1 e4) .short) (on (declared e4)
     (on (and-then (not-false absent) (room (sized .size .ensures) (e6 .if6 .left)))

@@ -147,7 +147,7 @@ unfolding applyPred
 returns-6 c =
     let made = c .before .before in
     let e5 = made .before .before in
-    let full = ap (λ (g : Grown model.PredApp). g .full) (made .insert .ensures) in
+    let full = ap (λ (g : Grown model.PredApp). g .full) (made .insert .ensures .0) in
     let applies = sym (insert-needs _ _ _ _) ∙ told full (c .before .if6 .taken) in
     as-given (e2 e5) (judged (on (fits (e2 e5)) (on (declared e5) (stops applies (c .refuse-answer6 .ensures)))))
 
@@ -161,8 +161,8 @@ returns-7 c =
     let made = e6 .before in
     let e5 = made .before .before in
     let a = start (e2 e5) .args in
-    let full = told (ap (λ (g : Grown model.PredApp). g .full) (made .insert .ensures)) (e6 .if6 .left) in
-    let grown = made .insert .ensures ∙ insert-made comparePredApp _ maxPredApps _ full in
+    let full = told (ap (λ (g : Grown model.PredApp). g .full) (made .insert .ensures .0)) (e6 .if6 .left) in
+    let grown = made .insert .ensures .0 ∙ insert-made comparePredApp _ maxPredApps _ full in
     as-given (e2 e5) (judged (on (fits (e2 e5)) (on (declared e5) (on (sym (insert-needs _ _ _ _) ∙ full)
     (ends (accepts (ap (λ (g : Grown model.PredApp). g .grew) grown) (c .accept .ensures)
     (λ i. with-pred-apps (grown i .items) (structureOf (a .structure)))))))))

@@ -113,7 +113,7 @@ loop-again-2 c =
     let a = sized .before .args in (
       long _ (made .insert .result .facts .items) _ (made .insert .ok .1 .1 .1 .1 .0 .1 .1 .0 .1 .0 .1),
       turned-more fact-ordered factOf (a .t1 .len) (a .t1 .items) (sized .size .ensures) (test .before .loop .inv .1) noFact
-          (test .loop-test .taken) (entry .moved-fact .ensures) (made .insert .ensures),
+          (test .loop-test .taken) (entry .moved-fact .ensures) (made .insert .ensures .0),
     )
 
 returns : tie.Need-returns Inv-loop μ-loop

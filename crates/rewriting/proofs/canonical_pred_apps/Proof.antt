@@ -112,7 +112,7 @@ loop-again-2 c =
     let a = sized .before .args in (
       long _ (made .insert .result .«pred_apps» .items) _ (made .insert .ok .1 .1 .1 .1 .0 .1 .1 .0 .1 .0 .1),
       turned-more pred-app-ordered predAppOf (a .t2 .len) (a .t2 .items) (sized .size .ensures) (test .before .loop .inv .1) noPredApp
-          (test .loop-test .taken) (entry .canonical-pred-app .ensures) (made .insert .ensures),
+          (test .loop-test .taken) (entry .canonical-pred-app .ensures) (made .insert .ensures .0),
     )
 
 returns : tie.Need-returns Inv-loop μ-loop

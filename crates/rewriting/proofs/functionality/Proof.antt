@@ -131,7 +131,7 @@ loop-again-2 c =
     let nothing = sym (ap found (made .before .enum-told .given .1)) ∙ got .get .ensures in (
       long _ (made .insert .result .«func_apps» .items) _ (made .insert .ok .1 .1 .1 .1 .0 .1 .1 .0 .1 .0 .1),
       entered-new (sized .before .args .t2) (sized .size .ensures) (test .before .loop .inv .1) noFuncApp _
-          (test .loop-test .taken) (entry .canonical-func-app .ensures) (made .insert .ensures) nothing,
+          (test .loop-test .taken) (entry .canonical-func-app .ensures) (made .insert .ensures .0) nothing,
     )
 
 add-i-3 : tie.Need-add-i-3 Inv-loop μ-loop
@@ -173,7 +173,7 @@ loop-again-4 c =
     let stored = sym (ap found (existing .existing .given .1)) ∙ got .get .ensures in (
       test .before .loop .inv .0,
       entered-other (sized .before .args .t2) (sized .size .ensures) (test .before .loop .inv .1) noFuncApp _
-          (test .loop-test .taken) (entry .canonical-func-app .ensures) _ (c .push .ensures) stored (other .if2 .left),
+          (test .loop-test .taken) (entry .canonical-func-app .ensures) _ (c .push .ensures .0) stored (other .if2 .left),
     )
 
 returns : tie.Need-returns Inv-loop μ-loop

@@ -1,6 +1,6 @@
 -- `Pairs::push` meets its contract.
 use Rattle.ids.proofs.Views.{long}
-use Rattle.equalities.proofs.Queue.{queue-full, queue-room}
+use Rattle.equalities.proofs.Queue.{counted-full, counted-room}
 use borrow.Author.Needs.{needs}
 use Rattle.equalities.proofs.Pairs.push.Statement.{statement}
 use Rattle.equalities.proofs.Pairs.push.Tie as tie
@@ -11,7 +11,7 @@ size-requires c κs = search needs
 returns : tie.Need-returns
 returns c =
     let a = c .before .before .args in
-    queue-full (a .self) (a .pair) (c .before .size .ensures) (c .if1 .taken)
+    counted-full (a .self) (a .pair) (c .before .size .ensures) (c .if1 .taken)
 
 mul-pair : tie.Need-mul-pair
 mul-pair c = search needs
@@ -28,7 +28,7 @@ cast-next c = search needs
 returns-2 : tie.Need-returns-2
 returns-2 c =
     let a = c .before .before .args in
-    queue-room (a .self) (a .pair) (c .before .size .ensures) (search (needs, long)) (c .if1 .left)
+    counted-room (a .self) (a .pair) (c .before .size .ensures) (search (needs, long)) (c .if1 .left)
 
 pub push-spec : {M : Type 1} → statement M
 push-spec =

@@ -1,6 +1,6 @@
 -- `Impositions::push` meets its contract.
 use Rattle.ids.proofs.Views.{long}
-use Rattle.ids.proofs.Counted.{push-at, push-past}
+use Rattle.ids.proofs.Counted.{counted-at, counted-past}
 use Rattle.facts.specs.View.{factOf}
 use borrow.Author.Needs.{needs}
 use Rattle.facts.proofs.Impositions.push.Statement.{statement}
@@ -12,7 +12,7 @@ size-requires c κs = search needs
 returns : tie.Need-returns
 returns c =
     let a = c .before .before .args in
-    push-past factOf (a .self .len) (a .self .items) (c .before .size .ensures) (factOf (a .entry)) (c .if1 .taken)
+    counted-past factOf (a .self .len) (a .self .items) (c .before .size .ensures) (factOf (a .entry)) (c .if1 .taken)
 
 mul-entry : tie.Need-mul-entry
 mul-entry c = search needs
@@ -29,7 +29,7 @@ cast-next c = search needs
 returns-2 : tie.Need-returns-2
 returns-2 c =
     let a = c .before .before .args in
-    push-at factOf (a .self .len) (a .self .items) (c .before .size .ensures) (a .entry) (search (needs, long)) (c .if1 .left)
+    counted-at factOf (a .self .len) (a .self .items) (c .before .size .ensures) (a .entry) (search (needs, long)) (c .if1 .left)
 
 pub push-spec : {M : Type 1} → statement M
 push-spec =
