@@ -4,7 +4,7 @@ use mathlib.Core.Path.{_≡_, refl, sym, ap, _∙_}
 use mathlib.Core.Bool.{Bool, false}
 use mathlib.Core.List.{List, [], _∷_, _++_, map, append-assoc}
 use mathlib.Core.Option.{Option, none, some}
-use Prim.Native.Nat.{ℕ, _+_, _<_}
+use Prim.Native.Nat.{ℕ, _+_, _≤_, _<_}
 use native.Mathlib.Omega.{arith}
 use lib.ListN.{length, take, set}
 use lib.Dec.{leb}
@@ -13,10 +13,12 @@ use Rattle.ids.specs.declared.ElId.{ElId}
 use Rattle.ids.specs.declared.ElIds.{ElIds}
 use Rattle.ids.specs.declared.Ordering.{Ordering}
 use Rattle.ids.specs.Answers.{accepted, Outcome, _if_, undeclared}
-use Rattle.ids.specs.Ids.{elOf, elsOf}
+use Rattle.ids.specs.Limits.{maxList}
+use Rattle.ids.specs.Ids.{elOf, elsOf, givenEls}
 use Rattle.ids.specs.Table.{placed}
 use Rattle.ids.proofs.Judging.{outcome-all}
-use Rattle.ids.proofs.Views.{view-pushed}
+use Rattle.ids.proofs.Lists.{given-view}
+use Rattle.ids.proofs.Views.{length-view, view-pushed}
 use Rattle.unification.specs.Roots as roots
 use Rattle.unification.specs.Roots.{maxEls, linksOf, shortOf, FindM, findOf}
 use Rattle.unification.proofs.Laws.{short-length}
@@ -100,6 +102,12 @@ module _ (t : ℕ) (ts : List ℕ) (l : List Ambient) where
           → _≡_ {A = List ℕ} (elim o [ none ↦ ambientEls ts l | some a ↦ a .el ∷ ambientEls ts l ]) (e ∷ ambientEls ts l)
       go none q = let z : _≡_ {A = ℕ} 0 1 = cc in absurd (omega arith)
       go (some a) q = let same : a .el ≡ e = cc in ap (λ (x : ℕ). x ∷ ambientEls ts l) same
+
+-- a list that holds nothing is given with no entries
+pub none-given : (els : ElIds) → length (els .ids) ≡ maxList → elsOf els ≡ [] → givenEls els ≡ []
+none-given els four e =
+    let fits : els .len ≤ length (els .ids) = omega (arith, ap (length {A = ℕ}) e, length-view elOf (els .len) (els .ids)) in
+    given-view elOf (els .len) (els .ids) fits ∙ e
 
 -- the element found stands behind those found before
 pub found-more : (els : ElIds) (i : ℕ) (e : ElId) (rest : List ℕ) {R : List ℕ} → els .len ≡ i → i < length (els .ids)

@@ -25,7 +25,18 @@ ghost use Rattle.signature.specs.Model.{sigOf};
 ghost use Rattle.semantics.specs.Structure.{empty, accept};
 ghost use Rattle.semantics.specs.Calls.{isEl, areEls, pushEl, equateEls, bindVar, bindAmbient, ambientParents, rootOn, rootConstOn};
 ghost use Rattle.bindings.specs.View.{varOf, ambientOf};
-ghost use Rattle.structure.specs.View.{structureOf, numberingOf, sayingOf, doingOf, parentsOf, rootingOf};
+ghost use Rattle.structure.specs.View.{limits, structureOf, numberingOf, sayingOf, doingOf, withEls, lookingOf, rootingOf};
+
+// How many entries each table has at most.
+pub struct Limits {
+    pub els: usize,
+    pub facts: usize,
+    pub func_apps: usize,
+    pub pred_apps: usize,
+    pub vars: usize,
+    pub pairs: usize,
+    pub impositions: usize,
+}
 
 pub struct Structure {
     pub els: Facts,
@@ -116,6 +127,15 @@ fn refuse_binding(structure: Structure, number: u16) -> Doing
     }
 }
 
+fn refuse_lookup(number: u16) -> AmbientParents
+    ensures { λ r. ⌜ lookingOf r ≡ withEls (refused number) ⌝ }
+{
+    AmbientParents {
+        answer: Looked::Refused(number),
+        els: ElIds::new(),
+    }
+}
+
 impl Structure {
     pub const MAX_ELS: usize = Unification::MAX_ELS;
 
@@ -130,6 +150,21 @@ impl Structure {
     pub const MAX_PAIRS: usize = Pairs::MAX_LEN;
 
     pub const MAX_IMPOSITIONS: usize = Impositions::MAX_LEN;
+
+    // The constants are the limits that the definitions speak of.
+    pub fn limits() -> Limits
+        ensures { λ r. ⌜ r ≡ limits ⌝ }
+    {
+        Limits {
+            els: Structure::MAX_ELS,
+            facts: Structure::MAX_FACTS,
+            func_apps: Structure::MAX_FUNC_APPS,
+            pred_apps: Structure::MAX_PRED_APPS,
+            vars: Structure::MAX_VARS,
+            pairs: Structure::MAX_PAIRS,
+            impositions: Structure::MAX_IMPOSITIONS,
+        }
+    }
 
     pub fn new() -> Self
         ensures { λ r. ⌜ structureOf r ≡ empty ⌝ }
@@ -279,30 +314,21 @@ impl Structure {
 
     // The ambient lookup: the stored element of each type, in the order asked.
     pub fn ambient_parents(self, signature: Signature, types: TypeIds) -> AmbientParents
-        ensures { λ r. ⌜ parentsOf r ≡ ambientParents (sigOf signature) (structureOf self) (givenTypes types) ⌝ }
+        ensures { λ r. ⌜ lookingOf r ≡ withEls (ambientParents (sigOf signature) (structureOf self) (givenTypes types)) ⌝ }
     {
         let mut els = ElIds::new();
         if types.is_too_long() {
-            return AmbientParents {
-                answer: Looked::Refused(Refusal::MALFORMED),
-                els,
-            };
+            return refuse_lookup(Refusal::MALFORMED);
         }
         if !signature.are_types(types) {
-            return AmbientParents {
-                answer: Looked::Refused(Refusal::UNDECLARED),
-                els,
-            };
+            return refuse_lookup(Refusal::UNDECLARED);
         }
         let table = self.ambient_model_els;
         let n = types.size();
         for i in 0..n {
             let typ = types.ids[i];
             let Bound::El(el) = table.get(typ) else {
-                return AmbientParents {
-                    answer: Looked::Refused(Refusal::NO_AMBIENT),
-                    els,
-                };
+                return refuse_lookup(Refusal::NO_AMBIENT);
             };
             els.ids[i] = el;
             els.len = (i + 1) as u16;

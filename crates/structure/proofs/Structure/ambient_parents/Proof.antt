@@ -18,7 +18,7 @@ use Rattle.ids.proofs.Tests.{told, holds, fails}
 use Rattle.semantics.specs.Calls.{haveAmbients, ambientEls, ambientParents}
 use Rattle.bindings.specs.View as bindings
 use Rattle.bindings.specs.View.{ambientsOf}
-use Rattle.structure.specs.View.{structureOf}
+use Rattle.structure.specs.View.{structureOf, withEls}
 use Rattle.structure.proofs.Laws.{have-on, have-none, els-on, found-more}
 use borrow.Author.Needs.{needs}
 use Rattle.structure.proofs.Structure.ambient_parents.Statement.{statement}
@@ -40,9 +40,14 @@ new-requires c κs = search needs
 is-too-long-requires : tie.Need-is-too-long-requires Inv-loop μ-loop
 is-too-long-requires c κs = search needs
 
+refuse-lookup-requires : tie.Need-refuse-lookup-requires Inv-loop μ-loop
+refuse-lookup-requires c κs = search needs
+
 returns : tie.Need-returns Inv-loop μ-loop
 unfolding ambientParents
-returns c = sym (refuses _ _ _ _ _ (told (c .before .is-too-long .ensures) (c .if1 .taken)))
+returns c =
+    let t1 = c .before in
+    c .refuse-lookup .ensures ∙ ap withEls (sym (refuses _ _ _ _ _ (told (t1 .before .is-too-long .ensures) (t1 .if1 .taken))))
 
 -- The list is held as it was given.
 
@@ -66,11 +71,16 @@ as-given c e = let a = start c .args in e ∙ ap (ambientParents (sigOf (a .sign
 are-types-requires : tie.Need-are-types-requires Inv-loop μ-loop
 are-types-requires c κs = search needs
 
+refuse-lookup-requires-2 : tie.Need-refuse-lookup-requires-2 Inv-loop μ-loop
+refuse-lookup-requires-2 c κs = search needs
+
 returns-2 : tie.Need-returns-2 Inv-loop μ-loop
 unfolding ambientParents
 returns-2 c =
-    let e1 = c .before .before in
-    as-given e1 (sym (passes _ _ _ _ _ (types e1 .short) ∙ refuses _ _ _ _ _ (not-false (fails (c .before .are-types .ensures) (c .if2 .taken)))))
+    let t2 = c .before in
+    let e1 = t2 .before .before in
+    let applies = not-false (fails (t2 .before .are-types .ensures) (t2 .if2 .taken)) in
+    c .refuse-lookup2 .ensures ∙ ap withEls (as-given e1 (sym (passes _ _ _ _ _ (types e1 .short) ∙ refuses _ _ _ _ _ applies)))
 
 declared : (c : tie.Else2 Inv-loop μ-loop) → let a = start (c .before .before) .args in
     not (areTypes (sigOf (a .signature)) (typesOf (a .t3))) ≡ false
@@ -125,17 +135,22 @@ enum-known-el c = search needs
 enum-told : tie.Need-enum-told Inv-loop μ-loop
 enum-told c = search needs
 
+refuse-lookup-requires-3 : tie.Need-refuse-lookup-requires-3 Inv-loop μ-loop
+refuse-lookup-requires-3 c κs = search needs
+
 returns-3 : tie.Need-returns-3 Inv-loop μ-loop
 unfolding ambientParents
 returns-3 c =
-    let got = c .before .before in
+    let none = c .before in
+    let got = none .before .before in
     let test = got .before .before in
     let e2 = test .before .before .before .before in
     let table = start (e2 .before .before) .args .self .«ambient_model_els» in
     let l = test .before .loop .inv in
-    let nothing = sym (ap bindings.elOf (c .enum-told .given .1)) ∙ got .get .ensures in
+    let nothing = sym (ap bindings.elOf (none .enum-told .given .1)) ∙ got .get .ensures in
     let applies = not-false (sym (l .2) ∙ ap (λ (ts : List ℕ). haveAmbients ts (ambientsOf table)) (next test) ∙ have-none _ _ _ nothing) in
-    as-given (e2 .before .before) (sym (passes _ _ _ _ _ (types (e2 .before .before) .short) ∙ passes _ _ _ _ _ (declared e2) ∙ refuses _ _ _ _ _ applies))
+    c .refuse-lookup3 .ensures
+    ∙ ap withEls (as-given (e2 .before .before) (sym (passes _ _ _ _ _ (types (e2 .before .before) .short) ∙ passes _ _ _ _ _ (declared e2) ∙ refuses _ _ _ _ _ applies)))
 
 mul-el : tie.Need-mul-el Inv-loop μ-loop
 mul-el c = search needs
@@ -190,8 +205,9 @@ returns-4 c =
     let done = view-done typeOf (t .len) (t .ids) (loop .i) past in
     let have = not-true (sym (l .2) ∙ ap (λ (ts : List ℕ). haveAmbients ts (ambientsOf table)) done) in
     let els = sym (append-nil _) ∙ ap (λ (ts : List ℕ). elsOf (loop .els) ++ ambientEls ts (ambientsOf table)) (sym done) ∙ l .3 in
-    as-given (e2 .before .before) (ap accepted (given-view elOf (loop .els .len) (loop .els .ids) fits ∙ els) ∙ sym (passes _ _ _ _ _ (types (e2 .before .before) .short) ∙ passes _ _ _ _ _ (declared e2)
-    ∙ passes _ _ _ _ _ have ∙ none-left _ _))
+    ap withEls
+    (as-given (e2 .before .before) (ap accepted (given-view elOf (loop .els .len) (loop .els .ids) fits ∙ els) ∙ sym (passes _ _ _ _ _ (types (e2 .before .before) .short) ∙ passes _ _ _ _ _ (declared e2)
+    ∙ passes _ _ _ _ _ have ∙ none-left _ _)))
 
 pub ambient-parents-spec : {M : Type 1} → statement M
 ambient-parents-spec =
@@ -201,8 +217,10 @@ ambient-parents-spec =
     μ-loop
     new-requires
     is-too-long-requires
+    refuse-lookup-requires
     returns
     are-types-requires
+    refuse-lookup-requires-2
     returns-2
     size-requires
     loop-holds
@@ -211,6 +229,7 @@ ambient-parents-spec =
     get-requires
     enum-known-el
     enum-told
+    refuse-lookup-requires-3
     returns-3
     mul-el
     element-set-from-el
