@@ -54,7 +54,7 @@ pub struct Closing {
 
 impl Ran {
     // More rounds than a close of a structure that calls can make takes.
-    pub const FUEL: u64 = 2 * ((Structure::MAX_FACTS as u64 + 2) * (Structure::MAX_ELS as u64 + 1));
+    const FUEL: u64 = 2 * ((Structure::MAX_FACTS as u64 + 2) * (Structure::MAX_ELS as u64 + 1));
 }
 
 fn or(a: bool, b: bool) -> bool
