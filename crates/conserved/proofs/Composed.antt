@@ -55,8 +55,8 @@ run-comes none = refl
 run-comes {b = b} {ks = k ∷ ks} (more m r) = run-comes r ∙ ap (run ks) (made-next b m)
 
 pub run-history : {v z : Values} {d : Book} {ks : List Call} → Fresh v → Run v blank ks z d → come z d ≡ history ks
-unfolding history begin
-run-history {ks = ks} f r = run-comes r ∙ ap (λ m. run ks (record { machine = m; book = blank })) (f .is)
+unfolding history begin calls.start
+run-history {ks = ks} f r = run-comes r ∙ ap (λ (m : calls.Machine). run ks (record { machine = m; book = blank })) (λ i. record { sig = f .sig i; structure = f .str i })
 
 -- For every list of calls that the code makes from fresh values, and every close after it that is accepted, with no element marked up to then:
 -- what `Conserved` says of the book and of the links of the structure that this close hands back.

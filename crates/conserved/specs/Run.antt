@@ -1,5 +1,4 @@
 -- A list of the code's public calls, by what their contracts say of the values that they take and give.
-use mathlib.Core.Path.{_≡_}
 use mathlib.Core.Bool.{Bool}
 use mathlib.Core.List.{List, [], _∷_}
 use Rattle.ids.specs.declared.ElId.{ElId}
@@ -19,8 +18,7 @@ use Rattle.signature.specs.declared.TypeLookup.{TypeLookup}
 use Rattle.signature.specs.declared.Signature.{Signature}
 use Rattle.signature.specs.Model.{sigOf, givenType, givenPred, givenFunc, modelOf, morAppOf}
 use Rattle.signature.specs.Calls as signing
-use Rattle.signature.specs.Calls.{pushType, pushPred, pushFunc, pushModel, pushMorApp, declared, lookupType}
-use Rattle.semantics.specs.Close as closing
+use Rattle.signature.specs.Calls.{declared}
 use Rattle.semantics.specs.Calls as calls
 use Rattle.semantics.specs.Calls.{Call, Answer, answerOf, number, says, done, closed, conflicting, found, typed, els, leading}
 use Rattle.facts.specs.declared.Fact.{Fact}
@@ -41,7 +39,27 @@ use Rattle.close.specs.declared.Closing.{Closing}
 use Rattle.close.specs.View.{closingOf}
 use Rattle.conflicts.specs.declared.Conflicting.{Conflicting}
 use Rattle.conflicts.specs.View.{conflictingOf}
-use Rattle.history.specs.Book.{Book, blank, fed, isAccepted, mergesOf}
+use Rattle.declaring.proofs.push_type.Reads as push-type-fn
+use Rattle.declaring.proofs.push_pred.Reads as push-pred-fn
+use Rattle.declaring.proofs.push_func.Reads as push-func-fn
+use Rattle.declaring.proofs.push_model.Reads as push-model-fn
+use Rattle.declaring.proofs.push_mor_app_func.Reads as push-mor-app-func-fn
+use Rattle.structure.proofs.Structure.push_el.Reads as push-el-fn
+use Rattle.structure.proofs.Structure.equate.Reads as equate-fn
+use Rattle.inserting.proofs.impose_type.Reads as impose-type-fn
+use Rattle.inserting.proofs.insert_func_app_or_equate.Reads as insert-func-app-fn
+use Rattle.inserting.proofs.insert_pred_app.Reads as insert-pred-app-fn
+use Rattle.structure.proofs.Structure.insert_var_el.Reads as insert-var-el-fn
+use Rattle.structure.proofs.Structure.insert_ambient_model_el.Reads as insert-ambient-fn
+use Rattle.close.proofs.close.Reads as close-fn
+use Rattle.conflicts.proofs.type_conflicts.Reads as type-conflicts-fn
+use Rattle.structure.proofs.Structure.root.Reads as root-fn
+use Rattle.structure.proofs.Structure.root_const.Reads as root-const-fn
+use Rattle.signature.proofs.Signature.lookup_type.Reads as lookup-type-fn
+use Rattle.structure.proofs.Structure.ambient_parents.Reads as ambient-parents-fn
+use Rattle.signature.proofs.Signature.new.Reads as new-signature-fn
+use Rattle.structure.proofs.Structure.new.Reads as new-structure-fn
+use Rattle.history.specs.Book.{Book, fed, isAccepted, mergesOf}
 
 -- the code's two values
 pub record Values : Type 0 where
@@ -57,48 +75,51 @@ with-signature g v = record { signature = g; structure = v .structure }
 abbrev pub with-structure : Structure → Values → Values
 with-structure s v = record { signature = v .signature; structure = s }
 
--- A call was made: from which values, with what answer, and to which values. Each case asks the `ensures` of the code's function, of its arguments and its result.
+-- the arguments of a call that takes both values, or the structure alone, and one more
+abbrev both : {A : Type 0} → Values → A → Structure × (Signature × (A × Unit {0}))
+both v x = (v .structure, (v .signature, (x, tt)))
+
+abbrev one : {A : Type 0} → Values → A → Structure × (A × Unit {0})
+one v x = (v .structure, (x, tt))
+
+-- A call was made: from which values, with what answer, and to which values. Each case asks what the code's function ensures, by the function's own name (`Learnt`),
+-- of the arguments at entry, the result, and the arguments at exit.
 pub data Made (v : Values) : Call → Answer → Values → Type 0 where
-  push-type : (t : code-type.Type) (r : Declaring) → declared r ≡ pushType (structureOf (v .structure) .started) (sigOf (v .signature)) (givenType t)
+  push-type : (t : code-type.Type) (r : Declaring) → push-type-fn.Learnt tt (both v t) r (both v t)
       → Made v (calls.push-type (givenType t)) (answerOf number (declared r .answer)) (with-signature (r .signature) v)
-  push-pred : (p : Pred) (r : Declaring) → declared r ≡ pushPred (structureOf (v .structure) .started) (sigOf (v .signature)) (givenPred p)
+  push-pred : (p : Pred) (r : Declaring) → push-pred-fn.Learnt tt (both v p) r (both v p)
       → Made v (calls.push-pred (givenPred p)) (answerOf number (declared r .answer)) (with-signature (r .signature) v)
-  push-func : (f : Func) (r : Declaring) → declared r ≡ pushFunc (structureOf (v .structure) .started) (sigOf (v .signature)) (givenFunc f)
+  push-func : (f : Func) (r : Declaring) → push-func-fn.Learnt tt (both v f) r (both v f)
       → Made v (calls.push-func (givenFunc f)) (answerOf number (declared r .answer)) (with-signature (r .signature) v)
-  push-model : (m : ModelIds) (r : Declaring) → declared r ≡ pushModel (structureOf (v .structure) .started) (sigOf (v .signature)) (modelOf m)
+  push-model : (m : ModelIds) (r : Declaring) → push-model-fn.Learnt tt (both v m) r (both v m)
       → Made v (calls.push-model (modelOf m)) (answerOf number (declared r .answer)) (with-signature (r .signature) v)
-  push-mor-app-func : (m : MorAppFunc) (r : Declaring)
-      → declared r ≡ pushMorApp (structureOf (v .structure) .started) (sigOf (v .signature)) (morAppOf m)
+  push-mor-app-func : (m : MorAppFunc) (r : Declaring) → push-mor-app-func-fn.Learnt tt (both v m) r (both v m)
       → Made v (calls.push-mor-app (morAppOf m)) (answerOf number (declared r .answer)) (with-signature (r .signature) v)
-  push-el : (mark : Bool) (r : Numbering) → numberingOf r ≡ calls.pushEl (structureOf (v .structure)) mark
+  push-el : (mark : Bool) (r : Numbering) → push-el-fn.Learnt tt (one v mark) r (one v mark)
       → Made v (calls.push-el mark) (answerOf number (numberingOf r .answer)) (with-structure (r .structure) v)
-  equate : (a b : ElId) (r : Saying) → sayingOf r ≡ calls.equateEls (structureOf (v .structure)) (a .0) (b .0)
+  equate : (a b : ElId) (r : Saying) → equate-fn.Learnt tt (v .structure, (a, (b, tt))) r (v .structure, (a, (b, tt)))
       → Made v (calls.equate-els (a .0) (b .0)) (answerOf says (sayingOf r .answer)) (with-structure (r .structure) v)
-  impose-type : (f : Fact) (r : Saying) → sayingOf r ≡ calls.imposeType (sigOf (v .signature)) (structureOf (v .structure)) (givenFact f)
+  impose-type : (f : Fact) (r : Saying) → impose-type-fn.Learnt tt (both v f) r (both v f)
       → Made v (calls.impose-type (givenFact f)) (answerOf says (sayingOf r .answer)) (with-structure (r .structure) v)
-  insert-func-app-or-equate : (x : FuncApp) (r : Saying)
-      → sayingOf r ≡ calls.applyFunc (sigOf (v .signature)) (structureOf (v .structure)) (givenFuncApp x)
+  insert-func-app-or-equate : (x : FuncApp) (r : Saying) → insert-func-app-fn.Learnt tt (both v x) r (both v x)
       → Made v (calls.apply-func (givenFuncApp x)) (answerOf says (sayingOf r .answer)) (with-structure (r .structure) v)
-  insert-pred-app : (x : PredApp) (r : Saying) → sayingOf r ≡ calls.applyPred (sigOf (v .signature)) (structureOf (v .structure)) (givenPredApp x)
+  insert-pred-app : (x : PredApp) (r : Saying) → insert-pred-app-fn.Learnt tt (both v x) r (both v x)
       → Made v (calls.apply-pred (givenPredApp x)) (answerOf says (sayingOf r .answer)) (with-structure (r .structure) v)
-  insert-var-el : (x : VarEl) (r : Doing) → doingOf r ≡ calls.bindVar (structureOf (v .structure)) (varOf x)
+  insert-var-el : (x : VarEl) (r : Doing) → insert-var-el-fn.Learnt tt (one v x) r (one v x)
       → Made v (calls.bind-var (varOf x)) (answerOf (λ u. done) (doingOf r .answer)) (with-structure (r .structure) v)
-  insert-ambient-model-el : (x : AmbientEl) (r : Doing)
-      → doingOf r ≡ calls.bindAmbient (sigOf (v .signature)) (structureOf (v .structure)) (ambientOf x)
+  insert-ambient-model-el : (x : AmbientEl) (r : Doing) → insert-ambient-fn.Learnt tt (both v x) r (both v x)
       → Made v (calls.bind-ambient (ambientOf x)) (answerOf (λ u. done) (doingOf r .answer)) (with-structure (r .structure) v)
-  close : (r : Closing) → closingOf r ≡ closing.close (sigOf (v .signature)) (structureOf (v .structure))
+  close : (r : Closing) → close-fn.Learnt tt (v .structure, (v .signature, tt)) r (v .structure, (v .signature, tt))
       → Made v calls.close (answerOf closed (closingOf r .answer)) (with-structure (r .structure) v)
-  type-conflicts : (r : Conflicting) → conflictingOf r ≡ calls.conflicts (structureOf (v .structure))
+  type-conflicts : (r : Conflicting) → type-conflicts-fn.Learnt tt (v .structure, tt) r (v .structure, tt)
       → Made v calls.type-conflicts (answerOf conflicting (conflictingOf r .answer)) (with-structure (r .structure) v)
-  root : (e : ElId) (r : Rooting) → rootingOf r ≡ calls.rootOn (structureOf (v .structure)) (e .0)
+  root : (e : ElId) (r : Rooting) → root-fn.Learnt tt (one v e) r (one v e)
       → Made v (calls.root (e .0)) (answerOf found (rootingOf r .answer)) (with-structure (r .structure) v)
-  root-const : (e : ElId) (r : Finding)
-      → record { answer = answered r; left = structureOf (v .structure) } ≡ calls.rootConstOn (structureOf (v .structure)) (e .0)
+  root-const : (e : ElId) (r : Finding) → root-const-fn.Learnt tt (one v e) r (one v e)
       → Made v (calls.root-const (e .0)) (answerOf found (answered r)) v
-  lookup-type : (t : TypeId) (ps : ElIds) (r : TypeLookup) → signing.lookedOf r ≡ lookupType (sigOf (v .signature)) (t .0) (givenEls ps)
+  lookup-type : (t : TypeId) (ps : ElIds) (r : TypeLookup) → lookup-type-fn.Learnt tt (v .signature, (t, (ps, tt))) r (v .signature, (t, (ps, tt)))
       → Made v (calls.lookup-type (t .0) (givenEls ps)) (answerOf (λ x. typed (leading (givenEls ps) x)) (signing.lookedOf r)) v
-  ambient-parents : (ts : TypeIds) (r : AmbientParents)
-      → parentsOf r ≡ calls.ambientParents (sigOf (v .signature)) (structureOf (v .structure)) (givenTypes ts)
+  ambient-parents : (ts : TypeIds) (r : AmbientParents) → ambient-parents-fn.Learnt tt (both v ts) r (both v ts)
       → Made v (calls.ambient-parents (givenTypes ts)) (answerOf els (parentsOf r)) v
 
 -- A list of calls was made, each on the values that the one before it left, and the book was fed with them.
@@ -109,4 +130,5 @@ pub data Run : Values → Book → List Call → Values → Book → Type 0 wher
 
 -- "A list begins at the empty signature and structure": what `new` ensures of both
 pub record Fresh (v : Values) : Type 0 where
-  pub is : machineOf v ≡ calls.start
+  pub sig : new-signature-fn.Learnt tt tt (v .signature) tt
+  pub str : new-structure-fn.Learnt tt tt (v .structure) tt
