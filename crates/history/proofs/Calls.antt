@@ -433,7 +433,7 @@ module _ (m : Machine) (b : Book) (v : ValidMachine m) (g : HeldTo b (m .structu
   next-close = go (closing.close (m .sig) (m .structure) .answer) refl
     where
       long : length (closing.close (m .sig) (m .structure) .left .links) ≡ elements b
-      long = (unfold coreOf in close-valid (m .sig) (m .structure) v .els ∙ g .long)
+      long = (unfold coreOf in close-valid (m .sig) (m .structure) v .structure .els ∙ g .long)
 
       go : (a : Answered Closed) → closing.close (m .sig) (m .structure) .answer ≡ a
           → HeldTo (fedBy close (answerOf closed a)) (closing.close (m .sig) (m .structure) .left)
