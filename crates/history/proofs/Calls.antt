@@ -34,7 +34,7 @@ use Rattle.history.specs.Book.{Book, elements, taken, fed, isAccepted, m
 use Rattle.semantics.proofs.Links.{length-push}
 use Rattle.semantics.proofs.Outcomes.{NoneApplies, decided-by, below-if}
 use Rattle.semantics.proofs.Cases.{and-first, and-second, or-first, or-second}
-use Rattle.validity.proofs.Closing.{close-valid}
+use Rattle.validity.proofs.Closing.{close-els}
 use Rattle.validity.proofs.Calls.{ValidMachine}
 use Rattle.history.proofs.Relation.{Equivalence, Respects, says-image, image-says}
 use Rattle.history.proofs.Elements.{Named, pair-more, app-more}
@@ -433,7 +433,7 @@ module _ (m : Machine) (b : Book) (v : ValidMachine m) (g : HeldTo b (m .structu
   next-close = go (closing.close (m .sig) (m .structure) .answer) refl
     where
       long : length (closing.close (m .sig) (m .structure) .left .links) ≡ elements b
-      long = (unfold coreOf in close-valid (m .sig) (m .structure) v .structure .els ∙ g .long)
+      long = (unfold coreOf in close-els (m .sig) (m .structure) v ∙ g .long)
 
       go : (a : Answered Closed) → closing.close (m .sig) (m .structure) .answer ≡ a
           → HeldTo (fedBy close (answerOf closed a)) (closing.close (m .sig) (m .structure) .left)

@@ -6,7 +6,7 @@ use mathlib.Core.List.{List, [], map}
 use mathlib.Core.Option.{Option, none, some}
 use Prim.Native.Nat.{ℕ, _+_}
 use native.Mathlib.Omega.{arith}
-use lib.ListN.{length-map}
+use lib.ListN.{length, length-map}
 use Rattle.ids.specs.Answers.{Outcome, accepted, refused, tooManyFacts}
 use Rattle.ids.specs.Table.{rewriteInto}
 use Rattle.ids.proofs.Sorted.{All, all-map, all-image, no-test, rewrite-all, rewrite-sorted, rewrite-length, sorted-image}
@@ -237,6 +237,10 @@ module _ (g : Sig) (s : Structure) (v : Valid g s) where
     where
       left-pairs : leftBy ran end s .pairs ≡ end .pairs
       left-pairs = (unfold leftBy canonicaliseRefs withCore in refl)
+
+  -- a close adds no element
+  pub close-els : length (close g s .left .links) ≡ c .els
+  close-els = elim (to-end .went .whole .met) [ inl q ↦ rw (accepts q) (left-valid .els) | inr q ↦ rw (refuses q) refl ]
 
   pub close-valid : Valid g (close g s .left)
   close-valid = elim (to-end .went .whole .met) [ inl q ↦ rw (accepts q) left-over | inr q ↦ rw (refuses q) v ]
