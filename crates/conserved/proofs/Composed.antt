@@ -8,6 +8,7 @@ use Rattle.semantics.specs.Calls as calls
 use Rattle.semantics.specs.Calls.{Call, Answer, number, says, done, closed, conflicting, found, typed, els, leading, onSig, onStructure}
 use Rattle.semantics.specs.Calls.{onNeither, Step, step}
 use Rattle.semantics.proofs.Finds.{step-root, step-root-const}
+use Rattle.structure.specs.View.{Looking}
 use Rattle.history.specs.Book.{Book, blank, History, noted, next, run, history, begin, taken, fed, isAccepted, mergesOf, someMark}
 use Rattle.history.specs.Book.{Conserved, Conservation}
 use Rattle.history.proofs.Histories.{history-goes-on}
@@ -38,7 +39,7 @@ made-step {v} (type-conflicts r e) = ap (onStructure conflicting (machineOf v)) 
 made-step {v} (root x r e) = ap (onStructure found (machineOf v)) e ∙ sym (step-root (machineOf v) (x .0))
 made-step {v} (root-const x r e) = ap (onStructure found (machineOf v)) e ∙ sym (step-root-const (machineOf v) (x .0))
 made-step {v} (lookup-type t ps r e) = ap (onNeither (λ x. typed (leading _ x)) (machineOf v)) e
-made-step {v} (ambient-parents ts r e) = ap (onNeither els (machineOf v)) e
+made-step {v} (ambient-parents ts r e) = ap (λ (l : Looking). onNeither els (machineOf v) (l .answer)) e
 
 -- where a list of calls has come to
 abbrev come : Values → Book → History
