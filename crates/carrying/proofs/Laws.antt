@@ -14,10 +14,11 @@ use Rattle.ids.proofs.Views.{take-same}
 use Rattle.ids.proofs.Tests.{chosen, unchosen}
 use Rattle.signature.specs.Model.{Sig}
 use Rattle.semantics.specs.Structure.{Structure}
-use Rattle.semantics.specs.Calls.{Call, Answer, Machine, onSig, onStructure}
+use Rattle.semantics.specs.Calls.{Call, Answer, Machine, Step, onSig, onStructure}
 use Rattle.semantics.specs.Sheet.{Record, Form, forms, formOf, callIn, carryOut}
 use Rattle.records.specs.View.{fitsForm}
-use Rattle.carrying.specs.View.{formStep}
+use Rattle.carrying.specs.declared.Carried.{Carried}
+use Rattle.carrying.specs.View.{stepOf, CarriedM, carriedOf, carried, formStep}
 
 -- the four slots of a list
 abbrev pub slotsOf : List ℕ → List ℕ
@@ -44,6 +45,10 @@ module _ {A B : Type 0} (f : A → Answer) (m : Machine) (view : B → Answered 
   pub on-structure : (s : Structure) {x y : B} → y ≡ x
       → onStructure f m (record { answer = view x; left = s }) ≡ onStructure f m (record { answer = view y; left = s })
   on-structure s e = ap (λ (x : B). onStructure f m (record { answer = view x; left = s })) (sym e)
+
+-- the step of a record that is carried out, with the conflicts as they are held
+pub carried-step : (r : Carried) {s : Step} → carriedOf r ≡ carried s → stepOf r ≡ s
+carried-step r is = ap (λ (k : CarriedM). k .step) is
 
 -- Kinds by number.
 

@@ -1,6 +1,7 @@
 -- A machine, and what a record that is carried out answers, as the definitions speak of them.
-use mathlib.Core.List.{List}
+use mathlib.Core.List.{List, []}
 use mathlib.Core.Option.{Option, none, some}
+use Rattle.ids.specs.Ids.{Handed, whole}
 use Rattle.signature.specs.Model.{sigOf}
 use Rattle.semantics.specs.Conflicts.{Conflict}
 use Rattle.semantics.specs.Calls as calls
@@ -8,7 +9,7 @@ use Rattle.semantics.specs.Sheet as sheet
 use Rattle.semantics.specs.Sheet.{Form}
 use Rattle.close.specs.View.{closedOf}
 use Rattle.structure.specs.View.{structureOf}
-use Rattle.conflicts.specs.View.{conflictsOf}
+use Rattle.conflicts.specs.View.{conflictsOf, handedConflicts}
 use Rattle.carrying.specs.declared.Machine.{Machine}
 use Rattle.carrying.specs.declared.Answer.{Answer}
 use Rattle.carrying.specs.declared.Answer.the-variants as answers
@@ -27,6 +28,30 @@ answerOf cs (answers.Refused n) = calls.refuse n
 
 abbrev pub stepOf : Carried → calls.Step
 stepOf r = record { answer = answerOf (conflictsOf (r .conflicts)) (r .answer); after = machineOf (r .machine) }
+
+-- the conflicts that an answer lists: none where it is another
+abbrev pub listed : calls.Answer → List Conflict
+listed (calls.number n) = []
+listed (calls.says b) = []
+listed calls.done = []
+listed (calls.closed c) = []
+listed (calls.conflicting cs) = cs
+listed (calls.found f) = []
+listed (calls.typed t) = []
+listed (calls.els es) = []
+listed (calls.refuse n) = []
+
+-- a step, and the conflicts that stand beside its answer
+pub record CarriedM : Type 0 where
+  pub step : calls.Step
+  pub conflicts : Handed (List Conflict)
+
+abbrev pub carriedOf : Carried → CarriedM
+carriedOf r = record { step = stepOf r; conflicts = handedConflicts (r .conflicts) }
+
+-- beside an answer stand the conflicts that it lists
+abbrev pub carried : calls.Step → CarriedM
+carried s = record { step = s; conflicts = whole (listed (s .answer)) }
 
 -- what a record that fits its kind's form answers
 unfoldable pub formStep : Option Form → sheet.Record → calls.Machine → calls.Step

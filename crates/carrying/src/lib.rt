@@ -36,9 +36,10 @@ use structure::Said;
 use structure::Saying;
 use structure::Structure;
 ghost use mathlib.Core.Path.{_≡_};
+ghost use mathlib.Core.List.{[]};
 ghost use Prim.Native.Nat.{_≤_, min};
 ghost use lib.ListN.{take};
-ghost use Rattle.ids.specs.Ids.{givenEls, givenTypes};
+ghost use Rattle.ids.specs.Ids.{givenEls, givenTypes, whole};
 ghost use Rattle.ids.specs.Limits.{maxList};
 ghost use Rattle.signature.specs.Model.{kindOf};
 ghost use Rattle.signature.specs.Calls.{declared};
@@ -47,15 +48,15 @@ ghost use Rattle.semantics.specs.Sheet as sheet;
 ghost use Rattle.structure.specs.View.{structureOf, numberingOf, sayingOf, doingOf};
 ghost use Rattle.close.specs.View.{closingOf};
 ghost use Rattle.records.specs.View.{recordView};
-ghost use Rattle.conflicts.specs.View.{conflictsOf, conflictingOf};
-ghost use Rattle.carrying.specs.View.{machineOf, answerOf, stepOf, formStep};
+ghost use Rattle.conflicts.specs.View.{conflictsOf, givenConflicts, heldConflicting};
+ghost use Rattle.carrying.specs.View.{machineOf, answerOf, carriedOf, carried, formStep};
 
 pub struct Machine {
     pub signature: Signature,
     pub structure: Structure,
 }
 
-// What a record's call answers; conflicts stand beside it.
+// What a record's call answers; conflicts stand beside it, and none beside another answer.
 pub enum Answer {
     Number(u16),
     Says(bool),
@@ -136,7 +137,7 @@ fn type_kind(a: u16, b: u16) -> TypeKind
 
 // An answer that is no list of conflicts.
 fn answered(machine: Machine, answer: Answer) -> Carried
-    ensures { λ r. ⌜ stepOf r ≡ record { answer = answerOf (conflictsOf (r .conflicts)) answer; after = machineOf machine } ⌝ }
+    ensures { λ r. ⌜ carriedOf r ≡ record { step = record { answer = answerOf [] answer; after = machineOf machine }; conflicts = whole [] } ⌝ }
 {
     Carried {
         answer,
@@ -148,7 +149,7 @@ fn answered(machine: Machine, answer: Answer) -> Carried
 // What a record answers after its call, by what the call answers.
 
 fn after_declaring(machine: Machine, d: Declaring) -> Carried
-    ensures { λ r. ⌜ stepOf r ≡ calls.onSig calls.number (machineOf machine) (declared d) ⌝ }
+    ensures { λ r. ⌜ carriedOf r ≡ carried (calls.onSig calls.number (machineOf machine) (declared d)) ⌝ }
 {
     let signature = d.signature;
     let structure = machine.structure;
@@ -164,7 +165,7 @@ fn after_declaring(machine: Machine, d: Declaring) -> Carried
 }
 
 fn after_numbering(machine: Machine, d: Numbering) -> Carried
-    ensures { λ r. ⌜ stepOf r ≡ calls.onStructure calls.number (machineOf machine) (numberingOf d) ⌝ }
+    ensures { λ r. ⌜ carriedOf r ≡ carried (calls.onStructure calls.number (machineOf machine) (numberingOf d)) ⌝ }
 {
     let signature = machine.signature;
     let structure = d.structure;
@@ -180,7 +181,7 @@ fn after_numbering(machine: Machine, d: Numbering) -> Carried
 }
 
 fn after_saying(machine: Machine, d: Saying) -> Carried
-    ensures { λ r. ⌜ stepOf r ≡ calls.onStructure calls.says (machineOf machine) (sayingOf d) ⌝ }
+    ensures { λ r. ⌜ carriedOf r ≡ carried (calls.onStructure calls.says (machineOf machine) (sayingOf d)) ⌝ }
 {
     let signature = machine.signature;
     let structure = d.structure;
@@ -196,7 +197,7 @@ fn after_saying(machine: Machine, d: Saying) -> Carried
 }
 
 fn after_doing(machine: Machine, d: Doing) -> Carried
-    ensures { λ r. ⌜ stepOf r ≡ calls.onStructure (λ u. calls.done) (machineOf machine) (doingOf d) ⌝ }
+    ensures { λ r. ⌜ carriedOf r ≡ carried (calls.onStructure (λ u. calls.done) (machineOf machine) (doingOf d)) ⌝ }
 {
     let signature = machine.signature;
     let structure = d.structure;
@@ -212,7 +213,7 @@ fn after_doing(machine: Machine, d: Doing) -> Carried
 }
 
 fn after_closing(machine: Machine, d: Closing) -> Carried
-    ensures { λ r. ⌜ stepOf r ≡ calls.onStructure calls.closed (machineOf machine) (closingOf d) ⌝ }
+    ensures { λ r. ⌜ carriedOf r ≡ carried (calls.onStructure calls.closed (machineOf machine) (closingOf d)) ⌝ }
 {
     let signature = machine.signature;
     let structure = d.structure;
@@ -228,7 +229,8 @@ fn after_closing(machine: Machine, d: Closing) -> Carried
 }
 
 fn after_conflicting(machine: Machine, d: Conflicting) -> Carried
-    ensures { λ r. ⌜ stepOf r ≡ calls.onStructure calls.conflicting (machineOf machine) (conflictingOf d) ⌝ }
+    requires { ⌜ givenConflicts (d .conflicts) ≡ conflictsOf (d .conflicts) ⌝ }
+    ensures { λ r. ⌜ carriedOf r ≡ carried (calls.onStructure calls.conflicting (machineOf machine) (heldConflicting d)) ⌝ }
 {
     let signature = machine.signature;
     let structure = d.structure;
@@ -248,7 +250,7 @@ fn after_conflicting(machine: Machine, d: Conflicting) -> Carried
 
 // Kind 1.
 fn push_type(machine: Machine, given: Record) -> Carried
-    ensures { λ r. ⌜ stepOf r ≡ calls.step (sheet.typeForm .call (recordView given)) (machineOf machine) ⌝ }
+    ensures { λ r. ⌜ carriedOf r ≡ carried (calls.step (sheet.typeForm .call (recordView given)) (machineOf machine)) ⌝ }
 {
     let signature = machine.signature;
     let structure = machine.structure;
@@ -262,7 +264,7 @@ fn push_type(machine: Machine, given: Record) -> Carried
 
 // Kind 2.
 fn push_pred(machine: Machine, given: Record) -> Carried
-    ensures { λ r. ⌜ stepOf r ≡ calls.step (sheet.predForm .call (recordView given)) (machineOf machine) ⌝ }
+    ensures { λ r. ⌜ carriedOf r ≡ carried (calls.step (sheet.predForm .call (recordView given)) (machineOf machine)) ⌝ }
 {
     let signature = machine.signature;
     let structure = machine.structure;
@@ -277,7 +279,7 @@ fn push_pred(machine: Machine, given: Record) -> Carried
 
 // Kind 3.
 fn push_func(machine: Machine, given: Record) -> Carried
-    ensures { λ r. ⌜ stepOf r ≡ calls.step (sheet.funcForm .call (recordView given)) (machineOf machine) ⌝ }
+    ensures { λ r. ⌜ carriedOf r ≡ carried (calls.step (sheet.funcForm .call (recordView given)) (machineOf machine)) ⌝ }
 {
     let signature = machine.signature;
     let structure = machine.structure;
@@ -293,7 +295,7 @@ fn push_func(machine: Machine, given: Record) -> Carried
 
 // Kind 4.
 fn push_model(machine: Machine, given: Record) -> Carried
-    ensures { λ r. ⌜ stepOf r ≡ calls.step (sheet.modelForm .call (recordView given)) (machineOf machine) ⌝ }
+    ensures { λ r. ⌜ carriedOf r ≡ carried (calls.step (sheet.modelForm .call (recordView given)) (machineOf machine)) ⌝ }
 {
     let signature = machine.signature;
     let structure = machine.structure;
@@ -311,7 +313,7 @@ fn push_model(machine: Machine, given: Record) -> Carried
 
 // Kind 5.
 fn push_mor_app_func(machine: Machine, given: Record) -> Carried
-    ensures { λ r. ⌜ stepOf r ≡ calls.step (sheet.morAppForm .call (recordView given)) (machineOf machine) ⌝ }
+    ensures { λ r. ⌜ carriedOf r ≡ carried (calls.step (sheet.morAppForm .call (recordView given)) (machineOf machine)) ⌝ }
 {
     let signature = machine.signature;
     let structure = machine.structure;
@@ -331,7 +333,7 @@ fn push_mor_app_func(machine: Machine, given: Record) -> Carried
 
 // Kind 6.
 fn push_el(machine: Machine, given: Record) -> Carried
-    ensures { λ r. ⌜ stepOf r ≡ calls.step (sheet.elForm .call (recordView given)) (machineOf machine) ⌝ }
+    ensures { λ r. ⌜ carriedOf r ≡ carried (calls.step (sheet.elForm .call (recordView given)) (machineOf machine)) ⌝ }
 {
     let structure = machine.structure;
     let mark = given.a == 1;
@@ -340,7 +342,7 @@ fn push_el(machine: Machine, given: Record) -> Carried
 
 // Kind 7.
 fn equate(machine: Machine, given: Record) -> Carried
-    ensures { λ r. ⌜ stepOf r ≡ calls.step (sheet.equalityForm .call (recordView given)) (machineOf machine) ⌝ }
+    ensures { λ r. ⌜ carriedOf r ≡ carried (calls.step (sheet.equalityForm .call (recordView given)) (machineOf machine)) ⌝ }
 {
     let structure = machine.structure;
     let a = ElId(given.a);
@@ -350,7 +352,7 @@ fn equate(machine: Machine, given: Record) -> Carried
 
 // Kind 8.
 fn impose_type(machine: Machine, given: Record) -> Carried
-    ensures { λ r. ⌜ stepOf r ≡ calls.step (sheet.impositionForm .call (recordView given)) (machineOf machine) ⌝ }
+    ensures { λ r. ⌜ carriedOf r ≡ carried (calls.step (sheet.impositionForm .call (recordView given)) (machineOf machine)) ⌝ }
 {
     let signature = machine.signature;
     let structure = machine.structure;
@@ -367,7 +369,7 @@ fn impose_type(machine: Machine, given: Record) -> Carried
 
 // Kind 9.
 fn apply_func(machine: Machine, given: Record) -> Carried
-    ensures { λ r. ⌜ stepOf r ≡ calls.step (sheet.funcAppForm .call (recordView given)) (machineOf machine) ⌝ }
+    ensures { λ r. ⌜ carriedOf r ≡ carried (calls.step (sheet.funcAppForm .call (recordView given)) (machineOf machine)) ⌝ }
 {
     let signature = machine.signature;
     let structure = machine.structure;
@@ -387,7 +389,7 @@ fn apply_func(machine: Machine, given: Record) -> Carried
 
 // Kind 10.
 fn apply_pred(machine: Machine, given: Record) -> Carried
-    ensures { λ r. ⌜ stepOf r ≡ calls.step (sheet.predAppForm .call (recordView given)) (machineOf machine) ⌝ }
+    ensures { λ r. ⌜ carriedOf r ≡ carried (calls.step (sheet.predAppForm .call (recordView given)) (machineOf machine)) ⌝ }
 {
     let signature = machine.signature;
     let structure = machine.structure;
@@ -406,7 +408,7 @@ fn apply_pred(machine: Machine, given: Record) -> Carried
 
 // Kind 11.
 fn bind_var(machine: Machine, given: Record) -> Carried
-    ensures { λ r. ⌜ stepOf r ≡ calls.step (sheet.varForm .call (recordView given)) (machineOf machine) ⌝ }
+    ensures { λ r. ⌜ carriedOf r ≡ carried (calls.step (sheet.varForm .call (recordView given)) (machineOf machine)) ⌝ }
 {
     let structure = machine.structure;
     let v = VarEl {
@@ -418,7 +420,7 @@ fn bind_var(machine: Machine, given: Record) -> Carried
 
 // Kind 12.
 fn bind_ambient(machine: Machine, given: Record) -> Carried
-    ensures { λ r. ⌜ stepOf r ≡ calls.step (sheet.ambientForm .call (recordView given)) (machineOf machine) ⌝ }
+    ensures { λ r. ⌜ carriedOf r ≡ carried (calls.step (sheet.ambientForm .call (recordView given)) (machineOf machine)) ⌝ }
 {
     let signature = machine.signature;
     let structure = machine.structure;
@@ -431,7 +433,7 @@ fn bind_ambient(machine: Machine, given: Record) -> Carried
 
 // Kind 13.
 fn run_close(machine: Machine) -> Carried
-    ensures { λ r. ⌜ stepOf r ≡ calls.step calls.close (machineOf machine) ⌝ }
+    ensures { λ r. ⌜ carriedOf r ≡ carried (calls.step calls.close (machineOf machine)) ⌝ }
 {
     let signature = machine.signature;
     let structure = machine.structure;
@@ -440,7 +442,7 @@ fn run_close(machine: Machine) -> Carried
 
 // Kind 14.
 fn find_conflicts(machine: Machine) -> Carried
-    ensures { λ r. ⌜ stepOf r ≡ calls.step calls.type-conflicts (machineOf machine) ⌝ }
+    ensures { λ r. ⌜ carriedOf r ≡ carried (calls.step calls.type-conflicts (machineOf machine)) ⌝ }
 {
     let structure = machine.structure;
     after_conflicting(machine, conflicts::type_conflicts(structure))
@@ -449,7 +451,7 @@ fn find_conflicts(machine: Machine) -> Carried
 // The kinds that declare.
 fn declare(machine: Machine, given: Record) -> Carried
     requires { ⌜ (1 ≤ given .kind) × (given .kind ≤ 5) ⌝ }
-    ensures { λ r. ⌜ stepOf r ≡ formStep (sheet.formOf (given .kind)) (recordView given) (machineOf machine) ⌝ }
+    ensures { λ r. ⌜ carriedOf r ≡ carried (formStep (sheet.formOf (given .kind)) (recordView given) (machineOf machine)) ⌝ }
 {
     let kind = given.kind;
     match kind {
@@ -464,7 +466,7 @@ fn declare(machine: Machine, given: Record) -> Carried
 // The kinds that state something of elements.
 fn state(machine: Machine, given: Record) -> Carried
     requires { ⌜ (6 ≤ given .kind) × (given .kind ≤ 12) ⌝ }
-    ensures { λ r. ⌜ stepOf r ≡ formStep (sheet.formOf (given .kind)) (recordView given) (machineOf machine) ⌝ }
+    ensures { λ r. ⌜ carriedOf r ≡ carried (formStep (sheet.formOf (given .kind)) (recordView given) (machineOf machine)) ⌝ }
 {
     let kind = given.kind;
     match kind {
@@ -480,7 +482,7 @@ fn state(machine: Machine, given: Record) -> Carried
 
 // A record is carried out by the call of its kind; one that does not fit is refused, and the machine is as it was.
 pub fn carry_out(machine: Machine, given: Record) -> Carried
-    ensures { λ r. ⌜ stepOf r ≡ sheet.carryOut (sheet.callOf (recordView given)) (machineOf machine) ⌝ }
+    ensures { λ r. ⌜ carriedOf r ≡ carried (sheet.carryOut (sheet.callOf (recordView given)) (machineOf machine)) ⌝ }
 {
     if !given.fits() {
         return answered(machine, Answer::Refused(Refusal::MALFORMED));

@@ -5,14 +5,17 @@ use mathlib.Core.List.{List, [], _∷_, _++_, map, append-nil}
 use Prim.Native.Nat.{ℕ, zero, suc, _+_, _≤_, _<_}
 use native.Mathlib.Numerals.{add-one}
 use native.Mathlib.Omega.{arith}
-use lib.ListN.{length, take, drop, getD, length-append}
+use lib.ListN.{length, take, drop, getD, set, length-append, length-set}
 use lib.Dec.{eqb, ltb}
 use borrow.Author.Tests.{eq-eqb, ne-eqb, lt-ltb, le-ltb}
-use Rattle.ids.specs.Table.{pushOf}
+use Rattle.ids.specs.Answers.{Answered, accepted, refused, Outcome}
+use Rattle.ids.specs.Table.{Sized, pushOf}
 use Rattle.ids.specs.declared.ElId.{ElId}
 use Rattle.ids.specs.declared.ElIds.{ElIds}
-use Rattle.ids.specs.Ids.{elOf, elsOf}
-use Rattle.ids.proofs.Views.{view-next, view-done}
+use Rattle.ids.specs.Ids.{elOf, elsOf, whole}
+use Rattle.ids.proofs.Views.{length-view, view-next, view-done}
+use Rattle.ids.proofs.Lists.{padded-length, padded-view, as-given, as-held, given-held-alike}
+use Rattle.ids.proofs.Counted.{push-at, push-past}
 use Rattle.ids.proofs.Tables.{push-room}
 use Rattle.unification.specs.Roots.{maxEls, rootOf}
 use Rattle.semantics.specs.Structure.{Fact, Structure, empty, with-links, with-facts}
@@ -22,7 +25,11 @@ use Rattle.semantics.specs.Conflicts.{typeConflicts}
 use Rattle.facts.specs.declared.Fact as code
 use Rattle.facts.specs.declared.Facts.{Facts}
 use Rattle.facts.specs.View.{factOf, factsOf, noFact}
-use Rattle.conflicts.specs.View.{conflictsIn}
+use Rattle.conflicts.specs.declared.TypeConflict.{TypeConflict}
+use Rattle.conflicts.specs.declared.TypeConflicts.{TypeConflicts}
+use Rattle.conflicts.specs.View.{conflictOf, conflictsOf, givenConflict, givenConflicts, noConflict, handedConflict, handedConflicts}
+use Rattle.conflicts.specs.declared.Conflicting.{Conflicting}
+use Rattle.conflicts.specs.View.{handedConflicting, conflictsIn}
 
 -- A structure of which only links and facts are known.
 abbrev pub bare : List ℕ → List Fact → Structure
@@ -188,18 +195,55 @@ below-length s zero = omega arith
 below-length s (suc e) = omega (arith, length-append (conflictsBelow s e) (conflictAt s e), below-length s e, at-length s e)
 
 -- The classes in turn.
-module _ (s : Structure) (e : ℕ) (out : List Conflict) (so-far : out ≡ conflictsBelow s e) where
-  on : out ++ conflictAt s e ≡ conflictsBelow s (e + 1)
+module _ (s : Structure) (e : ℕ) where
+  on : conflictsBelow s e ++ conflictAt s e ≡ conflictsBelow s (e + 1)
   unfolding conflictsBelow
-  on = rw add-one (ap (λ (l : List Conflict). l ++ conflictAt s e) so-far)
+  on = rw add-one refl
 
   -- a class with no conflict
-  pub class-clear : [] ≡ conflictAt s e → out ≡ conflictsBelow s (e + 1)
-  class-clear h = sym (append-nil out) ∙ ap (λ (l : List Conflict). out ++ l) h ∙ on
+  pub class-clear : [] ≡ conflictAt s e → conflictsBelow s e ≡ conflictsBelow s (e + 1)
+  class-clear h = sym (append-nil (conflictsBelow s e)) ∙ ap (λ (l : List Conflict). conflictsBelow s e ++ l) h ∙ on
 
   -- a conflict put at the end
-  pub class-pushed : e < maxEls → {x : Conflict} {next : List Conflict} → next ≡ pushOf maxEls out x → x ∷ [] ≡ conflictAt s e
-      → next ≡ conflictsBelow s (e + 1)
-  class-pushed h {x} p q =
-      let room : length out < maxEls = omega (arith, ap (length {A = Conflict}) so-far, below-length s e) in
-      p ∙ push-room maxEls out x room ∙ ap (λ (l : List Conflict). out ++ l) q ∙ on
+  pub class-pushed : e < maxEls → {x : Conflict} → x ∷ [] ≡ conflictAt s e → pushOf maxEls (conflictsBelow s e) x ≡ conflictsBelow s (e + 1)
+  class-pushed h {x} q =
+      push-room maxEls (conflictsBelow s e) x (omega (arith, below-length s e))
+      ∙ ap (λ (l : List Conflict). conflictsBelow s e ++ l) q
+      ∙ on
+
+-- The conflicts of an array, handed back: what they are given as is what is held, also with one more at the end.
+module _ (t : TypeConflicts) (alike : givenConflicts t ≡ conflictsOf t) where
+  fits : t .len ≤ length (t .items)
+  fits =
+      let many : t .len ≡ length (conflictsOf t) = sym (padded-length noConflict (t .len) (map givenConflict (t .items))) ∙ ap length alike in
+      omega (arith, length-view conflictOf (t .len) (t .items))
+
+  entries : map givenConflict (take (t .len) (t .items)) ≡ conflictsOf t
+  entries = sym (padded-view noConflict givenConflict (t .len) (t .items) fits) ∙ alike
+
+  module _ {size : ℕ} (sized : Sized (conflictsOf t) maxEls size) where
+    pub push-none : (c : Conflict) → maxEls ≤ size → handedConflicts t ≡ whole (pushOf maxEls (conflictsOf t) c)
+    push-none c h =
+        let same = push-past conflictOf (t .len) (t .items) sized c h in
+        λ i. record { given = (alike ∙ same) i; held = same i }
+
+    pub push-one : (x : TypeConflict) {c : Conflict} → handedConflict x ≡ whole c → length (t .items) ≡ maxEls → size < maxEls
+        → handedConflicts (record { items = set (t .items) size x; len = size + 1 }) ≡ whole (pushOf maxEls (conflictsOf t) c)
+    push-one x {c} is long h =
+        let sized-given : Sized (map givenConflict (take (t .len) (t .items))) maxEls size =
+        record { is = sized .is ∙ ap length (sym entries); most = sized .most } in
+        let given =
+        padded-view noConflict givenConflict (size + 1) (set (t .items) size x) (omega (arith, length-set (t .items) size x))
+        ∙ push-at givenConflict (t .len) (t .items) sized-given x long h
+        ∙ (λ i. pushOf maxEls (entries i) (as-given is i)) in
+        let held = push-at conflictOf (t .len) (t .items) sized x long h ∙ ap (pushOf maxEls (conflictsOf t)) (as-held is) in
+        λ i. record { given = given i; held = held i }
+
+-- the conflicts of an answer are held as they are given
+pub conflicts-alike : (r : Conflicting) {o : Outcome (List Conflict) Structure} → handedConflicting r ≡ whole o
+    → givenConflicts (r .conflicts) ≡ conflictsOf (r .conflicts)
+conflicts-alike r is = ap (λ (o : Outcome (List Conflict) Structure). listOf (o .answer)) (given-held-alike is)
+  where
+    listOf : Answered (List Conflict) → List Conflict
+    listOf (accepted cs) = cs
+    listOf (refused n) = []

@@ -11,12 +11,14 @@ ghost use mathlib.Core.Path.{_≡_};
 ghost use mathlib.Core.List.{[]};
 ghost use lib.ListN.{length};
 ghost use Rattle.ids.specs.Table.{Sized, pushOf};
+ghost use Rattle.ids.specs.Ids.{whole};
 ghost use Rattle.unification.specs.Roots.{maxEls, linksOf};
 ghost use Rattle.semantics.specs.Types.{factsAt};
 ghost use Rattle.semantics.specs.Calls as calls;
-ghost use Rattle.facts.specs.View.{factsOf};
+ghost use Rattle.facts.specs.View.{factOf, factsOf};
 ghost use Rattle.structure.specs.View.{structureOf};
-ghost use Rattle.conflicts.specs.View.{conflictOf, conflictsOf, conflictsIn, conflictingOf};
+ghost use Rattle.conflicts.specs.View.{conflictOf, conflictsOf, givenConflicts, conflictsIn};
+ghost use Rattle.conflicts.specs.View.{handedFact, handedConflict, handedConflicts, handedConflicting};
 
 // An element, and two facts of its class that disagree.
 pub struct TypeConflict {
@@ -36,9 +38,37 @@ pub struct Conflicting {
     pub structure: Structure,
 }
 
+// A fact whose list says the length that it has.
+fn clamped(fact: Fact) -> Fact
+    ensures { λ r. ⌜ handedFact r ≡ whole (factOf fact) ⌝ }
+{
+    let el = fact.el;
+    let typ = fact.ct.typ;
+    let given = fact.ct.parents;
+    let parents = given.clamped();
+    Fact {
+        el,
+        ct: ConcreteType { typ, parents },
+    }
+}
+
+impl TypeConflict {
+    // A conflict whose lists say the lengths that they have.
+    fn clamped(self) -> TypeConflict
+        ensures { λ r. ⌜ handedConflict r ≡ whole (conflictOf self) ⌝ }
+    {
+        let el = self.el;
+        let first = self.a;
+        let second = self.b;
+        let a = clamped(first);
+        let b = clamped(second);
+        TypeConflict { el, a, b }
+    }
+}
+
 impl TypeConflicts {
     pub fn new() -> Self
-        ensures { λ r. ⌜ conflictsOf r ≡ [] ⌝ }
+        ensures { λ r. ⌜ handedConflicts r ≡ whole [] ⌝ }
     {
         let none = Fact {
             el: ElId(0),
@@ -70,16 +100,18 @@ impl TypeConflicts {
         }
     }
 
-    // One more at the end, where there is room.
+    // One more at the end, where there is room, with the lengths that its lists have.
     fn push(self, conflict: TypeConflict) -> TypeConflicts
-        ensures { λ r. ⌜ conflictsOf r ≡ pushOf maxEls (conflictsOf self) (conflictOf conflict) ⌝ }
+        requires { ⌜ givenConflicts self ≡ conflictsOf self ⌝ }
+        ensures { λ r. ⌜ handedConflicts r ≡ whole (pushOf maxEls (conflictsOf self) (conflictOf conflict)) ⌝ }
     {
         let mut next = self;
         let n = self.size();
         if Structure::MAX_ELS <= n {
             return next;
         }
-        next.items[n] = conflict;
+        let entry = conflict.clamped();
+        next.items[n] = entry;
         next.len = (n + 1) as u16;
         next
     }
@@ -103,7 +135,7 @@ fn count_at(facts: Facts, el: ElId) -> usize
 
 // In each class the first later fact that disagrees with its first; then the search moves on to the next class.
 fn find_conflicts(unification: Unification, facts: Facts) -> TypeConflicts
-    ensures { λ r. ⌜ conflictsOf r ≡ conflictsIn (linksOf unification) (factsOf facts) ⌝ }
+    ensures { λ r. ⌜ handedConflicts r ≡ whole (conflictsIn (linksOf unification) (factsOf facts)) ⌝ }
 {
     let n = unification.size();
     let mut conflicts = TypeConflicts::new();
@@ -148,7 +180,7 @@ fn find_conflicts(unification: Unification, facts: Facts) -> TypeConflicts
 
 // Kind 14.
 pub fn type_conflicts(structure: Structure) -> Conflicting
-    ensures { λ r. ⌜ conflictingOf r ≡ calls.conflicts (structureOf structure) ⌝ }
+    ensures { λ r. ⌜ handedConflicting r ≡ whole (calls.conflicts (structureOf structure)) ⌝ }
 {
     let u = structure.unification;
     let facts = structure.els;

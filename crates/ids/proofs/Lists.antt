@@ -10,25 +10,57 @@ use borrow.Author.Tests.{lt-ltb, le-ltb, ltb-false}
 use Rattle.ids.specs.Limits.{maxList}
 use Rattle.ids.specs.declared.ElIds.{ElIds}
 use Rattle.ids.specs.declared.TypeIds.{TypeIds}
-use Rattle.ids.specs.Ids.{elOf, typeOf, elsOf, typesOf, givenOf, givenEls, givenTypes, tooLong, allBelow}
+use Rattle.ids.specs.Ids.{elOf, typeOf, elsOf, typesOf, padded, givenOf, givenEls, givenTypes, Handed, whole, tooLong, allBelow}
 use Rattle.ids.proofs.Views.{map-take}
 
--- a list is given with as many numbers as its length says
-pub given-length : (n : ℕ) (xs : List ℕ) → length (givenOf n xs) ≡ n
-unfolding givenOf
-given-length zero xs = refl
-given-length (suc n) [] = ap suc (given-length n [])
-given-length (suc n) (x ∷ xs) = ap suc (given-length n xs)
+-- a list is given with as many entries as its length says
+module _ {A : Type 0} (d : A) where
+  pub padded-length : (n : ℕ) (xs : List A) → length (padded d n xs) ≡ n
+  unfolding padded
+  padded-length zero xs = refl
+  padded-length (suc n) [] = ap suc (padded-length n [])
+  padded-length (suc n) (x ∷ xs) = ap suc (padded-length n xs)
 
--- where there are as many, these are the numbers that it holds
+  -- where there are as many, these are the entries that it holds
+  pub padded-held : (n : ℕ) (xs : List A) → n ≤ length xs → padded d n xs ≡ take n xs
+  unfolding padded
+  padded-held zero xs h = refl
+  padded-held (suc n) [] h = absurd (not-suc-le-zero h)
+  padded-held (suc n) (x ∷ xs) h = ap (λ (l : List A). x ∷ l) (padded-held n xs (le-of-suc-le-suc h))
+
+  -- a list that says a length n that it has is handed back whole
+  pub handed-list : (n : ℕ) (xs : List A) {ys : List A} → n ≤ length xs → take n xs ≡ ys
+      → _≡_ {A = Handed (List A)} (record { given = padded d n xs; held = take n xs }) (whole ys)
+  handed-list n xs h is = λ i. record { given = (padded-held n xs h ∙ is) i; held = is i }
+
+-- what is handed back whole, by each of its views
+module _ {A : Type 0} {h : Handed A} {x : A} (is : h ≡ whole x) where
+  pub as-given : h .given ≡ x
+  as-given = ap (λ (k : Handed A). k .given) is
+
+  pub as-held : h .held ≡ x
+  as-held = ap (λ (k : Handed A). k .held) is
+
+  pub given-held-alike : h .given ≡ h .held
+  given-held-alike = as-given ∙ sym as-held
+
+module _ {A B : Type 0} (d : B) (f : A → B) where
+  pub padded-view : (n : ℕ) (xs : List A) → n ≤ length xs → padded d n (map f xs) ≡ map f (take n xs)
+  padded-view n xs h = padded-held d n (map f xs) (omega (arith, length-map xs f)) ∙ sym (map-take f n xs)
+
+  pub handed : (n : ℕ) (xs : List A) {ys : List B} → n ≤ length xs → map f (take n xs) ≡ ys
+      → _≡_ {A = Handed (List B)} (record { given = padded d n (map f xs); held = map f (take n xs) }) (whole ys)
+  handed n xs h is = λ i. record { given = (padded-view n xs h ∙ is) i; held = is i }
+
+-- lists of numbers
+pub given-length : (n : ℕ) (xs : List ℕ) → length (givenOf n xs) ≡ n
+given-length n xs = padded-length 0 n xs
+
 pub given-held : (n : ℕ) (xs : List ℕ) → n ≤ length xs → givenOf n xs ≡ take n xs
-unfolding givenOf
-given-held zero xs h = refl
-given-held (suc n) [] h = absurd (not-suc-le-zero h)
-given-held (suc n) (x ∷ xs) h = ap (λ (l : List ℕ). x ∷ l) (given-held n xs (le-of-suc-le-suc h))
+given-held n xs h = padded-held 0 n xs h
 
 pub given-view : {A : Type 0} (f : A → ℕ) (n : ℕ) (xs : List A) → n ≤ length xs → givenOf n (map f xs) ≡ map f (take n xs)
-given-view f n xs h = given-held n (map f xs) (omega (arith, length-map xs f)) ∙ sym (map-take f n xs)
+given-view f n xs h = padded-view 0 f n xs h
 
 -- a list is held as it was given, and is no longer than a list may be
 pub record Held (given kept : List ℕ) : Type 0 where

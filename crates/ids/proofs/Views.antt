@@ -49,6 +49,10 @@ module _ {A : Type 0} {B : Type 0} (f : A → B) where
   take-used (suc m) [] = refl
   take-used (suc m) (x ∷ xs) = ap (λ (l : List A). x ∷ l) (take-used m xs)
 
+  -- a count clamped to the entries that there are
+  pub view-clamped : (n m : ℕ) (xs : List A) → m ≡ length (map f (take n xs)) → map f (take m xs) ≡ map f (take n xs)
+  view-clamped n m xs e = ap (λ (k : ℕ). map f (take k xs)) e ∙ ap (map f) (take-used n xs)
+
   -- the view of an array into which x was put at an index, the entries from there on one place higher
   pub view-placed : (m : ℕ) (xs ys : List A) (x : A) (n at len : ℕ) → n ≡ length (map f (take m xs)) → at ≤ n → len ≡ n + 1
       → take (n + 1) ys ≡ take at xs ++ x ∷ drop at (take n xs)

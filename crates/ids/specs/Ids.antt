@@ -23,11 +23,15 @@ elsOf l = map elOf (take (l .len) (l .ids))
 abbrev pub typesOf : TypeIds → List ℕ
 typesOf l = map typeOf (take (l .len) (l .ids))
 
--- the first n of some numbers, 0 where there are fewer: a list that is handed to a call with the length n
-unfoldable pub givenOf : ℕ → List ℕ → List ℕ
-givenOf zero xs = []
-givenOf (suc n) [] = 0 ∷ givenOf n []
-givenOf (suc n) (x ∷ xs) = x ∷ givenOf n xs
+-- the first n of some entries, d where there are fewer
+unfoldable pub padded : {A : Type 0} → A → ℕ → List A → List A
+padded d zero xs = []
+padded d (suc n) [] = d ∷ padded d n []
+padded d (suc n) (x ∷ xs) = x ∷ padded d n xs
+
+-- a list that is handed over with the length n
+abbrev pub givenOf : ℕ → List ℕ → List ℕ
+givenOf n xs = padded 0 n xs
 
 -- a list as it is given: of as many numbers as its length says, also where that is over four
 abbrev pub givenEls : ElIds → List ℕ
@@ -35,6 +39,19 @@ givenEls l = givenOf (l .len) (map elOf (l .ids))
 
 abbrev pub givenTypes : TypeIds → List ℕ
 givenTypes l = givenOf (l .len) (map typeOf (l .ids))
+
+-- What is handed back: as it is given by the lengths that it says, and as it is held. Of a list inside an array the logic does not
+-- know how many entries there is room for, so that neither view follows from the other.
+pub record Handed (A : Type 0) : Type 0 where
+  pub given : A
+  pub held : A
+
+-- it says the lengths that it has
+abbrev pub whole : {A : Type 0} → A → Handed A
+whole x = record { given = x; held = x }
+
+abbrev pub handedEls : ElIds → Handed (List ℕ)
+handedEls l = record { given = givenEls l; held = elsOf l }
 
 -- "Every list has at most 4 entries": it has more
 abbrev pub tooLong : List ℕ → Bool

@@ -5,7 +5,7 @@ ghost use Prim.Native.Nat.{_-_};
 ghost use Rattle.ids.specs.Limits.{maxList};
 ghost use Rattle.ids.specs.Table.{Sized};
 ghost use Rattle.ids.specs.Order.{orderOf, lexOf};
-ghost use Rattle.ids.specs.Ids.{elsOf, typesOf, givenEls, givenTypes, tooLong, allBelow};
+ghost use Rattle.ids.specs.Ids.{elsOf, typesOf, givenEls, givenTypes, handedEls, whole, tooLong, allBelow};
 
 pub struct ElId(pub u16);
 
@@ -118,6 +118,16 @@ impl ElIds {
     {
         let n = self.len as usize;
         ElIds::MAX_LEN < n
+    }
+
+    // The same list with the length that it has: for a list that is handed on as it was read.
+    pub fn clamped(self) -> ElIds
+        ensures { λ r. ⌜ handedEls r ≡ whole (elsOf self) ⌝ }
+    {
+        let mut list = self;
+        let n = self.size();
+        list.len = n as u16;
+        list
     }
 
     pub fn all_below(self, n: u16) -> bool

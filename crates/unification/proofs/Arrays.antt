@@ -67,17 +67,20 @@ pub added-full : (ls : List ℕ) → maxEls ≤ length ls → addedOf ls ≡ ls
 unfolding addedOf
 added-full ls h = push-full maxEls ls (length ls) h
 
-pub link-added : (u : Unification) (n : ℕ) → n ≡ length (linksOf u) → n < maxEls → length (u .links) ≡ maxEls
-    → linksOf (record { links = set (u .links) n n; len = n + 1 }) ≡ addedOf (linksOf u)
-unfolding addedOf
-link-added u n is room full =
-    let used : take n (u .links) ≡ linksOf u = rw is (take-used (u .len) (u .links)) in
-    rw (add-one n, take-suc-set (u .links) n n (omega arith), used, is) (sym (push-room maxEls (linksOf u) (length (linksOf u)) (omega arith)))
+-- the entries in use, by a count clamped to those that there are
+pub links-used : (u : Unification) (n : ℕ) → n ≡ length (linksOf u) → take n (u .links) ≡ linksOf u
+links-used u n is = rw is (take-used (u .len) (u .links))
   where
     take-used : (m : ℕ) (xs : List ℕ) → take (length (take m xs)) xs ≡ take m xs
     take-used zero xs = refl
     take-used (suc m) [] = refl
     take-used (suc m) (x ∷ xs) = ap (λ (l : List ℕ). x ∷ l) (take-used m xs)
+
+pub link-added : (u : Unification) (n : ℕ) → n ≡ length (linksOf u) → n < maxEls → length (u .links) ≡ maxEls
+    → linksOf (record { links = set (u .links) n n; len = n + 1 }) ≡ addedOf (linksOf u)
+unfolding addedOf
+link-added u n is room full =
+    rw (add-one n, take-suc-set (u .links) n n (omega arith), links-used u n is, is) (sym (push-room maxEls (linksOf u) (length (linksOf u)) (omega arith)))
 
 -- The answers.
 

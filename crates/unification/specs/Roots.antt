@@ -7,6 +7,7 @@ use lib.ListN.{length, getD, take, set}
 use lib.Dec.{leb, ltb}
 use Rattle.ids.specs.Answers.{Answered, accepted, refused, Outcome, outcome, _if_, undeclared}
 use Rattle.ids.specs.Table.{pushOf}
+use Rattle.ids.specs.Ids.{padded, Handed}
 use Rattle.unification.specs.declared.Unification.{Unification}
 use Rattle.unification.specs.declared.Find.{Find}
 use Rattle.unification.specs.declared.Finding.{Finding}
@@ -21,6 +22,10 @@ maxEls = 256
 -- the links of the elements that are there
 abbrev pub linksOf : Unification → List ℕ
 linksOf u = take (u .len) (u .links)
+
+-- a table that is handed back: as it is given by the length that it says, and as it is held
+abbrev pub handedLinks : Unification → Handed (List ℕ)
+handedLinks u = record { given = padded 0 (u .len) (u .links); held = linksOf u }
 
 -- 0, 1, .., n - 1
 unfoldable pub upTo : ℕ → List ℕ

@@ -6,9 +6,10 @@ use ids::Refusal;
 ghost use mathlib.Core.Path.{_≡_};
 ghost use mathlib.Core.List.{map};
 ghost use lib.ListN.{set};
-ghost use Rattle.ids.specs.Ids.{elsOf};
+ghost use Rattle.ids.specs.Ids.{elsOf, handedEls, whole};
 ghost use Rattle.ids.specs.Table.{Sized};
-ghost use Rattle.unification.specs.Roots.{maxEls, linksOf, rootOf, fresh, findOf, found, shortenedOf, shortened, mergedOf, addedOf};
+ghost use Rattle.unification.specs.Roots.{maxEls, linksOf, handedLinks, rootOf, fresh, findOf, found};
+ghost use Rattle.unification.specs.Roots.{shortenedOf, shortened, mergedOf, addedOf};
 ghost use Rattle.unification.specs.Roots.{rootConst, answered, root, rooted};
 
 // Element e links to links[e]; the first `len` are there.
@@ -91,12 +92,13 @@ impl Unification {
         Find { root, count }
     }
 
-    // The roots of a list of elements.
+    // The roots of a list of elements, of as many as its length says.
     pub fn roots(self, els: ElIds) -> ElIds
-        ensures { λ r. ⌜ elsOf r ≡ map (rootOf (linksOf self)) (elsOf els) ⌝ }
+        ensures { λ r. ⌜ handedEls r ≡ whole (map (rootOf (linksOf self)) (elsOf els)) ⌝ }
     {
         let mut out = els;
         let n = els.size();
+        out.len = n as u16;
         for i in 0..n {
             let el = els.ids[i];
             let found = self.find(el);
@@ -144,7 +146,7 @@ impl Unification {
 
     // Links the element `from`, where it is there, to `to`.
     fn relink(self, from: u16, to: u16) -> Unification
-        ensures { λ r. ⌜ linksOf r ≡ set (linksOf self) from to ⌝ }
+        ensures { λ r. ⌜ (linksOf r ≡ set (linksOf self) from to) × (r .len ≡ self .len) ⌝ }
     {
         let mut u = self;
         let at = from as usize;
@@ -157,7 +159,7 @@ impl Unification {
 
     // Links the larger of two roots to the smaller.
     pub fn union_roots(self, a: ElId, b: ElId) -> Unification
-        ensures { λ r. ⌜ linksOf r ≡ mergedOf (linksOf self) (a .0) (b .0) ⌝ }
+        ensures { λ r. ⌜ (linksOf r ≡ mergedOf (linksOf self) (a .0) (b .0)) × (r .len ≡ self .len) ⌝ }
     {
         let x = a.0;
         let y = b.0;
@@ -170,16 +172,17 @@ impl Unification {
         self
     }
 
-    // One element more, linked to itself, where there is room.
+    // One element more, linked to itself, where there is room. The length that is left is that of the elements.
     pub fn increase_size(self) -> Unification
-        ensures { λ r. ⌜ linksOf r ≡ addedOf (linksOf self) ⌝ }
+        ensures { λ r. ⌜ handedLinks r ≡ whole (addedOf (linksOf self)) ⌝ }
     {
         let mut u = self;
         let at = self.size();
+        let el = at as u16;
         if Unification::MAX_ELS <= at {
+            u.len = el;
             return u;
         }
-        let el = at as u16;
         u.links[at] = el;
         u.len = el + 1;
         u

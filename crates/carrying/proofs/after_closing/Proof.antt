@@ -1,9 +1,9 @@
 -- `after_closing` meets its contract.
-use mathlib.Core.Path.{_∙_}
+use mathlib.Core.Path.{ap, _∙_}
 use Rattle.structure.specs.View.{structureOf}
 use Rattle.close.specs.View as closing
 use Rattle.semantics.specs.Calls.{closed, answerOf}
-use Rattle.carrying.specs.View.{machineOf}
+use Rattle.carrying.specs.View.{machineOf, carried}
 use Rattle.carrying.proofs.Laws.{on-structure}
 use borrow.Author.Needs.{needs}
 use Rattle.carrying.proofs.after_closing.Statement.{statement}
@@ -25,13 +25,13 @@ returns : tie.Need-returns
 unfolding answerOf
 returns c =
     let a = c .before .before .before .before .before .before .args in
-    c .answered .ensures ∙ on-structure closed (machineOf (a .machine)) closing.answerOf (structureOf (a .d .structure)) (c .before .before .answer .given .1)
+    c .answered .ensures ∙ ap carried (on-structure closed (machineOf (a .machine)) closing.answerOf (structureOf (a .d .structure)) (c .before .before .answer .given .1))
 
 returns-2 : tie.Need-returns-2
 unfolding answerOf
 returns-2 c =
     let a = c .before .before .before .before .before .before .args in
-    c .answered2 .ensures ∙ on-structure closed (machineOf (a .machine)) closing.answerOf (structureOf (a .d .structure)) (c .before .before .answer2 .given .1)
+    c .answered2 .ensures ∙ ap carried (on-structure closed (machineOf (a .machine)) closing.answerOf (structureOf (a .d .structure)) (c .before .before .answer2 .given .1))
 
 pub after-closing-spec : {M : Type 1} → statement M
 after-closing-spec =

@@ -1,9 +1,9 @@
 -- `after_declaring` meets its contract.
-use mathlib.Core.Path.{_∙_}
+use mathlib.Core.Path.{ap, _∙_}
 use Rattle.signature.specs.Model.{sigOf}
 use Rattle.signature.specs.Calls.{answered}
 use Rattle.semantics.specs.Calls.{number, answerOf}
-use Rattle.carrying.specs.View.{machineOf}
+use Rattle.carrying.specs.View.{machineOf, carried}
 use Rattle.carrying.proofs.Laws.{on-sig}
 use borrow.Author.Needs.{needs}
 use Rattle.carrying.proofs.after_declaring.Statement.{statement}
@@ -25,13 +25,13 @@ returns : tie.Need-returns
 unfolding answerOf
 returns c =
     let a = c .before .before .before .before .before .before .args in
-    c .answered .ensures ∙ on-sig number (machineOf (a .machine)) answered (sigOf (a .d .signature)) (c .before .before .answer .given .1)
+    c .answered .ensures ∙ ap carried (on-sig number (machineOf (a .machine)) answered (sigOf (a .d .signature)) (c .before .before .answer .given .1))
 
 returns-2 : tie.Need-returns-2
 unfolding answerOf
 returns-2 c =
     let a = c .before .before .before .before .before .before .args in
-    c .answered2 .ensures ∙ on-sig number (machineOf (a .machine)) answered (sigOf (a .d .signature)) (c .before .before .answer2 .given .1)
+    c .answered2 .ensures ∙ ap carried (on-sig number (machineOf (a .machine)) answered (sigOf (a .d .signature)) (c .before .before .answer2 .given .1))
 
 pub after-declaring-spec : {M : Type 1} → statement M
 after-declaring-spec =

@@ -4,7 +4,7 @@ use Rattle.signature.specs.Model.{sigOf}
 use Rattle.structure.specs.View.{structureOf}
 use Rattle.semantics.specs.Calls.{applyFunc, step, onStructure, says}
 use Rattle.semantics.specs.Sheet.{funcAppForm}
-use Rattle.carrying.specs.View.{machineOf}
+use Rattle.carrying.specs.View.{machineOf, carried}
 use borrow.Author.Needs.{needs}
 use Rattle.carrying.proofs.apply_func.Statement.{statement}
 use Rattle.carrying.proofs.apply_func.Tie as tie
@@ -32,7 +32,7 @@ returns c =
       args = c .before .before .els-in2 .ensures i;
       result = a .given .b;
     })) in
-    c .after-saying .ensures ∙ (λ i. onStructure says (machineOf m) (made i))
+    c .after-saying .ensures ∙ (λ i. carried (onStructure says (machineOf m) (made i)))
 
 pub apply-func-spec : {M : Type 1} → statement M
 apply-func-spec =

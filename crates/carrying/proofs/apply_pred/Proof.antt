@@ -4,7 +4,7 @@ use Rattle.signature.specs.Model.{sigOf}
 use Rattle.structure.specs.View.{structureOf}
 use Rattle.semantics.specs.Calls.{applyPred, step, onStructure, says}
 use Rattle.semantics.specs.Sheet.{predAppForm}
-use Rattle.carrying.specs.View.{machineOf}
+use Rattle.carrying.specs.View.{machineOf, carried}
 use borrow.Author.Needs.{needs}
 use Rattle.carrying.proofs.apply_pred.Statement.{statement}
 use Rattle.carrying.proofs.apply_pred.Tie as tie
@@ -31,7 +31,7 @@ returns c =
       parents = c .before .before .before .els-in .ensures i;
       args = c .before .before .els-in2 .ensures i;
     })) in
-    c .after-saying .ensures ∙ (λ i. onStructure says (machineOf m) (made i))
+    c .after-saying .ensures ∙ (λ i. carried (onStructure says (machineOf m) (made i)))
 
 pub apply-pred-spec : {M : Type 1} → statement M
 apply-pred-spec =

@@ -2,7 +2,7 @@
 use mathlib.Core.Path.{_∙_}
 use Rattle.semantics.specs.Calls.{step, onStructure, says}
 use Rattle.semantics.specs.Sheet.{equalityForm}
-use Rattle.carrying.specs.View.{machineOf}
+use Rattle.carrying.specs.View.{machineOf, carried}
 use borrow.Author.Needs.{needs}
 use Rattle.carrying.proofs.equate.Statement.{statement}
 use Rattle.carrying.proofs.equate.Tie as tie
@@ -17,7 +17,7 @@ returns : tie.Need-returns
 unfolding step equalityForm
 returns c =
     let m = c .before .before .before .args .machine in
-    c .after-saying .ensures ∙ (λ i. onStructure says (machineOf m) (c .before .equate .ensures i))
+    c .after-saying .ensures ∙ (λ i. carried (onStructure says (machineOf m) (c .before .equate .ensures i)))
 
 pub equate-spec : {M : Type 1} → statement M
 equate-spec = tie.close (tie.spec equate-requires after-saying-requires returns)

@@ -4,7 +4,7 @@ use Rattle.signature.specs.Model.{sigOf}
 use Rattle.structure.specs.View.{structureOf}
 use Rattle.semantics.specs.Calls.{imposeType, step, onStructure, says}
 use Rattle.semantics.specs.Sheet.{impositionForm}
-use Rattle.carrying.specs.View.{machineOf}
+use Rattle.carrying.specs.View.{machineOf, carried}
 use borrow.Author.Needs.{needs}
 use Rattle.carrying.proofs.impose_type.Statement.{statement}
 use Rattle.carrying.proofs.impose_type.Tie as tie
@@ -28,7 +28,7 @@ returns c =
       typ = a .given .b;
       parents = c .before .before .els-in .ensures i;
     })) in
-    c .after-saying .ensures ∙ (λ i. onStructure says (machineOf m) (made i))
+    c .after-saying .ensures ∙ (λ i. carried (onStructure says (machineOf m) (made i)))
 
 pub impose-type-spec : {M : Type 1} → statement M
 impose-type-spec =

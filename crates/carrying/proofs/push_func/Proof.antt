@@ -4,7 +4,7 @@ use Rattle.signature.specs.Model.{sigOf}
 use Rattle.signature.specs.Calls.{pushFunc}
 use Rattle.semantics.specs.Calls.{step, onSig, number}
 use Rattle.semantics.specs.Sheet.{funcForm}
-use Rattle.carrying.specs.View.{machineOf}
+use Rattle.carrying.specs.View.{machineOf, carried}
 use borrow.Author.Needs.{needs}
 use Rattle.carrying.proofs.push_func.Statement.{statement}
 use Rattle.carrying.proofs.push_func.Tie as tie
@@ -31,7 +31,7 @@ returns c =
       domain = c .before .before .types-in2 .ensures i;
       codomain = a .given .b;
     })) in
-    c .after-declaring .ensures ∙ (λ i. onSig number (machineOf m) (made i))
+    c .after-declaring .ensures ∙ (λ i. carried (onSig number (machineOf m) (made i)))
 
 pub push-func-spec : {M : Type 1} → statement M
 push-func-spec =

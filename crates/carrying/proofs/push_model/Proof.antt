@@ -2,7 +2,7 @@
 use mathlib.Core.Path.{_∙_}
 use Rattle.semantics.specs.Calls.{step, onSig, number}
 use Rattle.semantics.specs.Sheet.{modelForm}
-use Rattle.carrying.specs.View.{machineOf}
+use Rattle.carrying.specs.View.{machineOf, carried}
 use borrow.Author.Needs.{needs}
 use Rattle.carrying.proofs.push_model.Statement.{statement}
 use Rattle.carrying.proofs.push_model.Tie as tie
@@ -29,7 +29,7 @@ returns : tie.Need-returns
 unfolding step modelForm
 returns c =
     let m = c .before .before .before .before .before .args .machine in
-    c .after-declaring .ensures ∙ (λ i. onSig number (machineOf m) (c .before .push-model .ensures i))
+    c .after-declaring .ensures ∙ (λ i. carried (onSig number (machineOf m) (c .before .push-model .ensures i)))
 
 pub push-model-spec : {M : Type 1} → statement M
 push-model-spec =

@@ -2,7 +2,7 @@
 use mathlib.Core.Path.{_∙_}
 use Rattle.semantics.specs.Calls.{step, onSig, number}
 use Rattle.semantics.specs.Sheet.{morAppForm}
-use Rattle.carrying.specs.View.{machineOf}
+use Rattle.carrying.specs.View.{machineOf, carried}
 use borrow.Author.Needs.{needs}
 use Rattle.carrying.proofs.push_mor_app_func.Statement.{statement}
 use Rattle.carrying.proofs.push_mor_app_func.Tie as tie
@@ -23,7 +23,7 @@ returns : tie.Need-returns
 unfolding step morAppForm
 returns c =
     let m = c .before .before .before .before .before .args .machine in
-    c .after-declaring .ensures ∙ (λ i. onSig number (machineOf m) (c .before .push-mor-app-func .ensures i))
+    c .after-declaring .ensures ∙ (λ i. carried (onSig number (machineOf m) (c .before .push-mor-app-func .ensures i)))
 
 pub push-mor-app-func-spec : {M : Type 1} → statement M
 push-mor-app-func-spec =

@@ -4,7 +4,7 @@ use Rattle.signature.specs.Model.{sigOf}
 use Rattle.signature.specs.Calls.{pushPred}
 use Rattle.semantics.specs.Calls.{step, onSig, number}
 use Rattle.semantics.specs.Sheet.{predForm}
-use Rattle.carrying.specs.View.{machineOf}
+use Rattle.carrying.specs.View.{machineOf, carried}
 use borrow.Author.Needs.{needs}
 use Rattle.carrying.proofs.push_pred.Statement.{statement}
 use Rattle.carrying.proofs.push_pred.Tie as tie
@@ -29,7 +29,7 @@ returns c =
       parents = c .before .before .before .types-in .ensures i;
       arity = c .before .before .types-in2 .ensures i;
     })) in
-    c .after-declaring .ensures ∙ (λ i. onSig number (machineOf m) (made i))
+    c .after-declaring .ensures ∙ (λ i. carried (onSig number (machineOf m) (made i)))
 
 pub push-pred-spec : {M : Type 1} → statement M
 push-pred-spec =

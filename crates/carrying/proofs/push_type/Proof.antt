@@ -4,7 +4,7 @@ use Rattle.signature.specs.Model.{sigOf}
 use Rattle.signature.specs.Calls.{pushType}
 use Rattle.semantics.specs.Calls.{step, onSig, number}
 use Rattle.semantics.specs.Sheet.{typeForm}
-use Rattle.carrying.specs.View.{machineOf}
+use Rattle.carrying.specs.View.{machineOf, carried}
 use borrow.Author.Needs.{needs}
 use Rattle.carrying.proofs.push_type.Statement.{statement}
 use Rattle.carrying.proofs.push_type.Tie as tie
@@ -29,7 +29,7 @@ returns c =
       kind = c .before .before .before .type-kind .ensures i;
       parents = c .before .before .types-in .ensures i;
     })) in
-    c .after-declaring .ensures ∙ (λ i. onSig number (machineOf m) (made i))
+    c .after-declaring .ensures ∙ (λ i. carried (onSig number (machineOf m) (made i)))
 
 pub push-type-spec : {M : Type 1} → statement M
 push-type-spec =

@@ -7,7 +7,8 @@ use lib.ListN.{length, drop, getD}
 use Rattle.ids.specs.Table.{pushOf}
 use Rattle.ids.specs.declared.ElId.{ElId}
 use Rattle.ids.specs.declared.ElIds.{ElIds}
-use Rattle.ids.specs.Ids.{elsOf}
+use Rattle.ids.specs.Ids.{elsOf, whole}
+use Rattle.ids.proofs.Lists.{as-held, given-held-alike}
 use Rattle.unification.specs.Roots.{maxEls, linksOf, rootOf, FindM, findOf}
 use Rattle.semantics.specs.Structure.{Fact, Structure}
 use Rattle.semantics.specs.Types.{factsAt}
@@ -16,7 +17,7 @@ use Rattle.facts.specs.declared.Fact as code
 use Rattle.facts.specs.declared.Facts.{Facts}
 use Rattle.facts.specs.View.{factOf, factsOf, noFact}
 use Rattle.conflicts.specs.declared.TypeConflicts.{TypeConflicts}
-use Rattle.conflicts.specs.View.{conflictsOf, conflictsIn}
+use Rattle.conflicts.specs.View.{conflictsOf, givenConflicts, handedConflicts, conflictsIn}
 use Rattle.conflicts.proofs.Laws.{bare, parents-done, parents-past, parents-match, parents-differ, other-type, other-parents}
 use Rattle.conflicts.proofs.Laws.{all-alike, facts-start, facts-done, facts-agree, facts-conflict, no-root, few-facts, two-facts}
 use Rattle.conflicts.proofs.Laws.{class-clear, class-pushed}
@@ -44,7 +45,7 @@ abbrev μ-stored : tie.MeasureT-stored
 
 abbrev Inv-classes : tie.InvT-classes
 Inv-classes unification facts n conflicts₀ e₀ conflicts e =
-    (e ≤ n) × (conflictsOf conflicts ≡ conflictsBelow (bare (linksOf unification) (factsOf facts)) e)
+    (e ≤ n) × (handedConflicts conflicts ≡ whole (conflictsBelow (bare (linksOf unification) (factsOf facts)) e))
 
 abbrev μ-classes : tie.MeasureT-classes
 μ-classes unification facts n conflicts₀ e₀ conflicts e = n - e
@@ -72,6 +73,16 @@ add-e c = search needs
 classes-less : tie.Need-classes-less Inv-paired μ-paired Inv-stored μ-stored Inv-classes μ-classes
 classes-less c = search needs
 
+-- the conflicts so far, past a class with none
+clear : (s : Structure) (out : TypeConflicts) (e : ℕ) → handedConflicts out ≡ whole (conflictsBelow s e) → [] ≡ conflictAt s e
+    → handedConflicts out ≡ whole (conflictsBelow s (e + 1))
+clear s out e so-far none = so-far ∙ ap (λ (l : List Conflict). whole l) (class-clear s e none)
+
+-- the list as it is given and as it is held, where it is the one of a class before
+alike : (out before : TypeConflicts) {cs : List Conflict} → out ≡ before → handedConflicts before ≡ whole cs → givenConflicts out ≡ conflictsOf out
+alike out before same is =
+    ap (λ (t : TypeConflicts). givenConflicts t) same ∙ given-held-alike is ∙ ap (λ (t : TypeConflicts). conflictsOf t) (sym same)
+
 -- What a place of the code knows, by the place where it was learnt.
 
 -- the structure whose conflicts are searched for
@@ -91,7 +102,7 @@ classes-again c =
     let found = c .before .before .before in
     let class = found .before .before in
     let none = no-root (given (class .before .before .before)) _ (λ h. c .if1 .taken (ap (λ (f : FindM). f .root) (found .find .ensures) ∙ h)) in
-    (omega (arith, found .before .classes-test .taken), class-clear _ _ _ (class .classes .inv .1) none)
+    (omega (arith, found .before .classes-test .taken), clear _ (class .classes .conflicts) _ (class .classes .inv .1) none)
 
 count-at-requires :
     tie.Need-count-at-requires Inv-paired μ-paired Inv-stored μ-stored Inv-classes μ-classes
@@ -109,7 +120,7 @@ classes-again-2 c =
     let class = counted .before .before .before .before .before .before in
     let s = given (class .before .before .before) in
     let few : length (factsAt (class .classes .e) (s .facts)) < 2 = omega (arith, c .if2 .taken, counted .count-at .ensures) in
-    (omega (arith, counted .before .before .before .before .before .classes-test .taken), class-clear _ _ _ (class .classes .inv .1) (few-facts s _ (root (counted .before)) few))
+    (omega (arith, counted .before .before .before .before .before .classes-test .taken), clear s (class .classes .conflicts) _ (class .classes .inv .1) (few-facts s _ (root (counted .before)) few))
 
 concrete-types-of-requires :
     tie.Need-concrete-types-of-requires Inv-paired μ-paired Inv-stored μ-stored Inv-classes μ-classes
@@ -134,9 +145,6 @@ mul-b c = search needs
 element-copy-out-b :
     tie.Need-element-copy-out-b Inv-paired μ-paired Inv-stored μ-stored Inv-classes μ-classes
 element-copy-out-b c = search needs
-
-push-requires : tie.Need-push-requires Inv-paired μ-paired Inv-stored μ-stored Inv-classes μ-classes
-push-requires c κs = search needs
 
 add-e-3 : tie.Need-add-e-3 Inv-paired μ-paired Inv-stored μ-stored Inv-classes μ-classes
 add-e-3 c = search needs
@@ -164,6 +172,11 @@ first-of c = getD (types-of c .items) 0 noFact
 abbrev fact-of : tie.At-stored Inv-paired μ-paired Inv-stored μ-stored Inv-classes μ-classes → code.Fact
 fact-of c = getD (types-of c .items) (c .stored .j) noFact
 
+push-requires : tie.Need-push-requires Inv-paired μ-paired Inv-stored μ-stored Inv-classes μ-classes
+push-requires c κs =
+    let l = c .before .before .before .before .before in
+    alike (l .stored .conflicts) (class-of l .before .classes .conflicts) (l .stored .inv .1 .0) (class-of l .before .classes .inv .1)
+
 -- its conflict is that among these facts
 among : (c : tie.At-stored Inv-paired μ-paired Inv-stored μ-stored Inv-classes μ-classes) → conflictAmong (given-of c .links) (el-of c) (factsOf (types-of c)) ≡ conflictAt (given-of c) (el-of c)
 among c =
@@ -174,15 +187,18 @@ among c =
 
 -- a conflict is put at the end, and the class is done
 pushed : (c : tie.At-stored Inv-paired μ-paired Inv-stored μ-stored Inv-classes μ-classes) {x : Conflict} (out next : TypeConflicts) (e : ℕ) → e ≡ el-of c → out ≡ class-of c .before .classes .conflicts
-    → conflictsOf next ≡ pushOf maxEls (conflictsOf out) x → x ∷ [] ≡ conflictAmong (given-of c .links) (el-of c) (factsOf (types-of c))
-    → (e + 1 ≤ class-of c .before .before .before .size .result) × (conflictsOf next ≡ conflictsBelow (given-of c) (e + 1))
+    → handedConflicts next ≡ whole (pushOf maxEls (conflictsOf out) x) → x ∷ [] ≡ conflictAmong (given-of c .links) (el-of c) (factsOf (types-of c))
+    → (e + 1 ≤ class-of c .before .before .before .size .result) × (handedConflicts next ≡ whole (conflictsBelow (given-of c) (e + 1)))
 pushed c {x} out next e here same p q =
     let class = class-of c in
     let room : el-of c < maxEls = omega (arith, class .classes-test .taken, class .before .before .before .size .ensures .most) in
-    let p′ = p ∙ ap (λ (t : TypeConflicts). pushOf maxEls (conflictsOf t) x) same in (
-      omega (arith, here, class .classes-test .taken),
-      class-pushed _ _ _ (class .before .classes .inv .1) room p′ (q ∙ among c) ∙ ap (λ (k : ℕ). conflictsBelow (given-of c) (k + 1)) (sym here),
-    )
+    let held : conflictsOf out ≡ conflictsBelow (given-of c) (el-of c) =
+    ap (λ (t : TypeConflicts). conflictsOf t) same ∙ as-held (class .before .classes .inv .1) in
+    let all : pushOf maxEls (conflictsOf out) x ≡ conflictsBelow (given-of c) (e + 1) =
+    ap (λ (l : List Conflict). pushOf maxEls l x) held
+    ∙ class-pushed (given-of c) (el-of c) room (q ∙ among c)
+    ∙ ap (λ (k : ℕ). conflictsBelow (given-of c) (k + 1)) (sym here) in
+    (omega (arith, here, class .classes-test .taken), p ∙ ap (λ (l : List Conflict). whole l) all)
 
 -- the fact j is in the table
 at : (c : tie.In-stored Inv-paired μ-paired Inv-stored μ-stored Inv-classes μ-classes) → c .before .stored .j < length (factsOf (types-of (c .before)))
@@ -256,7 +272,10 @@ find-requires-3 : tie.Need-find-requires-3 Inv-paired μ-paired Inv-stored μ-st
 find-requires-3 c κs = search needs
 
 push-requires-2 : tie.Need-push-requires-2 Inv-paired μ-paired Inv-stored μ-stored Inv-classes μ-classes
-push-requires-2 c κs = search needs
+push-requires-2 c κs =
+    let l2 = c .before .before .before .before .before .before .before .before .before in
+    let l = search-of l2 .before in
+    alike (l2 .paired .conflicts) (class-of l .before .classes .conflicts) (l2 .paired .inv .1 .0 ∙ l .stored .inv .1 .0) (class-of l .before .classes .inv .1)
 
 -- the class is still the one that was searched
 abbrev parents-of : tie.After-push2 Inv-paired μ-paired Inv-stored μ-stored Inv-classes μ-classes → tie.At-paired Inv-paired μ-paired Inv-stored μ-stored Inv-classes μ-classes
@@ -350,7 +369,9 @@ classes-again-5 c =
     let done : length (factsOf (types-of l)) ≤ l .stored .j = omega (arith, l .before .before .size2 .ensures .is, c .stored-test .left) in
     let none = facts-done (given-of l .links) (el-of l) (factOf (first-of l)) (types-of l) _ (l .stored .inv .1 .1) done ∙ among l in (
       omega (arith, e, class .classes-test .taken),
-      ap (λ (t : TypeConflicts). conflictsOf t) (l .stored .inv .1 .0) ∙ class-clear _ _ _ (class .before .classes .inv .1) none ∙ ap (λ (k : ℕ). conflictsBelow (given-of l) (k + 1)) (sym e),
+      ap (λ (t : TypeConflicts). handedConflicts t) (l .stored .inv .1 .0)
+          ∙ clear (given-of l) (class .before .classes .conflicts) _ (class .before .classes .inv .1) none
+          ∙ ap (λ (k : ℕ). whole (conflictsBelow (given-of l) (k + 1))) (sym e),
     )
 
 returns : tie.Need-returns Inv-paired μ-paired Inv-stored μ-stored Inv-classes μ-classes
@@ -359,7 +380,7 @@ returns c =
     let class = c .before in
     let sized = class .before .before in
     let all : class .classes .e ≡ length (linksOf (sized .before .args .unification)) = omega (arith, class .classes .inv .0, c .classes-test .left, sized .size .ensures .is) in
-    class .classes .inv .1 ∙ ap (conflictsBelow (given (sized .before))) all
+    class .classes .inv .1 ∙ ap (λ (k : ℕ). whole (conflictsBelow (given (sized .before)) k)) all
 
 pub find-conflicts-spec : {M : Type 1} → statement M
 find-conflicts-spec =

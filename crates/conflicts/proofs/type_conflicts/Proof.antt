@@ -1,6 +1,9 @@
 -- `type_conflicts` meets its contract.
-use mathlib.Core.Path.{_∙_}
+use mathlib.Core.Path.{ap, _∙_}
+use mathlib.Core.List.{List}
 use Rattle.ids.specs.Answers.{accepted, outcome, decided}
+use Rattle.ids.specs.Ids.{whole}
+use Rattle.semantics.specs.Conflicts.{Conflict}
 use Rattle.semantics.specs.Calls.{conflicts}
 use Rattle.structure.specs.View.{structureOf}
 use Rattle.conflicts.proofs.Laws.{conflicts-bare}
@@ -18,8 +21,11 @@ returns : tie.Need-returns
 unfolding conflicts outcome decided
 returns c =
     let s = structureOf (c .before .before .before .before .args .structure) in
-    let all = c .before .find-conflicts .ensures ∙ conflicts-bare s in
-    λ k. record { answer = accepted (all k); left = c .accept .ensures k }
+    let all = c .before .find-conflicts .ensures ∙ ap (λ (l : List Conflict). whole l) (conflicts-bare s) in
+    λ k. record {
+      given = record { answer = accepted (all k .given); left = c .accept .ensures k };
+      held = record { answer = accepted (all k .held); left = c .accept .ensures k };
+    }
 
 pub type-conflicts-spec : {M : Type 1} → statement M
 type-conflicts-spec = tie.close (tie.spec find-conflicts-requires accept-requires returns)

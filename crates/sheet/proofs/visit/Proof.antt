@@ -1,6 +1,7 @@
 -- `visit` meets its contract.
 use Rattle.ids.proofs.Tests.{told}
 use Rattle.carrying.specs.View.{stepOf}
+use Rattle.carrying.proofs.Laws.{carried-step}
 use Rattle.sheet.proofs.Laws.{visited-broken, visited-whole}
 use Rattle.records.specs.View.{recordView}
 use borrow.Author.Needs.{needs}
@@ -39,7 +40,7 @@ returns-2 c =
     let a = found .before .before .before .args in
     visited-whole (recordView (a .given)) (a .progress) (d .result) (d .ensures .0) (stepOf (c .before .carry-out .result))
     (told (found .is-broken .ensures) (c .before .before .if1 .left))
-    (c .before .carry-out .ensures)
+    (carried-step (c .before .carry-out .result) (c .before .carry-out .ensures))
     (c .after-record .ensures)
 
 pub visit-spec : {M : Type 1} → statement M

@@ -1,7 +1,7 @@
 -- `TypeConflicts::push` meets its contract.
 use Rattle.ids.proofs.Views.{long}
-use Rattle.ids.proofs.Counted.{push-at, push-past}
 use Rattle.conflicts.specs.View.{conflictOf}
+use Rattle.conflicts.proofs.Laws.{push-none, push-one}
 use borrow.Author.Needs.{needs}
 use Rattle.conflicts.proofs.TypeConflicts.push.Statement.{statement}
 use Rattle.conflicts.proofs.TypeConflicts.push.Tie as tie
@@ -11,14 +11,17 @@ size-requires c κs = search needs
 
 returns : tie.Need-returns
 returns c =
-    let a = c .before .before .args in
-    push-past conflictOf (a .self .len) (a .self .items) (c .before .size .ensures) (conflictOf (a .conflict)) (c .if1 .taken)
+    let start = c .before .before in
+    push-none (start .args .self) (start .pre) (c .before .size .ensures) (conflictOf (start .args .conflict)) (c .if1 .taken)
 
-mul-conflict : tie.Need-mul-conflict
-mul-conflict c = search needs
+clamped-requires : tie.Need-clamped-requires
+clamped-requires c κs = search needs
 
-element-set-from-conflict : tie.Need-element-set-from-conflict
-element-set-from-conflict c = search needs
+mul-entry : tie.Need-mul-entry
+mul-entry c = search needs
+
+element-set-from-entry : tie.Need-element-set-from-entry
+element-set-from-entry c = search needs
 
 add-next : tie.Need-add-next
 add-next c = search needs
@@ -28,8 +31,9 @@ cast-next c = search needs
 
 returns-2 : tie.Need-returns-2
 returns-2 c =
-    let a = c .before .before .args in
-    push-at conflictOf (a .self .len) (a .self .items) (c .before .size .ensures) (a .conflict) (search (needs, long)) (c .if1 .left)
+    let sized = c .before .before in
+    let start = sized .before in
+    push-one (start .args .self) (start .pre) (sized .size .ensures) (c .clamped .result) (c .clamped .ensures) (search (needs, long)) (c .before .if1 .left)
 
 pub push-spec : {M : Type 1} → statement M
 push-spec =
@@ -37,8 +41,9 @@ push-spec =
     (tie.spec
     size-requires
     returns
-    mul-conflict
-    element-set-from-conflict
+    clamped-requires
+    mul-entry
+    element-set-from-entry
     add-next
     cast-next
     returns-2)

@@ -33,7 +33,7 @@ returns c =
     let links = long _ (k .unification .links) _ (second .with-mark2 .ok .1 .1 .0 .1 .1 .0 .1 .0 .1) in
     let after = long _ (v .links) _ (joined .union-roots .ok .1 .1 .0 .1 .0 .1) in
     merged (a .self) (first .with-mark .result) k v (c .move-facts .result) (a .keep .0) (a .drop .0) (both .both-marked .ensures)
-    (first .with-mark .ensures) (second .with-mark2 .ensures) (joined .union-roots .ensures) (c .move-facts .ensures) marks links after
+    (first .with-mark .ensures) (second .with-mark2 .ensures) (joined .union-roots .ensures .0) (c .move-facts .ensures) marks links after
 
 pub merge-spec : {M : Type 1} → statement M
 merge-spec =

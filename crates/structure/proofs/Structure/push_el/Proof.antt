@@ -4,6 +4,7 @@ use lib.ListN.{length}
 use Rattle.ids.proofs.Judging.{judged, stops, on, ends}
 use Rattle.ids.proofs.Views.{long}
 use Rattle.ids.proofs.Counted.{full, room}
+use Rattle.ids.proofs.Lists.{as-held}
 use Rattle.unification.specs.Roots.{maxEls}
 use Rattle.semantics.specs.Structure.{with-links, with-marks}
 use Rattle.semantics.specs.Calls.{pushEl}
@@ -54,7 +55,7 @@ returns-2 c =
     let s = a .self in
     let v = c .before .increase-size .result in
     let after = long _ (v .links) _ (c .before .increase-size .ok .1 .1 .0 .1 .0 .1) in
-    let links = c .before .increase-size .ensures in
+    let links = as-held (c .before .increase-size .ensures) in
     let marks = one-more (s .unification) v _ (many-marks start) (many-links start) after _ (a .mark) (sized .is) (e1 .if1 .left) links in
     judged (on (room sized (e1 .if1 .left))
     (ends (accepts (sized .is) (c .accept .ensures) (λ i. with-links (links i) (with-marks (marks i) (structureOf s))))))

@@ -1,12 +1,13 @@
 -- `Unification::roots` meets its contract.
-use mathlib.Core.Path.{_≡_, refl, ap, _∙_}
+use mathlib.Core.Path.{_≡_, refl, sym, ap, _∙_}
 use mathlib.Core.List.{map}
-use Prim.Native.Nat.{_-_, _≤_}
+use Prim.Native.Nat.{ℕ, _-_, _≤_}
 use native.Mathlib.Omega.{arith}
 use lib.ListN.{length, take, length-set}
 use Rattle.ids.specs.Limits.{maxList}
-use Rattle.ids.specs.Ids.{elOf}
-use Rattle.ids.proofs.Views.{long, filled-more, filled-all}
+use Rattle.ids.specs.Ids.{elOf, elsOf}
+use Rattle.ids.proofs.Views.{long, filled-more, view-clamped}
+use Rattle.ids.proofs.Lists.{handed}
 use Rattle.unification.specs.Roots.{linksOf, rootOf, findOf, FindM}
 use borrow.Author.Needs.{needs}
 use Rattle.unification.proofs.Unification.roots.Statement.{statement}
@@ -14,7 +15,7 @@ use Rattle.unification.proofs.Unification.roots.Tie as tie
 
 abbrev Inv-loop : tie.InvT-loop
 Inv-loop self els out₀ n i₀ out i =
-    (i ≤ n) × (out .len ≡ els .len) × (length (out .ids) ≡ length (els .ids))
+    (i ≤ n) × (out .len ≡ n) × (length (out .ids) ≡ length (els .ids))
     × (map elOf (take i (out .ids)) ≡ map (rootOf (linksOf self)) (map elOf (take i (els .ids))))
 
 abbrev μ-loop : tie.MeasureT-loop
@@ -22,6 +23,9 @@ abbrev μ-loop : tie.MeasureT-loop
 
 size-requires : tie.Need-size-requires Inv-loop μ-loop
 size-requires c κs = search needs
+
+cast-out : tie.Need-cast-out Inv-loop μ-loop
+cast-out c = search needs
 
 loop-holds : tie.Need-loop-holds Inv-loop μ-loop
 loop-holds c = (omega arith, refl, refl, refl)
@@ -68,9 +72,12 @@ returns c =
     let l = c .before .loop in
     let a = c .before .before .before .args in
     let n = c .before .before .size in
-    let all : l .i ≡ n .result = omega (arith) in
-    rw (l .inv .1) (filled-all elOf (rootOf (linksOf (a .self))) (a .t2 .ids) (l .out .ids) (a .t2 .len) (l .i)
-    (all ∙ n .ensures .is) (l .inv .2) (l .inv .3))
+    let four : length (a .t2 .ids) ≡ maxList = search (needs, long) in
+    let all : l .i ≡ n .result = omega arith in
+    let roots : map elOf (take (n .result) (l .out .ids)) ≡ map (rootOf (linksOf (a .self))) (elsOf (a .t2)) =
+    ap (λ (k : ℕ). map elOf (take k (l .out .ids))) (sym all) ∙ l .inv .3
+    ∙ ap (map (rootOf (linksOf (a .self)))) (view-clamped elOf (a .t2 .len) (l .i) (a .t2 .ids) (all ∙ n .ensures .is)) in
+    rw (l .inv .1) (handed 0 elOf (n .result) (l .out .ids) (omega (arith, n .ensures .most, l .inv .2)) roots)
 
 pub roots-spec : {M : Type 1} → statement M
 roots-spec =
@@ -79,6 +86,7 @@ roots-spec =
     Inv-loop
     μ-loop
     size-requires
+    cast-out
     loop-holds
     mul-el
     element-copy-out-el

@@ -1,0 +1,23 @@
+-- `TypeConflict::clamped` meets its contract.
+use borrow.Author.Needs.{needs}
+use Rattle.conflicts.proofs.TypeConflict.clamped.Statement.{statement}
+use Rattle.conflicts.proofs.TypeConflict.clamped.Tie as tie
+
+clamped-requires : tie.Need-clamped-requires
+clamped-requires c κs = search needs
+
+clamped-requires-2 : tie.Need-clamped-requires-2
+clamped-requires-2 c κs = search needs
+
+returns : tie.Need-returns
+returns c =
+    let t = c .before .before .before .before .before .args .self in
+    let a = c .before .clamped .ensures in
+    let b = c .clamped2 .ensures in
+    λ i. record {
+      given = record { el = t .el .0; a = a i .given; b = b i .given };
+      held = record { el = t .el .0; a = a i .held; b = b i .held };
+    }
+
+pub clamped-spec : {M : Type 1} → statement M
+clamped-spec = tie.close (tie.spec clamped-requires clamped-requires-2 returns)
