@@ -118,21 +118,21 @@ pub fn refuse_answer(structure: Structure, number: u16) -> Saying
     }
 }
 
-fn refuse_binding(structure: Structure, number: u16) -> Doing
-    ensures { λ r. ⌜ doingOf r ≡ record { answer = refused number; left = structureOf structure } ⌝ }
-{
-    Doing {
-        answer: Done::Refused(number),
-        structure,
-    }
-}
-
 fn refuse_lookup(number: u16) -> AmbientParents
     ensures { λ r. ⌜ lookingOf r ≡ withEls (refused number) ⌝ }
 {
     AmbientParents {
         answer: Looked::Refused(number),
         els: ElIds::new(),
+    }
+}
+
+fn refuse_binding(structure: Structure, number: u16) -> Doing
+    ensures { λ r. ⌜ doingOf r ≡ record { answer = refused number; left = structureOf structure } ⌝ }
+{
+    Doing {
+        answer: Done::Refused(number),
+        structure,
     }
 }
 
