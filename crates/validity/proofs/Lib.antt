@@ -11,3 +11,5 @@ pub mod Signatures
 pub mod Replacing
 pub mod Calls
 pub mod Reserved
+pub mod Limit
+pub mod OtherLimits

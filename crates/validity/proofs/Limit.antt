@@ -1,0 +1,425 @@
+-- Number 11: the close with the limit and the close without one (specs/Unlimited.antt) agree up to the first moment at which more than
+-- `maxFacts` facts would be held, and 11 is given exactly if there is such a moment. For every signature and structure.
+use mathlib.Core.Path.{_≡_, refl, sym, ap, subst, _∙_}
+use mathlib.Core.Logic.{_⊎_, inl, inr}
+use mathlib.Core.Bool.{Bool, true, false, not, _&&_, _||_}
+use mathlib.Core.List.{List, [], _∷_}
+use mathlib.Core.Option.{Option, none, some}
+use Prim.Native.Nat.{ℕ, zero, suc, _+_, _≤_, min, max}
+use native.Mathlib.Omega.{arith}
+use lib.ListN.{length}
+use lib.Dec.{eqb, ltb}
+use borrow.Author.Tests.{ltb-true, ltb-false}
+use Rattle.ids.specs.Answers.{Outcome, refused, tooManyFacts}
+use Rattle.ids.specs.Table.{present, placed}
+use Rattle.ids.proofs.Sorted.{placed-absent, rewrite-length, no-test}
+use Rattle.unification.specs.Roots.{rootOf}
+use Rattle.signature.specs.Model.{Sig}
+use Rattle.semantics.specs.Structure.{Fact, FuncApp, PredApp, Pair, Structure, compareFact, canonicalFact, factAt, maxFacts}
+use Rattle.semantics.specs.Types.{Core, with-pairs, with-added, with-met, marked, movedFacts, merge, joinRoots, join, drainPairs, drain}
+use Rattle.semantics.specs.Types.{concreteTypesOf, refineRoots, refine, refineParents, refineAll, insertFact, insertCanonical, impose, imposeAll}
+use Rattle.semantics.specs.Close.{Turn, drained, drainPass, rewrote, functionalityPass, typed, typingPass, demands, passes, runPasses, round}
+use Rattle.semantics.specs.Close.{Rounds, isNone, lastRound, oneMore, roundsFrom, rounds, fuel, Closed, coreOf, closeWith, closeImposed}
+use Rattle.semantics.specs.Close.{closeAfter, close}
+use Rattle.semantics.specs.Valid.{Valid}
+use Rattle.validity.specs.Unlimited.{Ran, imposeBy, imposeAllBy, typingBy, roundBy, roundsFromBy, roundsBy, ranBy, worksUnmet, limited}
+use Rattle.validity.specs.Unlimited.{noted, insertAlways, works, ranFree, unlimited, moment, elevenAt, judged}
+use Rattle.validity.proofs.Closing.{close-fuel}
+
+-- The close is the close over its insertion.
+
+pub is-imposeAll : (fs : List Fact) (w : Core) → imposeAllBy insertFact fs w ≡ imposeAll fs w
+unfolding imposeAllBy imposeBy imposeAll impose insertCanonical
+is-imposeAll [] w = refl
+is-imposeAll (f ∷ fs) w = is-imposeAll fs (impose f w)
+
+pub is-round : (g : Sig) (preds : List PredApp) (apps : List FuncApp) (w : Core) → roundBy insertFact g preds apps w ≡ round g preds apps w
+unfolding roundBy round passes runPasses typingBy typingPass
+is-round g preds apps w =
+    let t = functionalityPass g preds (drainPass g preds (record { core = w; apps = apps; worked = false })) in
+    ap (λ (x : Core). typed x t) (is-imposeAll (demands g (t .apps) preds) (t .core))
+
+pub is-rounds : (n : ℕ) (g : Sig) (preds : List PredApp) (t : Turn) → roundsFromBy insertFact worksUnmet n g preds t ≡ roundsFrom n g preds t
+unfolding roundsFromBy roundsFrom
+is-rounds zero g preds t = refl
+is-rounds (suc n) g preds t = ap
+    (λ (r : Rounds). elim (t .worked && isNone (t .core .met)) as (λ _. Rounds) [ true ↦ oneMore r | false ↦ lastRound t ])
+    (is-rounds n g preds (roundBy insertFact g preds (t .apps) (t .core)) ∙ ap (roundsFrom n g preds) (is-round g preds (t .apps) (t .core)))
+
+module _ (g : Sig) (s : Structure) where
+  is-ran : (n : ℕ) → roundsBy insertFact worksUnmet n g s ≡ roundsFrom n g (s .pred-apps) (round g (s .pred-apps) (s .func-apps) (coreOf s))
+  unfolding roundsBy
+  is-ran n =
+      is-rounds n g (s .pred-apps) (roundBy insertFact g (s .pred-apps) (s .func-apps) (coreOf s))
+      ∙ ap (roundsFrom n g (s .pred-apps)) (is-round g (s .pred-apps) (s .func-apps) (coreOf s))
+
+  -- with any number of rounds that leaves what the rounds of the close leave
+  is-close-at : (n : ℕ)
+      → roundsFrom n g (s .pred-apps) (round g (s .pred-apps) (s .func-apps) (coreOf s)) ≡ rounds g (s .pred-apps) (s .func-apps) (coreOf s)
+      → close g s ≡ limited insertFact n g s
+  unfolding close closeAfter closeImposed limited ranBy
+  is-close-at n e =
+      sym (ap (λ (r : Rounds). closeWith (imposeAll (s .impositions) (r .core) .met) r (imposeAll (s .impositions) (r .core)) s) (is-ran n ∙ e))
+      ∙ sym (ap (λ (w : Core). closeWith (w .met) (roundsBy insertFact worksUnmet n g s) w s) (is-imposeAll (s .impositions) (roundsBy insertFact worksUnmet n g s .core)))
+
+  pub is-close : close g s ≡ limited insertFact fuel g s
+  unfolding rounds
+  is-close = is-close-at fuel refl
+
+-- What merges and refinements keep: the number that is met, and no more facts than there were.
+
+pub record Kept (w v : Core) : Type 0 where
+  pub met : v .met ≡ w .met
+  pub facts : length (v .facts) ≤ length (w .facts)
+
+same : (w : Core) → Kept w w
+same w = record { met = refl; facts = omega arith }
+
+then : (w v u : Core) → Kept w v → Kept v u → Kept w u
+then w v u a b = record { met = b .met ∙ a .met; facts = omega (arith, a .facts, b .facts) }
+
+merge-kept : (keep drop : ℕ) (w : Core) → Kept w (merge keep drop w)
+unfolding merge movedFacts
+merge-kept keep drop w = record {
+  met = refl;
+  facts = omega (arith, rewrite-length compareFact (λ f. elim (eqb (f .el) drop) [ true ↦ factAt keep f | false ↦ f ]) (w .facts) []);
+}
+
+join-kept : (p : Pair) (w : Core) → Kept w (join p w)
+unfolding join joinRoots
+join-kept p w = go (eqb a b)
+  where
+    a : ℕ
+    a = rootOf (w .links) (p .left)
+
+    b : ℕ
+    b = rootOf (w .links) (p .right)
+
+    go : (t : Bool) → Kept w (elim t [ true ↦ w | false ↦ merge (min a b) (max a b) w ])
+    go true = same w
+    go false = merge-kept (min a b) (max a b) w
+
+drainPairs-kept : (ps : List Pair) (w : Core) → Kept w (drainPairs ps w)
+unfolding drainPairs
+drainPairs-kept [] w = same w
+drainPairs-kept (p ∷ ps) w = then w (join p w) (drainPairs ps (join p w)) (join-kept p w) (drainPairs-kept ps (join p w))
+
+drain-kept : (w : Core) → Kept w (drain w)
+unfolding drain
+drain-kept w = let k = drainPairs-kept (w .pairs) (with-pairs [] w) in record { met = k .met; facts = k .facts }
+
+refine-kept : (p q : ℕ) (w : Core) → Kept w (refine p q w)
+unfolding refine refineRoots
+refine-kept p q w = go (not (eqb a b) && (marked (w .marks) a || marked (w .marks) b))
+  where
+    a : ℕ
+    a = rootOf (w .links) p
+
+    b : ℕ
+    b = rootOf (w .links) q
+
+    go : (t : Bool) → Kept w (elim t [ true ↦ drain (with-pairs (record { left = a; right = b } ∷ w .pairs) w) | false ↦ w ])
+    go true = let k = drain-kept (with-pairs (record { left = a; right = b } ∷ w .pairs) w) in record { met = k .met; facts = k .facts }
+    go false = same w
+
+refineParents-kept : (ps qs : List ℕ) (w : Core) → Kept w (refineParents ps qs w)
+unfolding refineParents
+refineParents-kept [] qs w = same w
+refineParents-kept (p ∷ ps) [] w = same w
+refineParents-kept (p ∷ ps) (q ∷ qs) w = then w (refine p q w) (refineParents ps qs (refine p q w)) (refine-kept p q w) (refineParents-kept ps qs (refine p q w))
+
+refineAll-kept : (gs : List Fact) (f : Fact) (w : Core) → Kept w (refineAll gs f w)
+unfolding refineAll
+refineAll-kept [] f w = same w
+refineAll-kept (g ∷ gs) f w = go (eqb (g .typ) (f .typ)) (λ v. refineAll-kept gs f v)
+  where
+    go : (t : Bool) → ((v : Core) → Kept v (refineAll gs f v))
+        → Kept w (refineAll gs f (elim t [ true ↦ refineParents (g .parents) (f .parents) w | false ↦ w ]))
+    go true rest =
+        let v = refineParents (g .parents) (f .parents) w in
+        then w v (refineAll gs f v) (refineParents-kept (g .parents) (f .parents) w) (rest v)
+    go false rest = rest w
+
+-- the two passes before `typing`
+abbrev before-typing : Sig → List PredApp → List FuncApp → Core → Turn
+before-typing g preds apps w = functionalityPass g preds (drainPass g preds (record { core = w; apps = apps; worked = false }))
+
+before-kept : (g : Sig) (preds : List PredApp) (apps : List FuncApp) (w : Core) → Kept w (before-typing g preds apps w .core)
+unfolding functionalityPass rewrote drainPass drained
+before-kept g preds apps w = let k = drain-kept w in record { met = k .met; facts = k .facts }
+
+-- What holds through merges and insertions holds through a close, whatever ends its rounds.
+module _ (insert : Fact → Core → Core) (P : Core → Type 0) (through : (w v : Core) → Kept w v → P w → P v)
+    (inserts : (f : Fact) (w : Core) → P w → P (insert f w)) where
+  impose-holds : (f : Fact) (w : Core) → P w → P (imposeBy insert f w)
+  unfolding imposeBy
+  impose-holds f w h =
+      let ts = concreteTypesOf (w .links) (w .facts) (f .el) in
+      let v = refineAll ts f w in
+      inserts (canonicalFact (v .links) f) v (through w v (refineAll-kept ts f w) h)
+
+  pub imposeAll-holds : (fs : List Fact) (w : Core) → P w → P (imposeAllBy insert fs w)
+  unfolding imposeAllBy
+  imposeAll-holds [] w h = h
+  imposeAll-holds (f ∷ fs) w h = imposeAll-holds fs (imposeBy insert f w) (impose-holds f w h)
+
+  pub round-holds : (g : Sig) (preds : List PredApp) (apps : List FuncApp) (w : Core) → P w → P (roundBy insert g preds apps w .core)
+  unfolding roundBy runPasses typingBy typed
+  round-holds g preds apps w h =
+      let t = before-typing g preds apps w in
+      imposeAll-holds (demands g (t .apps) preds) (t .core) (through w (t .core) (before-kept g preds apps w) h)
+
+  pub rounds-hold : (more : Turn → Bool) (n : ℕ) (g : Sig) (preds : List PredApp) (t : Turn) → P (t .core)
+      → P (roundsFromBy insert more n g preds t .core)
+  unfolding roundsFromBy lastRound oneMore
+  rounds-hold more zero g preds t h = h
+  rounds-hold more (suc n) g preds t h = go (more t) (rounds-hold more n g preds u (round-holds g preds (t .apps) (t .core) h))
+    where
+      u : Turn
+      u = roundBy insert g preds (t .apps) (t .core)
+
+      go : (b : Bool) → P (roundsFromBy insert more n g preds u .core)
+          → P ((elim b as (λ _. Rounds) [ true ↦ oneMore (roundsFromBy insert more n g preds u) | false ↦ lastRound t ]) .core)
+      go true k = k
+      go false k = h
+
+-- Two runs agree: they are at the same place and no number is met, or 11 is met in both.
+
+abbrev pub Agree : {A : Type 0} → (A → Option ℕ) → A → A → Type 0
+Agree met a b = ((a ≡ b) × (met a ≡ none)) ⊎ ((met a ≡ some tooManyFacts) × (met b ≡ some tooManyFacts))
+
+-- steps that agree wherever they begin without a number met, and drop no number
+agree-then : {A B : Type 0} (m : A → Option ℕ) (k : B → Option ℕ) (f g : A → B) → ((a : A) → m a ≡ none → Agree k (f a) (g a))
+    → ((a : A) → m a ≡ some tooManyFacts → k (f a) ≡ some tooManyFacts) → ((a : A) → m a ≡ some tooManyFacts → k (g a) ≡ some tooManyFacts)
+    → (a b : A) → Agree m a b → Agree k (f a) (g b)
+agree-then {A} m k f g both left right a b (inl h) = subst (λ (x : A). Agree k (f a) (g x)) (h .0) (both a (h .1))
+agree-then m k f g both left right a b (inr h) = inr (left a (h .0), right b (h .1))
+
+abbrev metCore : Core → Option ℕ
+metCore w = w .met
+
+abbrev metTurn : Turn → Option ℕ
+metTurn t = t .core .met
+
+abbrev metRounds : Rounds → Option ℕ
+metRounds r = r .core .met
+
+abbrev metRan : Ran → Option ℕ
+metRan r = r .core .met
+
+-- 11 is met
+abbrev Met : Core → Type 0
+Met w = w .met ≡ some tooManyFacts
+
+met-through : (w v : Core) → Kept w v → Met w → Met v
+met-through w v k h = k .met ∙ h
+
+first-met : (w : Core) → w .met ≡ none → with-met tooManyFacts w .met ≡ some tooManyFacts
+first-met w e = ap (λ (o : Option ℕ). elim o as (λ _. Option ℕ) [ none ↦ some tooManyFacts | some m ↦ some m ]) e
+
+still-met : (w : Core) → Met w → with-met tooManyFacts w .met ≡ some tooManyFacts
+still-met w e = ap (λ (o : Option ℕ). elim o as (λ _. Option ℕ) [ none ↦ some tooManyFacts | some m ↦ some m ]) e
+
+-- The insertions.
+
+abbrev limited-by : (t u : Bool) → Fact → Core → Core
+limited-by t u f w = elim t [ true ↦ w | false ↦ elim u [ true ↦ with-added (placed compareFact f (w .facts)) w | false ↦ with-met tooManyFacts w ] ]
+
+abbrev always-by : (t u : Bool) → Fact → Core → Core
+always-by t u f w =
+    let more = with-added (placed compareFact f (w .facts)) w in
+    elim t [ true ↦ w | false ↦ elim u [ true ↦ with-met tooManyFacts more | false ↦ more ] ]
+
+-- there is room exactly where one more is not too many
+insert-agrees : (f : Fact) (w : Core) → w .met ≡ none → Agree metCore (insertFact f w) (insertAlways f w)
+unfolding insertFact insertAlways noted
+insert-agrees f w m =
+    go (present compareFact f (w .facts)) refl (ltb (length (w .facts)) maxFacts) refl (ltb maxFacts (length (placed compareFact f (w .facts)))) refl
+  where
+    go : (t : Bool) → present compareFact f (w .facts) ≡ t → (u : Bool) → ltb (length (w .facts)) maxFacts ≡ u
+        → (o : Bool) → ltb maxFacts (length (placed compareFact f (w .facts))) ≡ o → Agree metCore (limited-by t u f w) (always-by t o f w)
+    go true p u q o r = inl (refl, m)
+    go false p true q true r =
+        absurd (omega (
+          arith,
+          placed-absent compareFact f (w .facts) p,
+          ltb-true (length (w .facts)) maxFacts q,
+          ltb-true maxFacts (length (placed compareFact f (w .facts))) r,
+        ))
+    go false p true q false r = inl (refl, m)
+    go false p false q true r = inr (first-met w m, first-met (with-added (placed compareFact f (w .facts)) w) m)
+    go false p false q false r =
+        absurd (omega (
+          arith,
+          placed-absent compareFact f (w .facts) p,
+          ltb-false (length (w .facts)) maxFacts q,
+          ltb-false maxFacts (length (placed compareFact f (w .facts))) r,
+        ))
+
+insert-met : (f : Fact) (w : Core) → Met w → Met (insertFact f w)
+unfolding insertFact
+insert-met f w h = go (present compareFact f (w .facts)) (ltb (length (w .facts)) maxFacts)
+  where
+    go : (t u : Bool) → Met (limited-by t u f w)
+    go true u = h
+    go false true = h
+    go false false = still-met w h
+
+always-met : (f : Fact) (w : Core) → Met w → Met (insertAlways f w)
+unfolding insertAlways noted
+always-met f w h = go (present compareFact f (w .facts)) (ltb maxFacts (length (placed compareFact f (w .facts))))
+  where
+    go : (t u : Bool) → Met (always-by t u f w)
+    go true u = h
+    go false true = still-met w h
+    go false false = h
+
+-- The layers. Each law holds for every list and every number of rounds, so it speaks of the moment after each entry and each round.
+
+pub imposeAll-agree : (fs : List Fact) (w : Core) → w .met ≡ none → Agree metCore (imposeAllBy insertFact fs w) (imposeAllBy insertAlways fs w)
+unfolding imposeAllBy
+imposeAll-agree [] w m = inl (refl, m)
+imposeAll-agree (f ∷ fs) w m =
+    agree-then metCore metCore (imposeAllBy insertFact fs) (imposeAllBy insertAlways fs) (imposeAll-agree fs)
+    (imposeAll-holds insertFact Met met-through insert-met fs) (imposeAll-holds insertAlways Met met-through always-met fs)
+    (imposeBy insertFact f w) (imposeBy insertAlways f w) one
+  where
+    one : Agree metCore (imposeBy insertFact f w) (imposeBy insertAlways f w)
+    one = (unfold imposeBy in
+        let ts = concreteTypesOf (w .links) (w .facts) (f .el) in
+        let v = refineAll ts f w in
+        insert-agrees (canonicalFact (v .links) f) v (refineAll-kept ts f w .met ∙ m))
+
+typed-agree : (t : Turn) (w u : Core) → Agree metCore w u → Agree metTurn (typed w t) (typed u t)
+unfolding typed
+typed-agree t w u (inl h) = inl (ap (λ (x : Core). typed x t) (h .0), h .1)
+typed-agree t w u (inr h) = inr h
+
+pub round-agrees : (g : Sig) (preds : List PredApp) (apps : List FuncApp) (w : Core) → w .met ≡ none
+    → Agree metTurn (roundBy insertFact g preds apps w) (roundBy insertAlways g preds apps w)
+unfolding roundBy runPasses typingBy
+round-agrees g preds apps w m =
+    let t = before-typing g preds apps w in
+    let fs = demands g (t .apps) preds in
+    typed-agree t (imposeAllBy insertFact fs (t .core)) (imposeAllBy insertAlways fs (t .core))
+    (imposeAll-agree fs (t .core) (before-kept g preds apps w .met ∙ m))
+
+more-agree : (r q : Rounds) → Agree metRounds r q → Agree metRounds (oneMore r) (oneMore q)
+unfolding oneMore
+more-agree r q (inl h) = inl (ap oneMore (h .0), h .1)
+more-agree r q (inr h) = inr h
+
+-- from a round on
+pub rounds-agree : (g : Sig) (preds : List PredApp) (n : ℕ) (t : Turn) → t .core .met ≡ none
+    → Agree metRounds (roundsFromBy insertFact worksUnmet n g preds t) (roundsFromBy insertAlways works n g preds t)
+unfolding roundsFromBy lastRound isNone
+rounds-agree g preds zero t m = inl (refl, m)
+rounds-agree g preds (suc n) t m =
+    go (t .worked) (isNone (t .core .met)) (ap isNone m)
+    (agree-then metTurn metRounds (roundsFromBy insertFact worksUnmet n g preds) (roundsFromBy insertAlways works n g preds) (rounds-agree g preds n)
+    (λ u. rounds-hold insertFact Met met-through insert-met worksUnmet n g preds u) (λ u. rounds-hold insertAlways Met met-through always-met works n g preds u)
+    (roundBy insertFact g preds (t .apps) (t .core)) (roundBy insertAlways g preds (t .apps) (t .core))
+    (round-agrees g preds (t .apps) (t .core) m))
+  where
+    go : (b o : Bool) → o ≡ true → {r q : Rounds} → Agree metRounds r q
+        → Agree metRounds (elim (b && o) [ true ↦ oneMore r | false ↦ lastRound t ]) (elim b [ true ↦ oneMore q | false ↦ lastRound t ])
+    go true true e {r} {q} next = more-agree r q next
+    go true false e next = no-test refl (sym e)
+    go false o e next = inl (refl, m)
+
+module _ (g : Sig) (s : Structure) where
+  -- the whole run, of at most so many rounds after the first
+  pub ran-agrees : (n : ℕ) → Agree metRan (ranBy insertFact worksUnmet n g s) (ranFree n g s)
+  unfolding ranBy roundsBy
+  ran-agrees n =
+      agree-then metRounds metRan (λ r. record { rounds = r; core = imposeAllBy insertFact (s .impositions) (r .core) })
+      (λ r. record { rounds = r; core = imposeAllBy insertAlways (s .impositions) (r .core) }) imposed
+      (λ r. imposeAll-holds insertFact Met met-through insert-met (s .impositions) (r .core))
+      (λ r. imposeAll-holds insertAlways Met met-through always-met (s .impositions) (r .core)) _ _
+      (agree-then metTurn metRounds (roundsFromBy insertFact worksUnmet n g (s .pred-apps)) (roundsFromBy insertAlways works n g (s .pred-apps))
+      (rounds-agree g (s .pred-apps) n) (rounds-hold insertFact Met met-through insert-met worksUnmet n g (s .pred-apps))
+      (rounds-hold insertAlways Met met-through always-met works n g (s .pred-apps)) _ _
+      (round-agrees g (s .pred-apps) (s .func-apps) (coreOf s) (unfold coreOf in refl)))
+    where
+      imposed : (r : Rounds) → r .core .met ≡ none → Agree metRan
+          (record { rounds = r; core = imposeAllBy insertFact (s .impositions) (r .core) })
+          (record { rounds = r; core = imposeAllBy insertAlways (s .impositions) (r .core) })
+      imposed r m = go (imposeAll-agree (s .impositions) (r .core) m)
+        where
+          go : {w u : Core} → Agree metCore w u → Agree metRan (record { rounds = r; core = w }) (record { rounds = r; core = u })
+          go (inl h) = inl (ap (λ (x : Core). record { rounds = r; core = x }) (h .0), h .1)
+          go (inr h) = inr h
+
+  limited-exactly : (n : ℕ) → limited insertFact n g s ≡ judged n g s
+  unfolding limited unlimited moment elevenAt isNone closeWith
+  limited-exactly n = go (ranBy insertFact worksUnmet n g s) (ranFree n g s) (ran-agrees n)
+    where
+      free : Ran → Outcome Closed Structure
+      free r = closeWith none (r .rounds) (r .core) s
+
+      go : (a b : Ran) → Agree metRan a b → closeWith (a .core .met) (a .rounds) (a .core) s ≡ elevenAt (not (isNone (b .core .met))) (free b) s
+      go a b (inl h) =
+          let m : b .core .met ≡ none = sym (ap metRan (h .0)) ∙ h .1 in
+          ap (λ (o : Option ℕ). closeWith o (a .rounds) (a .core) s) (h .1)
+          ∙ ap free (h .0)
+          ∙ sym (ap (λ (o : Option ℕ). elevenAt (not (isNone o)) (free b) s) m)
+      go a b (inr h) =
+          ap (λ (o : Option ℕ). closeWith o (a .rounds) (a .core) s) (h .0)
+          ∙ sym (ap (λ (o : Option ℕ). elevenAt (not (isNone o)) (free b) s) (h .1))
+
+  -- The theorem: the close is the one without a limit, refused with 11 if that one would at some moment hold more than `maxFacts` facts.
+  pub eleven-exactly : close g s ≡ judged fuel g s
+  eleven-exactly = is-close g s ∙ limited-exactly fuel
+
+  -- of a valid structure the close without a limit may run for any number of rounds more
+  pub eleven-valid : Valid g s → (j : ℕ) → close g s ≡ judged (fuel + j) g s
+  eleven-valid v j = is-close-at g s (fuel + j) (close-fuel g s v j) ∙ limited-exactly (fuel + j)
+
+  -- The same in three parts.
+
+  pub eleven-if : moment fuel g s ≡ true → close g s ≡ record { answer = refused tooManyFacts; left = s }
+  unfolding elevenAt
+  eleven-if e = eleven-exactly ∙ ap (λ (b : Bool). elevenAt b (unlimited fuel g s) s) e
+
+  pub eleven-else : moment fuel g s ≡ false → close g s ≡ unlimited fuel g s
+  unfolding elevenAt
+  eleven-else e = eleven-exactly ∙ ap (λ (b : Bool). elevenAt b (unlimited fuel g s) s) e
+
+  pub eleven-only : close g s .answer ≡ refused tooManyFacts → moment fuel g s ≡ true
+  eleven-only e = go (moment fuel g s) refl
+    where
+      accepts : {X : Type 0} → unlimited fuel g s .answer ≡ refused tooManyFacts → X
+      accepts h = let z : _≡_ {A = ℕ} 0 1 = (unfold unlimited closeWith in cc h) in absurd (omega arith)
+
+      go : (b : Bool) → moment fuel g s ≡ b → b ≡ true
+      go true m = refl
+      go false m = accepts (sym (ap (λ (o : Outcome Closed Structure). o .answer) (eleven-else m)) ∙ e)
+
+-- At no moment of a close are more than `maxFacts` facts held, where that many are held at its start: after each round, and after each fact that
+-- is imposed.
+
+abbrev Held : Core → Type 0
+Held w = length (w .facts) ≤ maxFacts
+
+held-through : (w v : Core) → Kept w v → Held w → Held v
+held-through w v k h = omega (arith, k .facts)
+
+insert-held : (f : Fact) (w : Core) → Held w → Held (insertFact f w)
+unfolding insertFact
+insert-held f w h = go (present compareFact f (w .facts)) refl (ltb (length (w .facts)) maxFacts) refl
+  where
+    go : (t : Bool) → present compareFact f (w .facts) ≡ t → (u : Bool) → ltb (length (w .facts)) maxFacts ≡ u → Held (limited-by t u f w)
+    go true p u q = h
+    go false p true q = omega (arith, placed-absent compareFact f (w .facts) p, ltb-true (length (w .facts)) maxFacts q)
+    go false p false q = h
+
+pub imposeAll-held : (fs : List Fact) (w : Core) → Held w → Held (imposeAll fs w)
+imposeAll-held fs w h = subst Held (is-imposeAll fs w) (imposeAll-holds insertFact Held held-through insert-held fs w h)
+
+pub round-held : (g : Sig) (preds : List PredApp) (apps : List FuncApp) (w : Core) → Held w → Held (round g preds apps w .core)
+round-held g preds apps w h =
+    subst (λ (t : Turn). Held (t .core)) (is-round g preds apps w) (round-holds insertFact Held held-through insert-held g preds apps w h)
+
+pub rounds-held : (n : ℕ) (g : Sig) (preds : List PredApp) (t : Turn) → Held (t .core) → Held (roundsFrom n g preds t .core)
+rounds-held n g preds t h =
+    subst (λ (r : Rounds). Held (r .core)) (is-rounds n g preds t) (rounds-hold insertFact Held held-through insert-held worksUnmet n g preds t h)

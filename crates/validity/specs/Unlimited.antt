@@ -1,0 +1,96 @@
+-- The close over any insertion, and the close without the limit of number 11 (01: "the close would at some moment hold 1,025 facts").
+-- The layers above the insertion are those of `Types` and `Close`, said again with the insertion, the test for one more round and the most
+-- rounds as parameters: the proofs of the code hang on the definitions there. With the parameters of the close they are the close, which
+-- proofs/Limit.antt shows (`is-close`).
+use Prim.Native.Nat.{ℕ, zero, suc}
+use mathlib.Core.Bool.{Bool, true, false, not, _&&_}
+use mathlib.Core.List.{List, [], _∷_}
+use mathlib.Core.Option.{none}
+use lib.ListN.{length}
+use lib.Dec.{ltb}
+use Rattle.ids.specs.Answers.{Outcome, refused, tooManyFacts}
+use Rattle.ids.specs.Table.{present, placed}
+use Rattle.signature.specs.Model.{Sig}
+use Rattle.semantics.specs.Structure.{Fact, FuncApp, PredApp, Structure, compareFact, canonicalFact, maxFacts}
+use Rattle.semantics.specs.Types.{Core, with-added, with-met, concreteTypesOf, refineAll}
+use Rattle.semantics.specs.Close.{Turn, Pass, drainPass, functionalityPass, typed, demands, runPasses, Rounds, isNone, lastRound, oneMore}
+use Rattle.semantics.specs.Close.{Closed, coreOf, closeWith}
+
+-- what a close leaves before it answers: its rounds, and the core after the impositions
+pub record Ran : Type 0 where
+  pub rounds : Rounds
+  pub core : Core
+
+module _ (insert : Fact → Core → Core) where
+  -- `impose`
+  unfoldable pub imposeBy : Fact → Core → Core
+  imposeBy f w =
+      let refined = refineAll (concreteTypesOf (w .links) (w .facts) (f .el)) f w in
+      insert (canonicalFact (refined .links) f) refined
+
+  -- `imposeAll`
+  unfoldable pub imposeAllBy : List Fact → Core → Core
+  imposeAllBy [] w = w
+  imposeAllBy (f ∷ fs) w = imposeAllBy fs (imposeBy f w)
+
+  -- `typingPass`
+  unfoldable pub typingBy : Pass
+  typingBy g preds t = typed (imposeAllBy (demands g (t .apps) preds) (t .core)) t
+
+  -- `round`
+  unfoldable pub roundBy : Sig → List PredApp → List FuncApp → Core → Turn
+  roundBy g preds apps w = runPasses (drainPass ∷ functionalityPass ∷ typingBy ∷ []) g preds (record { core = w; apps = apps; worked = false })
+
+  module _ (more : Turn → Bool) where
+    -- `roundsFrom`
+    unfoldable pub roundsFromBy : ℕ → Sig → List PredApp → Turn → Rounds
+    roundsFromBy zero g preds t = lastRound t
+    roundsFromBy (suc k) g preds t =
+        elim (more t) [ true ↦ oneMore (roundsFromBy k g preds (roundBy g preds (t .apps) (t .core))) | false ↦ lastRound t ]
+
+    unfoldable pub roundsBy : ℕ → Sig → Structure → Rounds
+    roundsBy n g s = roundsFromBy n g (s .pred-apps) (roundBy g (s .pred-apps) (s .func-apps) (coreOf s))
+
+    unfoldable pub ranBy : ℕ → Sig → Structure → Ran
+    ranBy n g s = record { rounds = roundsBy n g s; core = imposeAllBy (s .impositions) (roundsBy n g s .core) }
+
+-- The close with a limit, by its insertion: a number that is met ends the rounds, and refuses.
+
+abbrev pub worksUnmet : Turn → Bool
+worksUnmet t = t .worked && isNone (t .core .met)
+
+unfoldable pub limited : (Fact → Core → Core) → ℕ → Sig → Structure → Outcome Closed Structure
+limited insert n g s =
+    let r = ranBy insert worksUnmet n g s in
+    closeWith (r .core .met) (r .rounds) (r .core) s
+
+-- The close without a limit: every fact that is not stored is inserted, rounds repeat until one in which none reports work, and nothing is
+-- refused. That more than `maxFacts` facts are held is only noted, as the number met. The note is taken where a fact is inserted, since nothing
+-- else makes more of them (`Kept` of proofs/Limit.antt).
+
+unfoldable pub noted : Core → Core
+noted w = elim (ltb maxFacts (length (w .facts))) [ true ↦ with-met tooManyFacts w | false ↦ w ]
+
+unfoldable pub insertAlways : Fact → Core → Core
+insertAlways f w = elim (present compareFact f (w .facts)) [ true ↦ w | false ↦ noted (with-added (placed compareFact f (w .facts)) w) ]
+
+abbrev pub works : Turn → Bool
+works t = t .worked
+
+abbrev pub ranFree : ℕ → Sig → Structure → Ran
+ranFree = ranBy insertAlways works
+
+unfoldable pub unlimited : ℕ → Sig → Structure → Outcome Closed Structure
+unlimited n g s = closeWith none (ranFree n g s .rounds) (ranFree n g s .core) s
+
+-- "would at some moment hold 1,025 facts"
+unfoldable pub moment : ℕ → Sig → Structure → Bool
+moment n g s = not (isNone (ranFree n g s .core .met))
+
+-- "the close would at some moment hold 1,025 facts | 11 | number | structure before the close"
+unfoldable pub elevenAt : Bool → Outcome Closed Structure → Structure → Outcome Closed Structure
+elevenAt true r s = record { answer = refused tooManyFacts; left = s }
+elevenAt false r s = r
+
+abbrev pub judged : ℕ → Sig → Structure → Outcome Closed Structure
+judged n g s = elevenAt (moment n g s) (unlimited n g s) s
