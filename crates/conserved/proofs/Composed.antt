@@ -2,7 +2,11 @@
 use mathlib.Core.Path.{_≡_, refl, sym, ap, _∙_, subst}
 use mathlib.Core.List.{List, [], _∷_, _++_}
 use mathlib.Core.Bool.{true, false}
+use Rattle.ids.specs.Answers.{Outcome}
+use Rattle.ids.specs.Ids.{Handed}
 use Rattle.unification.specs.Roots.{linksOf}
+use Rattle.semantics.specs.Structure.{Structure}
+use Rattle.semantics.specs.Conflicts.{Conflict}
 use Rattle.semantics.specs.Close.{Closed}
 use Rattle.semantics.specs.Calls as calls
 use Rattle.semantics.specs.Calls.{Call, Answer, number, says, done, closed, conflicting, found, typed, els, leading, onSig, onStructure}
@@ -35,7 +39,7 @@ made-step {v} (insert-pred-app x r e) = ap (onStructure says (machineOf v)) e
 made-step {v} (insert-var-el x r e) = ap (onStructure (λ u. done) (machineOf v)) e
 made-step {v} (insert-ambient-model-el x r e) = ap (onStructure (λ u. done) (machineOf v)) e
 made-step {v} (close r e) = ap (onStructure closed (machineOf v)) e
-made-step {v} (type-conflicts r e) = ap (onStructure conflicting (machineOf v)) e
+made-step {v} (type-conflicts r e) = ap (λ (h : Handed (Outcome (List Conflict) Structure)). onStructure conflicting (machineOf v) (h .given)) e
 made-step {v} (root x r e) = ap (onStructure found (machineOf v)) e ∙ sym (step-root (machineOf v) (x .0))
 made-step {v} (root-const x r e) = ap (onStructure found (machineOf v)) e ∙ sym (step-root-const (machineOf v) (x .0))
 made-step {v} (lookup-type t ps r e) = ap (onNeither (λ x. typed (leading _ x)) (machineOf v)) e
