@@ -10,13 +10,13 @@ use native.Mathlib.Omega.{arith}
 use lib.ListN.{length, take, drop, getD, length-drop, drop-of-length-le, List·getD-eq-default}
 use lib.Seq.{drop-cons, drop-drop, take-take, take-nil}
 use lib.Dec.{eqb, leb, ltb, leb·zero, leb·suc-zero, eqb·suc-zero}
-use borrow.Author.Tests.{lt-ltb, le-leb, lt-leb, eq-eqb, ne-eqb, ltb-true, ltb-false, leb-true, leb-false, eqb-true, eqb-false}
+use borrow.Author.Tests.{lt-ltb, le-ltb, le-leb, lt-leb, eq-eqb, ne-eqb, ltb-true, ltb-false, leb-true, leb-false, eqb-true, eqb-false}
 use Rattle.semantics.specs.Sheet as sheet
 use Rattle.semantics.specs.Sheet.{words, recordOf, recordAt, maxRecords, recordBytes, allZero, unused, listed, exactly, countFits}
 use Rattle.semantics.specs.Sheet.{listFits, Form, fits, forms, formOf}
 use Rattle.semantics.specs.Sheet.{typeForm, predForm, funcForm, modelForm, morAppForm, elForm, equalityForm, impositionForm, funcAppForm}
 use Rattle.semantics.specs.Sheet.{predAppForm, varForm, ambientForm, closeForm, conflictsForm}
-use Rattle.records.specs.View.{recordIn, listWithin, within, fitsForm}
+use Rattle.records.specs.View.{blank, recordIn, recordWithin, listWithin, within, fitsForm}
 
 -- Words.
 
@@ -62,16 +62,6 @@ words-at xs at k (suc n) h =
     ∙ ap (λ (l : List ℕ). first (drop (at + k) xs) ∷ words (take (2 * n) l)) (drop-drop 2 (at + k) xs ∙ ap (λ (i : ℕ). drop i xs) on)
     ∙ ap (λ (l : List ℕ). first (drop (at + k) xs) ∷ l) (words-at xs at (k + 2) n (omega arith)))
 
--- words past the end are zero
-unfoldable zeros : ℕ → List ℕ
-zeros zero = []
-zeros (suc n) = 0 ∷ zeros n
-
-words-past : (xs : List ℕ) (at k n : ℕ) → length xs ≤ at → wordsAt xs at k n ≡ zeros n
-unfolding wordsAt zeros
-words-past xs at k zero h = refl
-words-past xs at k (suc n) h = λ i. word-past xs (at + k) (omega arith) i ∷ words-past xs at (k + 2) n h i
-
 -- Records.
 
 -- the record whose bytes begin at a place
@@ -97,17 +87,29 @@ module _ (xs : List ℕ) (i : ℕ) where
   unfolding recordIn
   record-in h = rw (lt-ltb i maxRecords h, recordIn)
 
+  pub record-within : i < length xs / recordBytes → recordWithin xs i ≡ recordAt xs i
+  unfolding recordWithin
+  record-within h = rw (lt-ltb i (length xs / recordBytes) h, recordWithin)
+
+  pub none-within-past : length xs / recordBytes ≤ i → blank ≡ recordWithin xs i
+  unfolding recordWithin
+  none-within-past h = rw (le-ltb i (length xs / recordBytes) h, recordWithin)
+
+  pub record-read : {r : sheet.Record} → i < length xs / recordBytes → r ≡ recordFrom xs (i * recordBytes) → r ≡ recordWithin xs i
+  unfolding recordAt
+  record-read h e =
+      let here : i * recordBytes + 0 ≡ recordBytes * i = omega arith in
+      e
+      ∙ record-of-words xs (i * recordBytes)
+      ∙ ap recordOf (sym (words-at xs (i * recordBytes) 0 16 (omega arith)) ∙ ap (λ (at : ℕ). words (take recordBytes (drop at xs))) here)
+      ∙ sym (record-within h)
+
   -- in an array as long as the longest sheet
-  pub record-read : {r : sheet.Record} → length xs ≡ recordBytes * maxRecords → r ≡ recordFrom xs (i * recordBytes) → r ≡ recordIn xs i
-  unfolding recordIn recordAt recordOf zeros
-  record-read long e = e ∙ record-of-words xs (i * recordBytes) ∙ go (ltb i maxRecords) refl where
-    go : (t : Bool) → ltb i maxRecords ≡ t → recordOf (wordsAt xs (i * recordBytes) 0 16) ≡ recordIn xs i
-    go true h =
-        let here : i * recordBytes + 0 ≡ recordBytes * i = omega arith in
-        rw (h, recordIn)
-        (ap recordOf (sym (words-at xs (i * recordBytes) 0 16 (omega (arith, ltb-true i maxRecords h)))
-        ∙ ap (λ (at : ℕ). words (take recordBytes (drop at xs))) here))
-    go false h = rw (h, recordIn) (ap recordOf (words-past xs (i * recordBytes) 0 16 (omega (arith, ltb-false i maxRecords h))))
+  pub in-sheet : length xs ≡ recordBytes * maxRecords → recordWithin xs i ≡ recordIn xs i
+  unfolding recordIn recordWithin
+  in-sheet long =
+      let many : length xs / recordBytes ≡ maxRecords = omega arith in
+      ap (λ (n : ℕ). elim (ltb i n) [ true ↦ recordAt xs i | false ↦ blank ]) many
 
 drop-take : (m n : ℕ) (xs : List ℕ) → drop m (take n xs) ≡ take (n - m) (drop m xs)
 drop-take zero n xs = let same : n ≡ n - 0 = omega arith in ap (λ (k : ℕ). take k xs) same

@@ -1,12 +1,12 @@
 -- Records as the definitions speak of them.
-use Prim.Native.Nat.{ℕ}
+use Prim.Native.Nat.{ℕ, _/_}
 use mathlib.Core.Bool.{Bool, true, false, _&&_}
 use mathlib.Core.List.{List, [], _∷_}
 use mathlib.Core.Option.{Option, none, some}
-use lib.ListN.{drop}
+use lib.ListN.{length, drop}
 use lib.Dec.{leb, ltb}
 use Rattle.semantics.specs.Sheet as sheet
-use Rattle.semantics.specs.Sheet.{Form, fits, allZero, maxRecords, recordAt}
+use Rattle.semantics.specs.Sheet.{Form, fits, allZero, maxRecords, recordBytes, recordAt}
 use Rattle.records.specs.declared.Record.{Record}
 
 abbrev pub recordView : Record → sheet.Record
@@ -39,6 +39,10 @@ blank = record {
 -- the record of an index in an array as long as the longest sheet; a blank one past the last
 unfoldable pub recordIn : List ℕ → ℕ → sheet.Record
 recordIn bytes i = elim (ltb i maxRecords) [ true ↦ recordAt bytes i | false ↦ blank ]
+
+-- the record of an index; a blank one past the last whole record
+unfoldable pub recordWithin : List ℕ → ℕ → sheet.Record
+recordWithin bytes i = elim (ltb i (length bytes / recordBytes)) [ true ↦ recordAt bytes i | false ↦ blank ]
 
 -- a list of `least` to `most` entries, with zeros after them
 unfoldable pub listWithin : ℕ → ℕ → ℕ → List ℕ → Bool

@@ -5,7 +5,7 @@ ghost use Prim.Native.Nat.{_<_};
 ghost use lib.ListN.{drop, getD};
 ghost use Rattle.semantics.specs.Sheet as sheet;
 ghost use Rattle.semantics.specs.Sheet.{allZero, words};
-ghost use Rattle.records.specs.View.{recordView, recordIn, listWithin, within, fitsForm};
+ghost use Rattle.records.specs.View.{recordView, blank, recordIn, recordWithin, listWithin, within, fitsForm};
 
 pub struct Record {
     pub next: u16,
@@ -27,6 +27,22 @@ impl Record {
 
     // The bytes of the longest sheet.
     pub const MAX_BYTES: usize = Record::BYTES * Record::MAX_RECORDS;
+
+    fn blank() -> Self
+        ensures { λ r. ⌜ recordView r ≡ blank ⌝ }
+    {
+        Record {
+            next: 0,
+            kind: 0,
+            a: 0,
+            b: 0,
+            parent_count: 0,
+            arg_count: 0,
+            parents: [0; ElIds::MAX_LEN],
+            args: [0; ElIds::MAX_LEN],
+            rest: [0; 2],
+        }
+    }
 }
 
 fn wide(b: u8) -> u16
@@ -50,33 +66,43 @@ fn word(bytes: &[u8], at: usize) -> u16
     high * 256 + low
 }
 
-// The record of an index; one of zeros past the last.
+// The record of an index; one of zeros past the last whole record.
+pub fn record_in(bytes: &[u8], index: usize) -> Record
+    ensures { λ r. ⌜ recordView r ≡ recordWithin (now (bytes .entry)) index ⌝ }
+{
+    if bytes.len() / Record::BYTES <= index {
+        return Record::blank();
+    }
+    let at = index * Record::BYTES;
+    Record {
+        next: word(bytes, at),
+        kind: word(bytes, at + 2),
+        a: word(bytes, at + 4),
+        b: word(bytes, at + 6),
+        parent_count: word(bytes, at + 8),
+        arg_count: word(bytes, at + 10),
+        parents: [
+            word(bytes, at + 12),
+            word(bytes, at + 14),
+            word(bytes, at + 16),
+            word(bytes, at + 18),
+        ],
+        args: [
+            word(bytes, at + 20),
+            word(bytes, at + 22),
+            word(bytes, at + 24),
+            word(bytes, at + 26),
+        ],
+        rest: [word(bytes, at + 28), word(bytes, at + 30)],
+    }
+}
+
+// The same in an array as long as the longest sheet.
 pub fn record_at(bytes: &[u8; Record::MAX_BYTES], index: u16) -> Record
     ensures { λ r. ⌜ recordView r ≡ recordIn (now (bytes .entry)) index ⌝ }
 {
     let sheet = &bytes[..];
-    let at = (index as usize) * Record::BYTES;
-    Record {
-        next: word(sheet, at),
-        kind: word(sheet, at + 2),
-        a: word(sheet, at + 4),
-        b: word(sheet, at + 6),
-        parent_count: word(sheet, at + 8),
-        arg_count: word(sheet, at + 10),
-        parents: [
-            word(sheet, at + 12),
-            word(sheet, at + 14),
-            word(sheet, at + 16),
-            word(sheet, at + 18),
-        ],
-        args: [
-            word(sheet, at + 20),
-            word(sheet, at + 22),
-            word(sheet, at + 24),
-            word(sheet, at + 26),
-        ],
-        rest: [word(sheet, at + 28), word(sheet, at + 30)],
-    }
+    record_in(sheet, index as usize)
 }
 
 // Whether the slots from n on are zero.
