@@ -1,0 +1,143 @@
+-- The conservation rule of what `run` leaves, by the function's own contract (`Learnt`).
+use Prim.Native.Nat.{ℕ, zero, suc}
+use mathlib.Core.Path.{_≡_, refl, sym, ap, _∙_, subst}
+use mathlib.Core.List.{List, [], _∷_, _++_}
+use mathlib.Core.Option.{Option, none, some}
+use mathlib.Core.Bool.{false}
+use native.Mathlib.Omega.{arith}
+use contract.Lifetimes.{Lfts}
+use denote.Ref.{now}
+use Rattle.ids.specs.Answers.{Answered, accepted, refused}
+use Rattle.unification.specs.Roots.{linksOf}
+use Rattle.semantics.specs.Close.{Closed}
+use Rattle.semantics.specs.Calls as calls
+use Rattle.semantics.specs.Calls.{Call, Answer, number, says, done, closed, conflicting, found, typed, els, leading, answerOf, Machine, Step}
+use Rattle.semantics.specs.Calls.{step, onStructure}
+use Rattle.semantics.specs.Sheet.{recordAt, carryOut}
+use Rattle.carrying.specs.View.{machineOf}
+use Rattle.carrying.specs.declared.Answer.the-variants as answer
+use Rattle.close.specs.declared.Closed as code
+use Rattle.close.specs.declared.Closing.{Closing}
+use Rattle.close.specs.View.{closedOf, closingOf}
+use Rattle.close.proofs.close.Reads as close-fn
+use Rattle.history.specs.Book.{History, history, someMark, Conserved, Conservation, next, noted}
+use Rattle.history.proofs.Histories.{history-next}
+use Rattle.history.proofs.Conservation.{conservation}
+use Rattle.driver.specs.Calls.{callOf, wholeRecords, listed, callsBefore, callsIn, lastAnswer, listBefore, runList}
+use Rattle.driver.specs.View.{responseOf, stepOf}
+use Rattle.driver.specs.declared.Response.the-variants as response
+use Rattle.driver.specs.declared.Responded.{Responded}
+use Rattle.driver.proofs.run.Reads as run-fn
+
+-- Only a close answers as a close does.
+
+abbrev Other : {A : Type 0} → (A → Answer) → Type 0
+Other {A} f = (a : A) (c : Closed) → f a ≡ closed c → ⊥
+
+of-other : {A : Type 0} {f : A → Answer} → Other f → (x : Answered A) (c : Closed) → answerOf f x ≡ closed c → ⊥
+unfolding answerOf
+of-other o (accepted a) c e = o a c e
+of-other o (refused n) c e = let z : _≡_ {A = ℕ} 0 1 = cc in omega arith
+
+other-number : Other number
+other-number a c e = let z : _≡_ {A = ℕ} 0 1 = cc in omega arith
+
+other-says : Other says
+other-says a c e = let z : _≡_ {A = ℕ} 0 1 = cc in omega arith
+
+other-done : Other (λ (u : Unit {0}). done)
+other-done a c e = let z : _≡_ {A = ℕ} 0 1 = cc in omega arith
+
+other-conflicting : Other conflicting
+other-conflicting a c e = let z : _≡_ {A = ℕ} 0 1 = cc in omega arith
+
+other-found : Other found
+other-found a c e = let z : _≡_ {A = ℕ} 0 1 = cc in omega arith
+
+other-typed : (ps : List ℕ) → Other (λ r. typed (leading ps r))
+other-typed ps a c e = let z : _≡_ {A = ℕ} 0 1 = cc in omega arith
+
+other-els : Other els
+other-els a c e = let z : _≡_ {A = ℕ} 0 1 = cc in omega arith
+
+pub closed-call : (k : Call) (m : Machine) (c : Closed) → step k m .answer ≡ closed c → k ≡ calls.close
+unfolding step
+closed-call (calls.push-type t) m c e = absurd (of-other other-number _ c e)
+closed-call (calls.push-pred p) m c e = absurd (of-other other-number _ c e)
+closed-call (calls.push-func f) m c e = absurd (of-other other-number _ c e)
+closed-call (calls.push-model x) m c e = absurd (of-other other-number _ c e)
+closed-call (calls.push-mor-app x) m c e = absurd (of-other other-number _ c e)
+closed-call (calls.push-el mark) m c e = absurd (of-other other-number _ c e)
+closed-call (calls.equate-els a b) m c e = absurd (of-other other-says _ c e)
+closed-call (calls.impose-type f) m c e = absurd (of-other other-says _ c e)
+closed-call (calls.apply-func x) m c e = absurd (of-other other-says _ c e)
+closed-call (calls.apply-pred x) m c e = absurd (of-other other-says _ c e)
+closed-call (calls.bind-var v) m c e = absurd (of-other other-done _ c e)
+closed-call (calls.bind-ambient a) m c e = absurd (of-other other-done _ c e)
+closed-call calls.close m c e = refl
+closed-call calls.type-conflicts m c e = absurd (of-other other-conflicting _ c e)
+closed-call (calls.root x) m c e = absurd (of-other other-found _ c e)
+closed-call (calls.root-const x) m c e = absurd (of-other other-found _ c e)
+closed-call (calls.lookup-type t ps) m c e = absurd (of-other (other-typed ps) _ c e)
+closed-call (calls.ambient-parents ts) m c e = absurd (of-other other-els _ c e)
+
+-- a list of calls ends in a close that is accepted with c
+pub record Ends (ks : List Call) (c : Closed) : Type 0 where
+  pub before : List Call
+  pub is : ks ≡ before ++ (calls.close ∷ [])
+  pub answers : step calls.close (history before .machine) .answer ≡ closed c
+
+-- where the last record answers as an accepted close does, the list ends in one
+pub ends-closed : (bytes : List ℕ) (n : ℕ) (c : Closed) → lastAnswer bytes n ≡ closed c → Ends (callsBefore bytes n) c
+unfolding lastAnswer callsBefore carryOut listed
+ends-closed bytes zero c e = let z : _≡_ {A = ℕ} 0 1 = cc in absurd (omega arith)
+ends-closed bytes (suc n) c e = go (callOf (recordAt bytes n)) e where
+  go : (o : Option Call) → carryOut o (history (callsBefore bytes n) .machine) .answer ≡ closed c → Ends (callsBefore bytes n ++ listed o) c
+  go none e = let z : _≡_ {A = ℕ} 0 1 = cc in absurd (omega arith)
+  go (some k) e =
+      let is-close : k ≡ calls.close = closed-call k (history (callsBefore bytes n) .machine) c e in
+      record {
+        before = callsBefore bytes n;
+        is = ap (λ (x : Call). callsBefore bytes n ++ (x ∷ [])) is-close;
+        answers = subst (λ (x : Call). step x (history (callsBefore bytes n) .machine) .answer ≡ closed c) is-close e;
+      }
+
+module _ (κs : Lfts 1) (bytes : _) (r : Responded) (ran : run-fn.Learnt κs (bytes, tt) r (bytes, tt)) where
+  -- For every slice of bytes whose calls end in a close that is accepted, with no element marked up to then:
+  -- what `Conserved` says of the book of these calls and of the links of the machine that `run` hands back.
+  pub run-conserves : (c : Closed) → Ends (callsIn (now bytes)) c → someMark (history (callsIn (now bytes)) .book .marks) ≡ false
+      → Conserved (history (callsIn (now bytes)) .book) (linksOf (r .machine .structure .unification)) c
+  unfolding Conservation listBefore
+  run-conserves c e unmarked =
+      let ks = callsIn (now bytes) in
+      let whole : Conserved (history ks .book) (history ks .machine .structure .links) c =
+      subst (λ (l : List Call). Conserved (history l .book) (history l .machine .structure .links) c) (sym (e .is))
+      (conservation (e .before) c (e .answers) (subst (λ (l : List Call). someMark (history l .book .marks) ≡ false) (e .is) unmarked)) in
+      subst (λ (l : List ℕ). Conserved (history ks .book) l c) (ap (λ (s : Step). s .after .structure .links) (sym ran)) whole
+
+  -- The same by what `run` answers: that the last record was a close that was accepted.
+  pub run-closed-conserves : (c : code.Closed) → r .response ≡ response.Answered (answer.Closed c)
+      → someMark (history (callsIn (now bytes)) .book .marks) ≡ false
+      → Conserved (history (callsIn (now bytes)) .book) (linksOf (r .machine .structure .unification)) (closedOf c)
+  unfolding listBefore
+  run-closed-conserves c e unmarked =
+      run-conserves (closedOf c) (ends-closed (now bytes) (wholeRecords (now bytes)) (closedOf c)
+      (ap (λ (s : Step). s .answer) (sym ran) ∙ ap (responseOf _ _) e)) unmarked
+
+  -- The same of a `close` of the machine that `run` hands back, by that function's own contract.
+  pub run-then-close-conserves : (z : Closing) (c : Closed)
+      → close-fn.Learnt tt (r .machine .structure, (r .machine .signature, tt)) z (r .machine .structure, (r .machine .signature, tt))
+      → closingOf z .answer ≡ accepted c
+      → someMark (history (callsIn (now bytes) ++ (calls.close ∷ [])) .book .marks) ≡ false
+      → Conserved (history (callsIn (now bytes) ++ (calls.close ∷ [])) .book) (linksOf (z .structure .unification)) c
+  unfolding Conservation listBefore step answerOf next noted
+  run-then-close-conserves z c did ok unmarked =
+      let ks = callsIn (now bytes) in
+      let on : step calls.close (machineOf (r .machine)) ≡ step calls.close (history ks .machine) = ap (λ (s : Step). step calls.close (s .after)) ran in
+      let made : step calls.close (machineOf (r .machine)) ≡ onStructure closed (machineOf (r .machine)) (closingOf z) =
+      ap (onStructure closed (machineOf (r .machine))) (sym did) in
+      let answers : step calls.close (history ks .machine) .answer ≡ closed c =
+      ap (λ (s : Step). s .answer) (sym on ∙ made) ∙ ap (answerOf closed) ok in
+      let links : history (ks ++ (calls.close ∷ [])) .machine .structure .links ≡ linksOf (z .structure .unification) =
+      ap (λ (h : History). h .machine .structure .links) (history-next ks calls.close) ∙ ap (λ (s : Step). s .after .structure .links) (sym on ∙ made) in
+      subst (λ (l : List ℕ). Conserved (history (ks ++ (calls.close ∷ [])) .book) l c) links (conservation ks c answers unmarked)

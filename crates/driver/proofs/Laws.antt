@@ -1,0 +1,100 @@
+-- Laws of the lists that a record gives, of a record's call and its answer, and of one record more.
+use Prim.Native.Nat.{ℕ, zero, suc, _+_, _≤_, _<_}
+use mathlib.Core.Path.{_≡_, refl, sym, ap, _∙_, subst}
+use mathlib.Core.List.{List, [], _∷_, _++_}
+use mathlib.Core.Option.{Option, none, some}
+use native.Mathlib.Omega.{arith}
+use lib.ListN.{length, take}
+use lib.Seq.{take-all}
+use lib.Dec.{eqb}
+use borrow.Author.Tests.{ne-eqb}
+use Rattle.ids.specs.Answers.{Answered}
+use Rattle.ids.specs.Limits.{maxList}
+use Rattle.ids.specs.Ids.{givenOf}
+use Rattle.ids.specs.declared.TypeId.{TypeId}
+use Rattle.ids.proofs.Lists.{given-length}
+use Rattle.signature.specs.declared.Typed.{Typed}
+use Rattle.signature.specs.declared.Typed.the-variants.{At}
+use Rattle.signature.specs.Calls.{typedOf}
+use Rattle.semantics.specs.Calls.{Call, Answer, done, typed, leading, Machine, Step, start, onNeither}
+use Rattle.semantics.specs.Sheet as sheet
+use Rattle.semantics.specs.Sheet.{Record, recordAt, carryOut}
+use Rattle.records.specs.View.{recordWithin}
+use Rattle.records.proofs.Laws.{record-within}
+use Rattle.carrying.proofs.Laws as carried
+use Rattle.carrying.proofs.Laws.{slotsOf}
+use Rattle.history.specs.Book.{History, noted, next, run, begin, history}
+use Rattle.history.proofs.Histories.{history-goes-on}
+use Rattle.driver.specs.Calls.{rootKind, rootConstKind, lookupTypeKind, ambientParentsKind, callAt, callOf, wholeRecords, listed}
+use Rattle.driver.specs.Calls.{callsBefore, lastAnswer, listBefore}
+
+-- the four slots as they are given to a call
+pub slots-given : (xs : List ℕ) (n : ℕ) → length xs ≡ maxList → givenOf n (slotsOf xs) ≡ givenOf n xs
+unfolding givenOf
+slots-given xs n h = ap (givenOf n) (carried.slots-given xs maxList maxList h refl ∙ take-all maxList xs (omega arith))
+
+-- the first n of a list that is given, which has more, or not
+pub first-given : (n len : ℕ) (xs : List ℕ) → n ≤ len → givenOf n xs ≡ take n (givenOf len xs)
+unfolding givenOf
+first-given zero len xs h = refl
+first-given (suc n) zero xs h = absurd (omega arith)
+first-given (suc n) (suc len) [] h = ap (λ (l : List ℕ). 0 ∷ l) (first-given n len [] (omega arith))
+first-given (suc n) (suc len) (x ∷ xs) h = ap (λ (l : List ℕ). x ∷ l) (first-given n len xs (omega arith))
+
+pub all-given : (n len : ℕ) (xs : List ℕ) → len ≤ n → givenOf len xs ≡ take n (givenOf len xs)
+all-given n len xs h = sym (take-all n (givenOf len xs) (omega (arith, given-length len xs)))
+
+-- A call's answer, as the code's enum, came out as x.
+pub on-neither : {A B : Type 0} (f : A → Answer) (m : Machine) (view : B → Answered A) {x y : B} → y ≡ x → onNeither f m (view x) ≡ onNeither f m (view y)
+on-neither f m view e = ap (λ x. onNeither f m (view x)) (sym e)
+
+abbrev pub answers : Answer → Machine → Step
+answers a m = record { answer = a; after = m }
+
+-- a type came out, with its leading parents
+pub type-found : (m : Machine) (ps : List ℕ) {es : List ℕ} {x : Typed} (t : TypeId) (n : ℕ) → es ≡ take n ps → x ≡ At t n
+    → answers (typed (some (record { el = 0; typ = t .0; parents = es }))) m ≡ answers (typed (leading ps (typedOf x))) m
+unfolding leading
+type-found m ps t n e h =
+    ap (λ (l : List ℕ). answers (typed (some (record { el = 0; typ = t .0; parents = l }))) m) e
+    ∙ ap (λ (y : Typed). answers (typed (leading ps (typedOf y))) m) (sym h)
+
+-- the call of a record is the call of the kind that it has
+module _ (r : Record) (m : Machine) where
+  pub of-kind : {k j : ℕ} → k ≡ j → carryOut (callAt j r) m ≡ carryOut (callAt k r) m
+  of-kind e = ap (λ (k : ℕ). carryOut (callAt k r) m) (sym e)
+
+  -- of any other kind it is what a sheet has
+  pub as-sheet : (k : ℕ) → (k ≡ rootKind → ⊥) → (k ≡ rootConstKind → ⊥) → (k ≡ lookupTypeKind → ⊥) → (k ≡ ambientParentsKind → ⊥)
+      → carryOut (sheet.callOf r) m ≡ carryOut (callAt k r) m
+  unfolding callAt
+  as-sheet k a b c d = rw (callAt, ne-eqb k rootKind a, ne-eqb k rootConstKind b, ne-eqb k lookupTypeKind c, ne-eqb k ambientParentsKind d)
+
+-- Lists.
+
+-- before the first record
+pub begins : (bytes : List ℕ) {m : Machine} {s : Step} → m ≡ start → s ≡ answers done m → s ≡ listBefore bytes 0
+unfolding listBefore lastAnswer callsBefore history run begin
+begins bytes e h = h ∙ ap (answers done) e
+
+-- what a record leaves is what its call does
+record-leaves : (o : Option Call) (h : History) → carryOut o (h .machine) .after ≡ run (listed o) h .machine
+unfolding carryOut listed run next noted
+record-leaves none h = refl
+record-leaves (some k) h = refl
+
+-- one record more
+pub goes-on : (bytes : List ℕ) (i : ℕ) {s t : Step} {r : Record} → i < wholeRecords bytes → s ≡ listBefore bytes i → r ≡ recordWithin bytes i
+    → t ≡ carryOut (callOf r) (s .after) → t ≡ listBefore bytes (i + 1)
+unfolding listBefore lastAnswer callsBefore
+goes-on bytes i {s} {t} {r} within e f g =
+    let ks = callsBefore bytes i in
+    let o = callOf (recordAt bytes i) in
+    let more : suc i ≡ i + 1 = omega arith in
+    let same : r ≡ recordAt bytes i = f ∙ record-within bytes i within in
+    let left : carryOut o (history ks .machine) .after ≡ history (ks ++ listed o) .machine =
+    record-leaves o (history ks) ∙ ap (λ (h : History). h .machine) (sym (history-goes-on ks (listed o))) in
+    subst (λ (n : ℕ). t ≡ listBefore bytes n) more (g
+    ∙ ap (λ (x : Record). carryOut (callOf x) (s .after)) same
+    ∙ ap (λ (x : Step). carryOut o (x .after)) e
+    ∙ ap (answers (carryOut o (history ks .machine) .answer)) left)

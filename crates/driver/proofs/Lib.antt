@@ -1,0 +1,3 @@
+pub mod Conserved
+pub mod Laws
+pub mod Worked
