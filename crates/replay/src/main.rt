@@ -8,14 +8,13 @@ use bindings::VarEls;
 use carrying::Answer;
 use carrying::Machine;
 use conflicts::TypeConflicts;
+use driver::Response;
 use equalities::Pairs;
 use facts::Fact;
 use facts::Facts;
 use facts::Impositions;
-use ids::ElId;
 use ids::ElIds;
 use ids::TypeId;
-use ids::TypeIds;
 use libc::STDIN_FILENO;
 use libc::STDOUT_FILENO;
 use lines::Line;
@@ -23,11 +22,7 @@ use records::Record;
 use sheet::Progress;
 use sheet::Stage;
 use signature::Signature;
-use signature::TypeLookup;
-use signature::Typed;
-use structure::Looked;
 use structure::Structure;
-use unification::Finding;
 use unification::Unification;
 
 // ---- text to write: the first n bytes of an array
@@ -279,44 +274,6 @@ fn put_dump(text: &mut [u8; MAX_TEXT], n: usize, machine: Machine, dumps: bool) 
 
 // ---- calls that no sheet has: the line of their answer
 
-fn found_line(f: Finding) -> Line {
-    match f {
-        Finding::Found(g) => pair_line(b"root", g.root.0, g.count),
-        Finding::Refused(n) => number_line(b"refused", n),
-    }
-}
-
-// Kind 102.
-fn find_root_const(machine: Machine, given: Record) -> Line {
-    let structure = machine.structure;
-    found_line(structure.root_const(ElId(given.a)))
-}
-
-// A list as it is given, also where its count is over the limit.
-fn els_in(slots: [u16; ElIds::MAX_LEN], len: u16) -> ElIds {
-    ElIds {
-        ids: [
-            ElId(slots[0]),
-            ElId(slots[1]),
-            ElId(slots[2]),
-            ElId(slots[3]),
-        ],
-        len,
-    }
-}
-
-fn types_in(slots: [u16; TypeIds::MAX_LEN], len: u16) -> TypeIds {
-    TypeIds {
-        ids: [
-            TypeId(slots[0]),
-            TypeId(slots[1]),
-            TypeId(slots[2]),
-            TypeId(slots[3]),
-        ],
-        len,
-    }
-}
-
 // `type T p..`
 fn type_line(typ: TypeId, parents: ElIds) -> Line {
     let word = Line::new().put_word(b"type");
@@ -325,61 +282,12 @@ fn type_line(typ: TypeId, parents: ElIds) -> Line {
     list.put(b'\n')
 }
 
-// A type that was found, with the first of the slots as its parents.
-fn typed_line(t: Typed, slots: [u16; ElIds::MAX_LEN]) -> Line {
-    match t {
-        Typed::At(typ, n) => type_line(typ, els_in(slots, n)),
-        Typed::Absent => Line::new().put_word(b"absent\n"),
-    }
-}
-
-// Kind 103.
-fn look_up_type(machine: Machine, given: Record) -> Line {
-    let slots = given.parents;
-    let signature = machine.signature;
-    let looked = signature.lookup_type(TypeId(given.a), els_in(slots, given.parent_count));
-    match looked {
-        TypeLookup::Looked(t) => typed_line(t, slots),
-        TypeLookup::Refused(n) => number_line(b"refused", n),
-    }
-}
-
-// Kind 104.
-fn look_up_ambients(machine: Machine, given: Record) -> Line {
-    let slots = given.args;
-    let signature = machine.signature;
-    let structure = machine.structure;
-    let looked = structure.ambient_parents(signature, types_in(slots, given.arg_count));
-    let answer = looked.answer;
-    let els = looked.els;
-    match answer {
-        Looked::Found => els_line(b"ambients", els),
-        Looked::Refused(n) => number_line(b"refused", n),
-    }
-}
-
 // ---- lists
 
 // Where the text ends, and the machine.
 pub struct Printed {
     pub n: usize,
     pub machine: Machine,
-}
-
-// Kind 101: the only one of the calls that no sheet has which changes the machine.
-fn find_root(text: &mut [u8; MAX_TEXT], n: usize, machine: Machine, given: Record) -> Printed {
-    let signature = machine.signature;
-    let structure = machine.structure;
-    let rooting = structure.root(ElId(given.a));
-    let find = rooting.find;
-    let left = rooting.structure;
-    Printed {
-        n: put_line(text, n, found_line(find)),
-        machine: Machine {
-            signature,
-            structure: left,
-        },
-    }
 }
 
 fn put_conflicts(text: &mut [u8; MAX_TEXT], n: usize, found: TypeConflicts) -> usize {
@@ -404,37 +312,28 @@ fn answer_line(answer: Answer, listed: u16) -> Line {
     }
 }
 
-// A record of a list as a sheet has it.
-fn carry_out(text: &mut [u8; MAX_TEXT], n: usize, machine: Machine, given: Record) -> Printed {
-    let carried = carrying::carry_out(machine, given);
-    let answer = carried.answer;
-    let conflicts = carried.conflicts;
-    let left = carried.machine;
-    let at = put_conflicts(text, n, conflicts);
-    Printed {
-        n: put_line(text, at, answer_line(answer, conflicts.len)),
-        machine: left,
+// The last line of what a call of a list answers.
+fn response_line(response: Response, els: ElIds, listed: u16) -> Line {
+    match response {
+        Response::Answered(a) => answer_line(a, listed),
+        Response::Found(f) => pair_line(b"root", f.root.0, f.count),
+        Response::Typed(t) => type_line(t, els),
+        Response::Absent => Line::new().put_word(b"absent\n"),
+        Response::Els => els_line(b"ambients", els),
     }
 }
 
-// A record of a list.
+// A record of a list, carried out by the function that `driver::run` carries each of its records out by.
 fn respond(text: &mut [u8; MAX_TEXT], n: usize, machine: Machine, given: Record) -> Printed {
-    let kind = given.kind;
-    match kind {
-        101 => find_root(text, n, machine, given),
-        102 => Printed {
-            n: put_line(text, n, find_root_const(machine, given)),
-            machine,
-        },
-        103 => Printed {
-            n: put_line(text, n, look_up_type(machine, given)),
-            machine,
-        },
-        104 => Printed {
-            n: put_line(text, n, look_up_ambients(machine, given)),
-            machine,
-        },
-        _ => carry_out(text, n, machine, given),
+    let responded = driver::carry_out(machine, given);
+    let response = responded.response;
+    let els = responded.els;
+    let conflicts = responded.conflicts;
+    let left = responded.machine;
+    let at = put_conflicts(text, n, conflicts);
+    Printed {
+        n: put_line(text, at, response_line(response, els, conflicts.len)),
+        machine: left,
     }
 }
 
