@@ -2,6 +2,7 @@
 -- refused in any case, and a fact that finds no room is dropped without a trace.)
 use mathlib.Core.Path.{_≡_, refl, sym, ap, _∙_}
 use mathlib.Core.Bool.{Bool, true, false, _&&_}
+use mathlib.Core.List.{[], _∷_}
 use mathlib.Core.Option.{Option, none, some}
 use Prim.Native.Nat.{ℕ}
 use native.Mathlib.Omega.{arith}
@@ -9,9 +10,10 @@ use lib.ListN.{length}
 use lib.Dec.{ltb}
 use Rattle.ids.specs.Answers.{tooManyFacts}
 use Rattle.ids.specs.Table.{present, placed}
+use Rattle.unification.specs.Roots.{rootOf, follow}
 use Rattle.semantics.specs.Structure.{Fact, compareFact, canonicalFact, maxFacts}
-use Rattle.semantics.specs.Types.{Core, with-added, with-met, refineAll, insertFact, insertCanonical, concreteTypesOf, impose}
-use Rattle.imposing.specs.Idle.{keepsTypes, isIdle}
+use Rattle.semantics.specs.Types.{Core, with-added, with-met, refineAll, insertFact, insertCanonical, factsAt, concreteTypesOf, impose}
+use Rattle.imposing.specs.Idle.{keepsRoots, keepsPair, keepsParents, keepsFact, keepsAll, keepsTypes, isIdle}
 use Rattle.imposing.proofs.Kept.{Tells, types-tell}
 use Rattle.imposing.proofs.Nothing.{idle-same}
 
@@ -60,3 +62,28 @@ idle-only f w m e = go (keepsTypes (w .links) (w .marks) f (w .facts)) (types-te
 -- what `is_idle` tells: where no number was met yet, exactly whether imposing changes nothing
 pub idle-exactly : (f : Fact) (w : Core) → w .met ≡ none → (isIdle f w ≡ true → impose f w ≡ w) × (impose f w ≡ w → isIdle f w ≡ true)
 idle-exactly f w m = (idle-same f w, idle-only f w m)
+
+-- Both answers occur, so that a test with one answer for all meets no such equation: a stored fact is idle, and not so where another fact of its
+-- type has a parent with another root, which is marked.
+
+unfoldable pub at-one : ℕ → Fact
+at-one p = record { el = 1; typ = 0; parents = p ∷ [] }
+
+unfoldable pub two-facts : Bool → Core
+two-facts mark = record {
+  links = 0 ∷ 1 ∷ 2 ∷ [];
+  marks = mark ∷ false ∷ false ∷ [];
+  facts = at-one 0 ∷ at-one 2 ∷ [];
+  pairs = [];
+  merges = 0;
+  added = 0;
+  met = none;
+}
+
+pub unmarked-idle : isIdle (at-one 2) (two-facts false) ≡ true
+unfolding present compareFact canonicalFact factsAt rootOf follow keepsRoots keepsPair keepsParents keepsFact keepsAll at-one two-facts
+unmarked-idle = refl
+
+pub marked-not-idle : isIdle (at-one 2) (two-facts true) ≡ false
+unfolding present compareFact canonicalFact factsAt rootOf follow keepsRoots keepsPair keepsParents keepsFact keepsAll at-one two-facts
+marked-not-idle = refl

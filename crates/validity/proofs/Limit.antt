@@ -350,7 +350,8 @@ module _ (g : Sig) (s : Structure) where
           go (inl h) = inl (ap (λ (x : Core). record { rounds = r; core = x }) (h .0), h .1)
           go (inr h) = inr h
 
-  limited-exactly : (n : ℕ) → limited insertFact n g s ≡ judged n g s
+  -- for any number of rounds
+  pub limited-exactly : (n : ℕ) → limited insertFact n g s ≡ judged n g s
   unfolding limited unlimited moment elevenAt isNone closeWith
   limited-exactly n = go (ranBy insertFact worksUnmet n g s) (ranFree n g s) (ran-agrees n)
     where

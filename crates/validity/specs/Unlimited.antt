@@ -83,7 +83,8 @@ ranFree = ranBy insertAlways works
 unfoldable pub unlimited : ℕ → Sig → Structure → Outcome Closed Structure
 unlimited n g s = closeWith none (ranFree n g s .rounds) (ranFree n g s .core) s
 
--- "would at some moment hold 1,025 facts"
+-- "would at some moment hold 1,025 facts": an insertion left more than `maxFacts`, the first such one exactly one more (of a structure that begins
+-- with more than `maxFacts`, as no call leaves one, it is the first insertion)
 unfoldable pub moment : ℕ → Sig → Structure → Bool
 moment n g s = not (isNone (ranFree n g s .core .met))
 
