@@ -17,3 +17,5 @@ pub mod Unjoined
 pub mod SecondClose
 pub mod Unchanged
 pub mod Worked
+pub mod Versions
+pub mod Refutations
