@@ -4,13 +4,15 @@ use mathlib.Core.Path.{_≡_, refl}
 use mathlib.Core.Bool.{Bool, true, false}
 use mathlib.Core.List.{List, [], _∷_, _++_, map, List·Memᴰ, List·Memᴰ·head, List·Memᴰ·tail}
 use mathlib.Core.Option.{Option, none, some}
-use Prim.Native.Nat.{ℕ, zero, suc, _/_, _%_}
+use Prim.Native.Nat.{ℕ, zero, suc, _-_, _/_, _%_}
 use Prim.Native.Char.{code}
 use Prim.Native.String.{String, [] as no-text, _∷_ as _∷ᵗ_}
 use lib.ListN.{length, take, getD}
 use Rattle.ids.specs.Table.{lookupOf}
-use Rattle.signature.specs.Model.{Kind, plain, model, mor}
-use Rattle.semantics.specs.Structure.{Fact, FuncApp, compareFuncApp, maxVars}
+use Rattle.unification.specs.Roots.{maxEls}
+use Rattle.signature.specs.Model.{Kind, plain, model, mor, maxTypes, maxPreds, maxFuncs}
+use Rattle.semantics.specs.Structure.{Fact, FuncApp, compareFuncApp, maxPairs, maxImpositions, maxFuncApps, maxPredApps, maxFacts}
+use Rattle.semantics.specs.Structure.{maxVars, with-facts}
 use Rattle.semantics.specs.Types.{factsAt}
 use Rattle.semantics.specs.Conflicts.{Conflict}
 use Rattle.semantics.specs.Calls.{Call, push-type, push-func, push-pred, push-el, equate-els, impose-type, apply-func, apply-pred}
@@ -22,9 +24,10 @@ use Rattle.semantics.proofs.Computes.{everything}
 
 -- What a row is.
 
--- calls from the empty signature and structure, or the bytes of a sheet
+-- calls from the empty signature and structure, calls from a machine that is given, or the bytes of a sheet
 pub data Source : Type 0 where
   calls : List Call → Source
+  callsFrom : Machine → List Call → Source
   sheet : List ℕ → Source
 
 -- an answer that a row states
@@ -105,10 +108,12 @@ leftBy (c ∷ cs) m = leftBy cs (step c m .after)
 
 unfoldable pub outputOf : Source → Output
 outputOf (calls cs) = tells (toldBy cs start)
+outputOf (callsFrom m cs) = tells (toldBy cs m)
 outputOf (sheet bytes) = prints (runSheet bytes .printed)
 
 unfoldable pub machineOf : Source → Machine
 machineOf (calls cs) = leftBy cs start
+machineOf (callsFrom m cs) = leftBy cs m
 machineOf (sheet bytes) = runSheet bytes .machine
 
 unfoldable pub resultOf : Option FuncApp → Option ℕ
@@ -238,6 +243,18 @@ typesAndFuncs = typ model [] ∷ typ model [] ∷ typ (mor 0) [] ∷ typ (mor 1)
 -- with the model of type 0, whose id is 2 and comp 3, and the morphism application function 4
 abbrev pub signature7 : List Call
 signature7 = typesAndFuncs ++ (modelOf 0 2 (0 ∷ 1 ∷ 2 ∷ 3 ∷ []) ∷ morApp 4 2 4 ∷ [])
+
+-- the facts of the elements 0, 1, .. with the types 0 to 3, n in all, before the facts fs
+unfoldable pub factsBefore : ℕ → List Fact → List Fact
+factsBefore zero fs = fs
+factsBefore (suc n) fs = factsBefore n (fact (n / 4) (n % 4) [] ∷ fs)
+
+abbrev pub setFacts : List Fact → Machine → Machine
+setFacts fs m = record { sig = m .sig; structure = with-facts fs (m .structure) }
+
+-- four types, all elements that there can be, and n facts
+abbrev pub holding : ℕ → Machine
+holding n = setFacts (factsBefore n []) (leftBy (downFrom 4 (λ n. typ plain []) ++ downFrom maxEls (λ n. plainEl)) start)
 
 -- The table.
 
@@ -497,14 +514,11 @@ table =
       output = tells (refuses 6 ∷ refuses 6 ∷ refuses 6 ∷ refuses 6 ∷ refuses 6 ∷ refuses 6 ∷ []);
       claims = machine is whole (leftBy (typesAndFuncs ++ (plainEl ∷ [])) start) ∷ [];
     }
-    -- number 7: "application of id, comp or a morphism application function"; dom, cod and other functions may be applied
+    -- number 7: "application of id, comp or a morphism application function"; dom may be applied
     ∷ record {
       source = calls (signature7 ++ (plainEl ∷ app 2 [] [] 0 ∷ app 3 [] [] 0 ∷ app 4 [] [] 0 ∷ []));
       output = tells (refuses 7 ∷ refuses 7 ∷ refuses 7 ∷ []);
-      claims =
-          machine is whole (leftBy (signature7 ++ (plainEl ∷ [])) start)
-          ∷ answer (app 0 [] [] 0) is said (says true) ∷ answer (app 1 [] [] 0) is said (says true) ∷ answer (app 5 [] [] 0) is said (says true)
-          ∷ [];
+      claims = machine is whole (leftBy (signature7 ++ (plainEl ∷ [])) start) ∷ answer (app 0 [] [] 0) is said (says true) ∷ [];
     }
     -- number 8: "model type, function in records 4 and 5, morphism pair, .. given again"
     ∷ record {
@@ -521,11 +535,59 @@ table =
       output = tells (refuses 8 ∷ refuses 8 ∷ []);
       claims = machine is whole (leftBy (typ model [] ∷ plainEl ∷ plainEl ∷ var 7 0 ∷ ambient 0 0 ∷ []) start) ∷ [];
     }
+    -- number 9: "an entry needed, its table at its limit": one type, predicate and function too many
+    ∷ record {
+      source = calls
+          (downFrom (suc maxTypes) (λ n. typ plain []) ++ (downFrom (suc maxPreds) (λ n. pred [] []) ++ downFrom (suc maxFuncs) (λ n. func [] [] 0)));
+      output = tells (refuses 9 ∷ refuses 9 ∷ refuses 9 ∷ []);
+      claims = [];
+    }
+    -- number 9: one element and one pair too many
+    ∷ record {
+      source = calls (downFrom (suc maxEls) (λ n. plainEl) ++ downFrom (suc maxPairs) (λ n. equate-els 0 0));
+      output = tells (refuses 9 ∷ refuses 9 ∷ []);
+      claims = [];
+    }
+    -- number 9: one imposition too many; one that is queued needs no entry
+    ∷ record {
+      source = calls (typ plain [] ∷ downFrom (suc maxImpositions) (λ n. plainEl) ++ downFrom (suc maxImpositions) (λ n. impose n 0 []));
+      output = tells (refuses 9 ∷ []);
+      claims = answer (impose 1 0 []) is said (says false) ∷ [];
+    }
+    -- number 9: one function application and one predicate application too many
+    ∷ record {
+      source = calls
+          (typ plain []
+          ∷ downFrom maxFuncs (λ n. func [] [] 0)
+          ++ (downFrom maxPreds (λ n. pred [] [])
+          ++ (downFrom 16 (λ n. plainEl)
+          ++ (downFrom (suc maxFuncApps) (λ n. app (n / 16) [] (n % 16 ∷ []) 0)
+          ++ downFrom (suc maxPredApps) (λ n. predicate (n / 16) [] (n % 16 ∷ []))))));
+      output = tells (refuses 9 ∷ refuses 9 ∷ []);
+      claims = answer (app 1 [] (0 ∷ []) 0) is said (says false) ∷ answer (predicate 1 [] (0 ∷ [])) is said (says false) ∷ [];
+    }
     -- number 10: "ambient lookup of a type with none"
     ∷ record {
       source = calls (typ model [] ∷ typ model [] ∷ plainEl ∷ ambient 0 0 ∷ ambient-parents (0 ∷ 1 ∷ []) ∷ []);
       output = tells (refuses 10 ∷ []);
       claims = machine is whole (leftBy (typ model [] ∷ typ model [] ∷ plainEl ∷ ambient 0 0 ∷ []) start) ∷ [];
+    }
+    -- number 11: "the close would at some moment hold 1,025 facts": 1,024 are held, and the next refuses the close and leaves the "structure
+    -- before the close"; a fact that is there is no other one
+    ∷ record {
+      source = callsFrom (holding (maxFacts - 1)) (impose 0 0 (1 ∷ []) ∷ close ∷ []);
+      output = tells (closes 1 0 1 ∷ []);
+      claims = [];
+    }
+    ∷ record {
+      source = callsFrom (holding maxFacts) (impose 0 0 [] ∷ close ∷ []);
+      output = tells (closes 0 0 1 ∷ []);
+      claims = [];
+    }
+    ∷ record {
+      source = callsFrom (holding maxFacts) (impose 0 0 (1 ∷ []) ∷ close ∷ []);
+      output = tells (refuses 11 ∷ []);
+      claims = machine is whole (leftBy (impose 0 0 (1 ∷ []) ∷ []) (holding maxFacts)) ∷ [];
     }
     ∷ []
 
@@ -533,7 +595,7 @@ table =
 
 -- all rows at once, by computing
 rowsShow : map shownBy table ≡ map statedBy table
-unfolding everything told toldBy leftBy outputOf machineOf resultOf look shownBy statedBy bytesOf lines littleEndian entry downFrom table
+unfolding everything told toldBy leftBy outputOf machineOf resultOf look shownBy statedBy bytesOf lines littleEndian entry downFrom factsBefore table
 rowsShow = refl
 
 -- two functions that agree on a list agree at each of its entries
