@@ -214,11 +214,10 @@ Met w = w .met ≡ some tooManyFacts
 met-through : (w v : Core) → Kept w v → Met w → Met v
 met-through w v k h = k .met ∙ h
 
-first-met : (w : Core) → w .met ≡ none → with-met tooManyFacts w .met ≡ some tooManyFacts
-first-met w e = ap (λ (o : Option ℕ). elim o as (λ _. Option ℕ) [ none ↦ some tooManyFacts | some m ↦ some m ]) e
-
-still-met : (w : Core) → Met w → with-met tooManyFacts w .met ≡ some tooManyFacts
-still-met w e = ap (λ (o : Option ℕ). elim o as (λ _. Option ℕ) [ none ↦ some tooManyFacts | some m ↦ some m ]) e
+-- what is met once 11 is: the number that was met before, if one was
+met-after : (w : Core) {o : Option ℕ} → w .met ≡ o
+    → with-met tooManyFacts w .met ≡ (elim o as (λ _. Option ℕ) [ none ↦ some tooManyFacts | some m ↦ some m ])
+met-after w e = ap (λ (o : Option ℕ). elim o as (λ _. Option ℕ) [ none ↦ some tooManyFacts | some m ↦ some m ]) e
 
 -- The insertions.
 
@@ -247,7 +246,7 @@ insert-agrees f w m =
           ltb-true maxFacts (length (placed compareFact f (w .facts))) r,
         ))
     go false p true q false r = inl (refl, m)
-    go false p false q true r = inr (first-met w m, first-met (with-added (placed compareFact f (w .facts)) w) m)
+    go false p false q true r = inr (met-after w m, met-after (with-added (placed compareFact f (w .facts)) w) m)
     go false p false q false r =
         absurd (omega (
           arith,
@@ -263,7 +262,7 @@ insert-met f w h = go (present compareFact f (w .facts)) (ltb (length (w .facts)
     go : (t u : Bool) → Met (limited-by t u f w)
     go true u = h
     go false true = h
-    go false false = still-met w h
+    go false false = met-after w h
 
 always-met : (f : Fact) (w : Core) → Met w → Met (insertAlways f w)
 unfolding insertAlways noted
@@ -271,7 +270,7 @@ always-met f w h = go (present compareFact f (w .facts)) (ltb maxFacts (length (
   where
     go : (t u : Bool) → Met (always-by t u f w)
     go true u = h
-    go false true = still-met w h
+    go false true = met-after w h
     go false false = h
 
 -- The layers. Each law holds for every list and every number of rounds, so it speaks of the moment after each entry and each round.
@@ -378,13 +377,16 @@ module _ (g : Sig) (s : Structure) where
 
   -- The same in three parts.
 
+  by-moment : {b : Bool} → moment fuel g s ≡ b → close g s ≡ elevenAt b (unlimited fuel g s) s
+  by-moment e = eleven-exactly ∙ ap (λ (b : Bool). elevenAt b (unlimited fuel g s) s) e
+
   pub eleven-if : moment fuel g s ≡ true → close g s ≡ record { answer = refused tooManyFacts; left = s }
   unfolding elevenAt
-  eleven-if e = eleven-exactly ∙ ap (λ (b : Bool). elevenAt b (unlimited fuel g s) s) e
+  eleven-if e = by-moment e
 
   pub eleven-else : moment fuel g s ≡ false → close g s ≡ unlimited fuel g s
   unfolding elevenAt
-  eleven-else e = eleven-exactly ∙ ap (λ (b : Bool). elevenAt b (unlimited fuel g s) s) e
+  eleven-else e = by-moment e
 
   pub eleven-only : close g s .answer ≡ refused tooManyFacts → moment fuel g s ≡ true
   eleven-only e = go (moment fuel g s) refl
