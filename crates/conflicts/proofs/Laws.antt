@@ -13,8 +13,8 @@ use Rattle.ids.specs.Table.{Sized, pushOf}
 use Rattle.ids.specs.declared.ElId.{ElId}
 use Rattle.ids.specs.declared.ElIds.{ElIds}
 use Rattle.ids.specs.Ids.{elOf, elsOf, whole}
-use Rattle.ids.proofs.Views.{length-view, view-next, view-done}
-use Rattle.ids.proofs.Lists.{padded-length, padded-view, as-given, as-held, given-held-alike}
+use Rattle.ids.proofs.Views.{view-next, view-done}
+use Rattle.ids.proofs.Lists.{padded-view, says-held, as-given, as-held, given-held-alike}
 use Rattle.ids.proofs.Counted.{push-at, push-past}
 use Rattle.ids.proofs.Tables.{push-room}
 use Rattle.unification.specs.Roots.{maxEls, rootOf}
@@ -214,9 +214,7 @@ module _ (s : Structure) (e : ℕ) where
 -- The conflicts of an array, handed back: what they are given as is what is held, also with one more at the end.
 module _ (t : TypeConflicts) (alike : givenConflicts t ≡ conflictsOf t) where
   fits : t .len ≤ length (t .items)
-  fits =
-      let many : t .len ≡ length (conflictsOf t) = sym (padded-length noConflict (t .len) (map givenConflict (t .items))) ∙ ap length alike in
-      omega (arith, length-view conflictOf (t .len) (t .items))
+  fits = says-held noConflict givenConflict conflictOf (t .len) (t .items) alike
 
   entries : map givenConflict (take (t .len) (t .items)) ≡ conflictsOf t
   entries = sym (padded-view noConflict givenConflict (t .len) (t .items) fits) ∙ alike

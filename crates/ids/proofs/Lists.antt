@@ -11,7 +11,7 @@ use Rattle.ids.specs.Limits.{maxList}
 use Rattle.ids.specs.declared.ElIds.{ElIds}
 use Rattle.ids.specs.declared.TypeIds.{TypeIds}
 use Rattle.ids.specs.Ids.{elOf, typeOf, elsOf, typesOf, padded, givenOf, givenEls, givenTypes, Handed, whole, tooLong, allBelow}
-use Rattle.ids.proofs.Views.{map-take}
+use Rattle.ids.proofs.Views.{map-take, length-view}
 
 -- a list is given with as many entries as its length says
 module _ {A : Type 0} (d : A) where
@@ -47,6 +47,12 @@ module _ {A : Type 0} {h : Handed A} {x : A} (is : h ≡ whole x) where
 module _ {A B : Type 0} (d : B) (f : A → B) where
   pub padded-view : (n : ℕ) (xs : List A) → n ≤ length xs → padded d n (map f xs) ≡ map f (take n xs)
   padded-view n xs h = padded-held d n (map f xs) (omega (arith, length-map xs f)) ∙ sym (map-take f n xs)
+
+  -- a list that is given as it is held says a length that it has
+  pub says-held : (g : A → B) (n : ℕ) (xs : List A) → padded d n (map f xs) ≡ map g (take n xs) → n ≤ length xs
+  says-held g n xs alike =
+      let many : n ≡ length (map g (take n xs)) = sym (padded-length d n (map f xs)) ∙ ap length alike in
+      omega (arith, length-view g n xs)
 
   pub handed : (n : ℕ) (xs : List A) {ys : List B} → n ≤ length xs → map f (take n xs) ≡ ys
       → _≡_ {A = Handed (List B)} (record { given = padded d n (map f xs); held = map f (take n xs) }) (whole ys)

@@ -96,11 +96,11 @@ impl Unification {
     pub fn roots(self, els: ElIds) -> ElIds
         ensures { λ r. ⌜ handedEls r ≡ whole (map (rootOf (linksOf self)) (elsOf els)) ⌝ }
     {
-        let mut out = els;
-        let n = els.size();
-        out.len = n as u16;
+        let list = els.clamped();
+        let n = list.size();
+        let mut out = list;
         for i in 0..n {
-            let el = els.ids[i];
+            let el = list.ids[i];
             let found = self.find(el);
             let root = found.root;
             out.ids[i] = root;

@@ -1,31 +1,31 @@
 -- `Unification::roots` meets its contract.
-use mathlib.Core.Path.{_≡_, refl, sym, ap, _∙_}
+use mathlib.Core.Path.{_≡_, refl, ap, _∙_}
 use mathlib.Core.List.{map}
-use Prim.Native.Nat.{ℕ, _-_, _≤_}
+use Prim.Native.Nat.{_-_, _≤_}
 use native.Mathlib.Omega.{arith}
 use lib.ListN.{length, take, length-set}
 use Rattle.ids.specs.Limits.{maxList}
-use Rattle.ids.specs.Ids.{elOf, elsOf}
-use Rattle.ids.proofs.Views.{long, filled-more, view-clamped}
-use Rattle.ids.proofs.Lists.{handed}
+use Rattle.ids.specs.Ids.{elOf}
+use Rattle.ids.proofs.Views.{long, filled-more, filled-all}
+use Rattle.ids.proofs.Lists.{handed, says-held, as-held, given-held-alike}
 use Rattle.unification.specs.Roots.{linksOf, rootOf, findOf, FindM}
 use borrow.Author.Needs.{needs}
 use Rattle.unification.proofs.Unification.roots.Statement.{statement}
 use Rattle.unification.proofs.Unification.roots.Tie as tie
 
 abbrev Inv-loop : tie.InvT-loop
-Inv-loop self els out₀ n i₀ out i =
-    (i ≤ n) × (out .len ≡ n) × (length (out .ids) ≡ length (els .ids))
-    × (map elOf (take i (out .ids)) ≡ map (rootOf (linksOf self)) (map elOf (take i (els .ids))))
+Inv-loop self list n out₀ i₀ out i =
+    (i ≤ n) × (out .len ≡ list .len) × (length (out .ids) ≡ length (list .ids))
+    × (map elOf (take i (out .ids)) ≡ map (rootOf (linksOf self)) (map elOf (take i (list .ids))))
 
 abbrev μ-loop : tie.MeasureT-loop
-μ-loop self els out₀ n i₀ out i = n - i
+μ-loop self list n out₀ i₀ out i = n - i
+
+clamped-requires : tie.Need-clamped-requires Inv-loop μ-loop
+clamped-requires c κs = search needs
 
 size-requires : tie.Need-size-requires Inv-loop μ-loop
 size-requires c κs = search needs
-
-cast-out : tie.Need-cast-out Inv-loop μ-loop
-cast-out c = search needs
 
 loop-holds : tie.Need-loop-holds Inv-loop μ-loop
 loop-holds c = (omega arith, refl, refl, refl)
@@ -56,28 +56,31 @@ unfolding findOf
 loop-again c =
     let turn = c .before .before .before in
     let l = turn .before .loop in
-    let a = turn .before .before .before .args in
-    let four : length (a .t2 .ids) ≡ maxList = search (needs, long) in
+    let clamped = turn .before .before .before in
+    let list = clamped .clamped .result in
+    let a = clamped .before .args in
+    let four : length (list .ids) ≡ maxList = search (needs, long) in
     let n = turn .before .before .size .ensures in
     let found = ap (λ (f : FindM). f .root) (c .before .find .ensures) in (
       omega arith,
       l .inv .1,
       simp length-set (l .inv .2),
-      filled-more elOf (rootOf (linksOf (a .self))) (a .t2 .ids) (l .out .ids) (l .i) (record { 0 = 0 }) _ (l .inv .3)
+      filled-more elOf (rootOf (linksOf (a .self))) (list .ids) (l .out .ids) (l .i) (record { 0 = 0 }) _ (l .inv .3)
           (omega (arith, n .most)) (omega (arith, n .most, l .inv .2)) found,
     )
 
 returns : tie.Need-returns Inv-loop μ-loop
 returns c =
     let l = c .before .loop in
-    let a = c .before .before .before .args in
     let n = c .before .before .size in
-    let four : length (a .t2 .ids) ≡ maxList = search (needs, long) in
+    let clamped = c .before .before .before in
+    let list = clamped .clamped .result in
+    let a = clamped .before .args in
     let all : l .i ≡ n .result = omega arith in
-    let roots : map elOf (take (n .result) (l .out .ids)) ≡ map (rootOf (linksOf (a .self))) (elsOf (a .t2)) =
-    ap (λ (k : ℕ). map elOf (take k (l .out .ids))) (sym all) ∙ l .inv .3
-    ∙ ap (map (rootOf (linksOf (a .self)))) (view-clamped elOf (a .t2 .len) (l .i) (a .t2 .ids) (all ∙ n .ensures .is)) in
-    rw (l .inv .1) (handed 0 elOf (n .result) (l .out .ids) (omega (arith, n .ensures .most, l .inv .2)) roots)
+    let says = says-held 0 elOf elOf (list .len) (list .ids) (given-held-alike (clamped .clamped .ensures)) in
+    let roots = filled-all elOf (rootOf (linksOf (a .self))) (list .ids) (l .out .ids) (list .len) (l .i)
+    (all ∙ n .ensures .is) (l .inv .2) (l .inv .3) ∙ ap (map (rootOf (linksOf (a .self)))) (as-held (clamped .clamped .ensures)) in
+    rw (l .inv .1) (handed 0 elOf (list .len) (l .out .ids) (omega (arith, says, l .inv .2)) roots)
 
 pub roots-spec : {M : Type 1} → statement M
 roots-spec =
@@ -85,8 +88,8 @@ roots-spec =
     (tie.spec
     Inv-loop
     μ-loop
+    clamped-requires
     size-requires
-    cast-out
     loop-holds
     mul-el
     element-copy-out-el
