@@ -23,8 +23,8 @@ use Rattle.close.proofs.close.Reads as close-fn
 use Rattle.history.specs.Book.{History, history, someMark, Conserved, Conservation, next, noted}
 use Rattle.history.proofs.Histories.{history-next}
 use Rattle.history.proofs.Conservation.{conservation}
-use Rattle.driver.specs.Calls.{callOf, wholeRecords, listed, callsBefore, callsIn, lastAnswer, listBefore, runList}
-use Rattle.driver.specs.View.{responseOf, stepOf}
+use Rattle.driver.specs.Calls.{callOf, wholeRecords, listed, callsBefore, callsIn, lastAnswer, listBefore}
+use Rattle.driver.specs.View.{responseOf}
 use Rattle.driver.specs.declared.Response.the-variants as response
 use Rattle.driver.specs.declared.Responded.{Responded}
 use Rattle.driver.proofs.run.Reads as run-fn
@@ -101,6 +101,10 @@ ends-closed bytes (suc n) c e = go (callOf (recordAt bytes n)) e where
         is = ap (λ (x : Call). callsBefore bytes n ++ (x ∷ [])) is-close;
         answers = subst (λ (x : Call). step x (history (callsBefore bytes n) .machine) .answer ≡ closed c) is-close e;
       }
+
+-- `run` asks nothing of the bytes
+pub run-asked : (κs : Lfts 1) (bytes : _) → run-fn.Asked κs (bytes, tt)
+run-asked κs bytes = tt
 
 module _ (κs : Lfts 1) (bytes : _) (r : Responded) (ran : run-fn.Learnt κs (bytes, tt) r (bytes, tt)) where
   -- For every slice of bytes whose calls end in a close that is accepted, with no element marked up to then:

@@ -1,6 +1,6 @@
--- A list of calls as bytes for which each hypothesis of `run-conserves` holds, computed: P1 of 01 with a find, a refused find, a record that is no call, and bytes that are no whole record.
+-- A list of calls as bytes for which each hypothesis of `run-conserves` holds, computed: the example of oracle/FORMAT.md with a record that is no call, a find, a refused find and bytes that are no whole record.
 use Prim.Native.Nat.{ℕ, zero, suc}
-use mathlib.Core.Path.{_≡_, refl, ap, subst, sym, _∙_}
+use mathlib.Core.Path.{_≡_, refl, subst, sym}
 use mathlib.Core.Bool.{true, false}
 use mathlib.Core.List.{List, [], _∷_, _++_}
 use contract.Lifetimes.{Lfts}
@@ -8,7 +8,7 @@ use denote.Ref.{now}
 use Rattle.ids.specs.Ids.{givenOf}
 use Rattle.unification.specs.Roots.{linksOf}
 use Rattle.semantics.specs.Close.{Closed}
-use Rattle.semantics.specs.Calls.{Call, push-el, equate-els, root, close, closed}
+use Rattle.semantics.specs.Calls.{push-el, equate-els, root, close, closed}
 use Rattle.semantics.proofs.Computes.{everything}
 use Rattle.history.specs.Book as book
 use Rattle.history.specs.Book.{history, someMark, Conserved}
@@ -30,7 +30,7 @@ unfoldable pub worked : List ℕ
 worked =
     recorded 6 0 0
     (recorded 6 0 0
-    (recorded 15 0 0
+    (recorded 0 0 0
     (recorded 7 0 1
     (recorded rootKind 1 0
     (recorded rootKind 9 0

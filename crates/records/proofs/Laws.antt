@@ -10,7 +10,7 @@ use native.Mathlib.Omega.{arith}
 use lib.ListN.{length, take, drop, getD, length-drop, drop-of-length-le, List·getD-eq-default}
 use lib.Seq.{drop-cons, drop-drop, take-take, take-nil}
 use lib.Dec.{eqb, leb, ltb, leb·zero, leb·suc-zero, eqb·suc-zero}
-use borrow.Author.Tests.{lt-ltb, le-ltb, le-leb, lt-leb, eq-eqb, ne-eqb, ltb-true, ltb-false, leb-true, leb-false, eqb-true, eqb-false}
+use borrow.Author.Tests.{lt-ltb, le-ltb, le-leb, lt-leb, eq-eqb, ne-eqb, leb-true, leb-false, eqb-true, eqb-false}
 use Rattle.semantics.specs.Sheet as sheet
 use Rattle.semantics.specs.Sheet.{words, recordOf, recordAt, maxRecords, recordBytes, allZero, unused, listed, exactly, countFits}
 use Rattle.semantics.specs.Sheet.{listFits, Form, fits, forms, formOf}

@@ -3,7 +3,7 @@ use mathlib.Core.Path.{_∙_, sym, ap}
 use Rattle.ids.specs.Ids.{givenEls}
 use Rattle.signature.specs.declared.Typed.{Typed}
 use Rattle.signature.specs.Calls.{typedOf}
-use Rattle.semantics.specs.Calls.{typed, leading, Step}
+use Rattle.semantics.specs.Calls.{typed, leading}
 use Rattle.carrying.specs.View.{machineOf}
 use Rattle.driver.proofs.Laws.{type-found, answers}
 use borrow.Author.Needs.{needs}

@@ -2,7 +2,7 @@
 use mathlib.Core.Path.{_∙_}
 use Rattle.ids.specs.Ids.{givenEls}
 use Rattle.signature.specs.Calls.{TypedM, lookedOf}
-use Rattle.semantics.specs.Calls.{Answer, typed, leading, onNeither, answerOf, step}
+use Rattle.semantics.specs.Calls.{typed, leading, onNeither, answerOf, step}
 use Rattle.carrying.specs.View.{machineOf}
 use Rattle.driver.proofs.Laws.{on-neither}
 use borrow.Author.Needs.{needs}
