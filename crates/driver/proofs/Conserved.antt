@@ -23,8 +23,8 @@ use Rattle.close.proofs.close.Reads as close-fn
 use Rattle.history.specs.Book.{History, history, someMark, Conserved, Conservation, next, noted}
 use Rattle.history.proofs.Histories.{history-next}
 use Rattle.history.proofs.Conservation.{conservation}
-use Rattle.driver.specs.Calls.{callOf, wholeRecords, listed, callsBefore, callsIn, lastAnswer, listBefore}
-use Rattle.driver.specs.View.{responseOf}
+use Rattle.driver.specs.Calls.{runList, callOf, wholeRecords, listed, callsBefore, callsIn, lastAnswer, listBefore}
+use Rattle.driver.specs.View.{responseOf, stepOf, RespondedM}
 use Rattle.driver.specs.declared.Response.the-variants as response
 use Rattle.driver.specs.declared.Responded.{Responded}
 use Rattle.driver.proofs.run.Reads as run-fn
@@ -107,6 +107,9 @@ pub run-asked : (κs : Lfts 1) (bytes : _) → run-fn.Asked κs (bytes, tt)
 run-asked κs bytes = tt
 
 module _ (κs : Lfts 1) (bytes : _) (r : Responded) (ran : run-fn.Learnt κs (bytes, tt) r (bytes, tt)) where
+  stepped : stepOf r ≡ runList (now bytes)
+  stepped = ap (λ (x : RespondedM). x .step) ran
+
   -- For every slice of bytes whose calls end in a close that is accepted, with no element marked up to then:
   -- what `Conserved` says of the book of these calls and of the links of the machine that `run` hands back.
   pub run-conserves : (c : Closed) → Ends (callsIn (now bytes)) c → someMark (history (callsIn (now bytes)) .book .marks) ≡ false
@@ -117,7 +120,7 @@ module _ (κs : Lfts 1) (bytes : _) (r : Responded) (ran : run-fn.Learnt κs (by
       let whole : Conserved (history ks .book) (history ks .machine .structure .links) c =
       subst (λ (l : List Call). Conserved (history l .book) (history l .machine .structure .links) c) (sym (e .is))
       (conservation (e .before) c (e .answers) (subst (λ (l : List Call). someMark (history l .book .marks) ≡ false) (e .is) unmarked)) in
-      subst (λ (l : List ℕ). Conserved (history ks .book) l c) (ap (λ (s : Step). s .after .structure .links) (sym ran)) whole
+      subst (λ (l : List ℕ). Conserved (history ks .book) l c) (ap (λ (s : Step). s .after .structure .links) (sym stepped)) whole
 
   -- The same by what `run` answers: that the last record was a close that was accepted.
   pub run-closed-conserves : (c : code.Closed) → r .response ≡ response.Answered (answer.Closed c)
@@ -126,7 +129,7 @@ module _ (κs : Lfts 1) (bytes : _) (r : Responded) (ran : run-fn.Learnt κs (by
   unfolding listBefore
   run-closed-conserves c e unmarked =
       run-conserves (closedOf c) (ends-closed (now bytes) (wholeRecords (now bytes)) (closedOf c)
-      (ap (λ (s : Step). s .answer) (sym ran) ∙ ap (responseOf _ _) e)) unmarked
+      (ap (λ (s : Step). s .answer) (sym stepped) ∙ ap (responseOf _ _) e)) unmarked
 
   -- The same of a `close` of the machine that `run` hands back, by that function's own contract.
   pub run-then-close-conserves : (z : Closing) (c : Closed)
@@ -137,7 +140,7 @@ module _ (κs : Lfts 1) (bytes : _) (r : Responded) (ran : run-fn.Learnt κs (by
   unfolding Conservation listBefore step answerOf next noted
   run-then-close-conserves z c did ok unmarked =
       let ks = callsIn (now bytes) in
-      let on : step calls.close (machineOf (r .machine)) ≡ step calls.close (history ks .machine) = ap (λ (s : Step). step calls.close (s .after)) ran in
+      let on : step calls.close (machineOf (r .machine)) ≡ step calls.close (history ks .machine) = ap (λ (s : Step). step calls.close (s .after)) stepped in
       let made : step calls.close (machineOf (r .machine)) ≡ onStructure closed (machineOf (r .machine)) (closingOf z) =
       ap (onStructure closed (machineOf (r .machine))) (sym did) in
       let answers : step calls.close (history ks .machine) .answer ≡ closed c =

@@ -9,7 +9,7 @@ use lib.Seq.{take-all}
 use borrow.Author.Tests.{ne-eqb}
 use Rattle.ids.specs.Answers.{Answered}
 use Rattle.ids.specs.Limits.{maxList}
-use Rattle.ids.specs.Ids.{givenOf}
+use Rattle.ids.specs.Ids.{padded, givenOf}
 use Rattle.ids.specs.declared.TypeId.{TypeId}
 use Rattle.ids.proofs.Lists.{given-length}
 use Rattle.signature.specs.declared.Typed.{Typed}
@@ -20,21 +20,26 @@ use Rattle.semantics.specs.Sheet as sheet
 use Rattle.semantics.specs.Sheet.{Record, recordAt, carryOut}
 use Rattle.records.specs.View.{recordWithin}
 use Rattle.records.proofs.Laws.{record-within}
+use Rattle.semantics.specs.Conflicts.{Conflict}
+use Rattle.carrying.specs.declared.Answer as code
+use Rattle.carrying.specs.declared.Answer.the-variants as codes
+use Rattle.carrying.specs.View.{answerOf}
 use Rattle.carrying.proofs.Laws as carried
 use Rattle.carrying.proofs.Laws.{slotsOf}
 use Rattle.history.specs.Book.{History, noted, next, run, begin, history}
 use Rattle.history.proofs.Histories.{history-goes-on}
 use Rattle.driver.specs.Calls.{rootKind, rootConstKind, lookupTypeKind, ambientParentsKind, callAt, callOf, wholeRecords, listed}
 use Rattle.driver.specs.Calls.{callsBefore, lastAnswer, listBefore}
+use Rattle.driver.specs.View.{elsIn}
 
 -- the four slots as they are given to a call
 pub slots-given : (xs : List ℕ) (n : ℕ) → length xs ≡ maxList → givenOf n (slotsOf xs) ≡ givenOf n xs
-unfolding givenOf
+unfolding padded
 slots-given xs n h = ap (givenOf n) (carried.slots-given xs maxList maxList h refl ∙ take-all maxList xs (omega arith))
 
 -- the first n of a list that is given, which has more, or not
 pub first-given : (n len : ℕ) (xs : List ℕ) → n ≤ len → givenOf n xs ≡ take n (givenOf len xs)
-unfolding givenOf
+unfolding padded
 first-given zero len xs h = refl
 first-given (suc n) zero xs h = absurd (omega arith)
 first-given (suc n) (suc len) [] h = ap (λ (l : List ℕ). 0 ∷ l) (first-given n len [] (omega arith))
@@ -49,6 +54,15 @@ on-neither f m view e = ap (λ x. onNeither f m (view x)) (sym e)
 
 abbrev pub answers : Answer → Machine → Step
 answers a m = record { answer = a; after = m }
+
+-- what a record of a sheet answers lists no elements
+pub lists-none : (cs : List Conflict) (a : code.Answer) → elsIn (answerOf cs a) ≡ []
+lists-none cs (codes.Number n) = refl
+lists-none cs (codes.Says b) = refl
+lists-none cs codes.Done = refl
+lists-none cs (codes.Closed c) = refl
+lists-none cs codes.Conflicting = refl
+lists-none cs (codes.Refused n) = refl
 
 -- a type came out, with its leading parents
 pub type-found : (m : Machine) (ps : List ℕ) {es : List ℕ} {x : Typed} (t : TypeId) (n : ℕ) → es ≡ take n ps → x ≡ At t n
@@ -72,9 +86,9 @@ module _ (r : Record) (m : Machine) where
 -- Lists.
 
 -- before the first record
-pub begins : (bytes : List ℕ) {m : Machine} {s : Step} → m ≡ start → s ≡ answers done m → s ≡ listBefore bytes 0
+pub begins : (bytes : List ℕ) {m : Machine} → m ≡ start → answers done m ≡ listBefore bytes 0
 unfolding listBefore lastAnswer callsBefore history run begin
-begins bytes e h = h ∙ ap (answers done) e
+begins bytes e = ap (answers done) e
 
 -- what a record leaves is what its call does
 record-leaves : (o : Option Call) (h : History) → carryOut o (h .machine) .after ≡ run (listed o) h .machine
@@ -83,17 +97,16 @@ record-leaves none h = refl
 record-leaves (some k) h = refl
 
 -- one record more
-pub goes-on : (bytes : List ℕ) (i : ℕ) {s t : Step} {r : Record} → i < wholeRecords bytes → s ≡ listBefore bytes i → r ≡ recordWithin bytes i
-    → t ≡ carryOut (callOf r) (s .after) → t ≡ listBefore bytes (i + 1)
+pub goes-on : (bytes : List ℕ) (i : ℕ) {s : Step} {r : Record} → i < wholeRecords bytes → s ≡ listBefore bytes i → r ≡ recordWithin bytes i
+    → carryOut (callOf r) (s .after) ≡ listBefore bytes (i + 1)
 unfolding listBefore lastAnswer callsBefore
-goes-on bytes i {s} {t} {r} within e f g =
+goes-on bytes i {s} {r} within e f =
     let ks = callsBefore bytes i in
     let o = callOf (recordAt bytes i) in
     let more : suc i ≡ i + 1 = omega arith in
     let same : r ≡ recordAt bytes i = f ∙ record-within bytes i within in
     let left : carryOut o (history ks .machine) .after ≡ history (ks ++ listed o) .machine =
     record-leaves o (history ks) ∙ ap (λ (h : History). h .machine) (sym (history-goes-on ks (listed o))) in
-    subst (λ (n : ℕ). t ≡ listBefore bytes n) more (g
-    ∙ ap (λ (x : Record). carryOut (callOf x) (s .after)) same
+    subst (λ (n : ℕ). carryOut (callOf r) (s .after) ≡ listBefore bytes n) more (ap (λ (x : Record). carryOut (callOf x) (s .after)) same
     ∙ ap (λ (x : Step). carryOut o (x .after)) e
     ∙ ap (answers (carryOut o (history ks .machine) .answer)) left)

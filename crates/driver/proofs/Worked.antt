@@ -5,7 +5,7 @@ use mathlib.Core.Bool.{true, false}
 use mathlib.Core.List.{List, [], _∷_, _++_}
 use contract.Lifetimes.{Lfts}
 use denote.Ref.{now}
-use Rattle.ids.specs.Ids.{givenOf}
+use Rattle.ids.specs.Ids.{padded}
 use Rattle.unification.specs.Roots.{linksOf}
 use Rattle.semantics.specs.Close.{Closed}
 use Rattle.semantics.specs.Calls.{push-el, equate-els, root, close, closed}
@@ -38,7 +38,7 @@ worked =
 
 -- the definitions that a list of bytes computes with
 computed : ℕ
-unfolding everything worked zeros callAt listed callsBefore lastAnswer listBefore givenOf book.blank book.taken book.fed book.isAccepted book.mergesOf book.noted book.next book.run book.begin book.history book.someMark
+unfolding everything worked zeros callAt listed callsBefore lastAnswer listBefore padded book.blank book.taken book.fed book.isAccepted book.mergesOf book.noted book.next book.run book.begin book.history book.someMark
 computed = 0
 
 -- the calls that it is

@@ -1,13 +1,14 @@
 -- What a call of a list answers, as the definitions speak of it.
 use Prim.Native.Nat.{ℕ}
-use mathlib.Core.List.{List}
-use mathlib.Core.Option.{none, some}
-use Rattle.ids.specs.Ids.{givenEls}
+use mathlib.Core.List.{List, []}
+use mathlib.Core.Option.{Option, none, some}
+use Rattle.ids.specs.Ids.{givenEls, Handed, whole}
 use Rattle.unification.specs.Roots.{found}
+use Rattle.semantics.specs.Structure.{Fact}
 use Rattle.semantics.specs.Conflicts.{Conflict}
 use Rattle.semantics.specs.Calls as calls
-use Rattle.conflicts.specs.View.{conflictsOf}
-use Rattle.carrying.specs.View.{machineOf, answerOf}
+use Rattle.conflicts.specs.View.{conflictsOf, handedConflicts}
+use Rattle.carrying.specs.View.{machineOf, answerOf, listed}
 use Rattle.driver.specs.declared.Response.{Response}
 use Rattle.driver.specs.declared.Response.the-variants as responses
 use Rattle.driver.specs.declared.Responded.{Responded}
@@ -21,3 +22,32 @@ responseOf cs es responses.Els = calls.els es
 
 abbrev pub stepOf : Responded → calls.Step
 stepOf r = record { answer = responseOf (conflictsOf (r .conflicts)) (givenEls (r .els)) (r .response); after = machineOf (r .machine) }
+
+-- the elements that an answer lists: none where it is another
+abbrev pub parentsIn : Option Fact → List ℕ
+parentsIn none = []
+parentsIn (some f) = f .parents
+
+abbrev pub elsIn : calls.Answer → List ℕ
+elsIn (calls.number n) = []
+elsIn (calls.says b) = []
+elsIn calls.done = []
+elsIn (calls.closed c) = []
+elsIn (calls.conflicting cs) = []
+elsIn (calls.found f) = []
+elsIn (calls.typed t) = parentsIn t
+elsIn (calls.els es) = es
+elsIn (calls.refuse n) = []
+
+-- a step, and the lists that stand beside its answer
+pub record RespondedM : Type 0 where
+  pub step : calls.Step
+  pub els : List ℕ
+  pub conflicts : Handed (List Conflict)
+
+abbrev pub respondedOf : Responded → RespondedM
+respondedOf r = record { step = stepOf r; els = givenEls (r .els); conflicts = handedConflicts (r .conflicts) }
+
+-- beside an answer stand the lists that it gives
+abbrev pub responded : calls.Step → RespondedM
+responded s = record { step = s; els = elsIn (s .answer); conflicts = whole (listed (s .answer)) }

@@ -13,18 +13,18 @@ use structure::Looked;
 use unification::Find;
 use unification::Finding;
 ghost use mathlib.Core.Path.{_≡_};
+ghost use mathlib.Core.List.{[]};
 ghost use lib.ListN.{take};
-ghost use Rattle.ids.specs.Ids.{givenOf, givenEls, givenTypes};
+ghost use Rattle.ids.specs.Ids.{givenOf, givenEls, givenTypes, whole};
 ghost use Rattle.unification.specs.Roots.{answered};
 ghost use Rattle.signature.specs.Calls.{typedOf};
 ghost use Rattle.semantics.specs.Calls as calls;
 ghost use Rattle.semantics.specs.Sheet.{carryOut};
 ghost use Rattle.semantics.specs.Sheet as sheet;
-ghost use Rattle.conflicts.specs.View.{conflictsOf};
 ghost use Rattle.records.specs.View.{recordView};
 ghost use Rattle.carrying.specs.View.{machineOf};
 ghost use Rattle.driver.specs.Calls.{callOf, runList};
-ghost use Rattle.driver.specs.View.{responseOf, stepOf};
+ghost use Rattle.driver.specs.View.{responseOf, respondedOf, responded};
 
 // The kinds of the calls that no record of a sheet makes.
 pub struct Kind(pub u16);
@@ -39,7 +39,7 @@ impl Kind {
     pub const AMBIENT_PARENTS: u16 = 104;
 }
 
-// What a call of a list answers; lists stand beside it.
+// What a call of a list answers; its lists stand beside it, and none beside another answer.
 pub enum Response {
     // What a record of a sheet answers.
     Answered(Answer),
@@ -57,9 +57,9 @@ pub struct Responded {
     pub machine: Machine,
 }
 
-// A response that is no list of conflicts.
-fn respond(machine: Machine, response: Response, els: ElIds) -> Responded
-    ensures { λ r. ⌜ stepOf r ≡ record { answer = responseOf (conflictsOf (r .conflicts)) (givenEls els) response; after = machineOf machine } ⌝ }
+// A response with elements beside it.
+fn respond_els(machine: Machine, response: Response, els: ElIds) -> Responded
+    ensures { λ r. ⌜ respondedOf r ≡ record { step = record { answer = responseOf [] (givenEls els) response; after = machineOf machine }; els = givenEls els; conflicts = whole [] } ⌝ }
 {
     Responded {
         response,
@@ -69,14 +69,17 @@ fn respond(machine: Machine, response: Response, els: ElIds) -> Responded
     }
 }
 
-fn refuse(machine: Machine, number: u16) -> Responded
-    ensures { λ r. ⌜ stepOf r ≡ record { answer = calls.refuse number; after = machineOf machine } ⌝ }
+// A response with no list beside it.
+fn respond(machine: Machine, response: Response) -> Responded
+    ensures { λ r. ⌜ respondedOf r ≡ record { step = record { answer = responseOf [] [] response; after = machineOf machine }; els = []; conflicts = whole [] } ⌝ }
 {
-    respond(
-        machine,
-        Response::Answered(Answer::Refused(number)),
-        ElIds::new(),
-    )
+    respond_els(machine, response, ElIds::new())
+}
+
+fn refuse(machine: Machine, number: u16) -> Responded
+    ensures { λ r. ⌜ respondedOf r ≡ responded (record { answer = calls.refuse number; after = machineOf machine }) ⌝ }
+{
+    respond(machine, Response::Answered(Answer::Refused(number)))
 }
 
 // A list as it is given, also where its count is over the limit.
@@ -121,16 +124,16 @@ fn leading(els: ElIds, n: u16) -> ElIds
 }
 
 fn after_finding(machine: Machine, finding: Finding) -> Responded
-    ensures { λ r. ⌜ stepOf r ≡ record { answer = calls.answerOf calls.found (answered finding); after = machineOf machine } ⌝ }
+    ensures { λ r. ⌜ respondedOf r ≡ responded (record { answer = calls.answerOf calls.found (answered finding); after = machineOf machine }) ⌝ }
 {
     match finding {
-        Finding::Found(f) => respond(machine, Response::Found(f), ElIds::new()),
+        Finding::Found(f) => respond(machine, Response::Found(f)),
         Finding::Refused(n) => refuse(machine, n),
     }
 }
 
 fn find_root(machine: Machine, el: ElId) -> Responded
-    ensures { λ r. ⌜ stepOf r ≡ calls.step (calls.root (el .0)) (machineOf machine) ⌝ }
+    ensures { λ r. ⌜ respondedOf r ≡ responded (calls.step (calls.root (el .0)) (machineOf machine)) ⌝ }
 {
     let signature = machine.signature;
     let structure = machine.structure;
@@ -145,7 +148,7 @@ fn find_root(machine: Machine, el: ElId) -> Responded
 }
 
 fn find_root_const(machine: Machine, el: ElId) -> Responded
-    ensures { λ r. ⌜ stepOf r ≡ calls.step (calls.root-const (el .0)) (machineOf machine) ⌝ }
+    ensures { λ r. ⌜ respondedOf r ≡ responded (calls.step (calls.root-const (el .0)) (machineOf machine)) ⌝ }
 {
     let structure = machine.structure;
     after_finding(machine, structure.root_const(el))
@@ -153,16 +156,16 @@ fn find_root_const(machine: Machine, el: ElId) -> Responded
 
 // A type that was found, with as many of the parents as it has.
 fn after_lookup(machine: Machine, typed: Typed, parents: ElIds) -> Responded
-    ensures { λ r. ⌜ stepOf r ≡ record { answer = calls.typed (calls.leading (givenEls parents) (typedOf typed)); after = machineOf machine } ⌝ }
+    ensures { λ r. ⌜ respondedOf r ≡ responded (record { answer = calls.typed (calls.leading (givenEls parents) (typedOf typed)); after = machineOf machine }) ⌝ }
 {
     match typed {
-        Typed::At(t, n) => respond(machine, Response::Typed(t), leading(parents, n)),
-        Typed::Absent => respond(machine, Response::Absent, ElIds::new()),
+        Typed::At(t, n) => respond_els(machine, Response::Typed(t), leading(parents, n)),
+        Typed::Absent => respond(machine, Response::Absent),
     }
 }
 
 fn look_up_type(machine: Machine, typ: TypeId, parents: ElIds) -> Responded
-    ensures { λ r. ⌜ stepOf r ≡ calls.step (calls.lookup-type (typ .0) (givenEls parents)) (machineOf machine) ⌝ }
+    ensures { λ r. ⌜ respondedOf r ≡ responded (calls.step (calls.lookup-type (typ .0) (givenEls parents)) (machineOf machine)) ⌝ }
 {
     let signature = machine.signature;
     let looked = signature.lookup_type(typ, parents);
@@ -173,7 +176,7 @@ fn look_up_type(machine: Machine, typ: TypeId, parents: ElIds) -> Responded
 }
 
 fn look_up_ambients(machine: Machine, types: TypeIds) -> Responded
-    ensures { λ r. ⌜ stepOf r ≡ calls.step (calls.ambient-parents (givenTypes types)) (machineOf machine) ⌝ }
+    ensures { λ r. ⌜ respondedOf r ≡ responded (calls.step (calls.ambient-parents (givenTypes types)) (machineOf machine)) ⌝ }
 {
     let signature = machine.signature;
     let structure = machine.structure;
@@ -181,14 +184,14 @@ fn look_up_ambients(machine: Machine, types: TypeIds) -> Responded
     let answer = looked.answer;
     let els = looked.els;
     match answer {
-        Looked::Found => respond(machine, Response::Els, els),
+        Looked::Found => respond_els(machine, Response::Els, els),
         Looked::Refused(n) => refuse(machine, n),
     }
 }
 
 // A record of a kind that sheets have too, or of none.
 fn carry_out_as_sheet(machine: Machine, given: Record) -> Responded
-    ensures { λ r. ⌜ stepOf r ≡ carryOut (sheet.callOf (recordView given)) (machineOf machine) ⌝ }
+    ensures { λ r. ⌜ respondedOf r ≡ responded (carryOut (sheet.callOf (recordView given)) (machineOf machine)) ⌝ }
 {
     let carried = carrying::carry_out(machine, given);
     let answer = carried.answer;
@@ -204,7 +207,7 @@ fn carry_out_as_sheet(machine: Machine, given: Record) -> Responded
 
 // A record is carried out by the call of its kind; one that does not fit is refused, and the machine is as it was.
 pub fn carry_out(machine: Machine, given: Record) -> Responded
-    ensures { λ r. ⌜ stepOf r ≡ carryOut (callOf (recordView given)) (machineOf machine) ⌝ }
+    ensures { λ r. ⌜ respondedOf r ≡ responded (carryOut (callOf (recordView given)) (machineOf machine)) ⌝ }
 {
     let kind = given.kind;
     let parents = given.parents;
@@ -224,14 +227,10 @@ pub fn carry_out(machine: Machine, given: Record) -> Responded
 
 // The records of a list, whatever each answers: the last one's answer, and what all of them leave.
 pub fn run(bytes: &[u8]) -> Responded
-    ensures { λ r. ⌜ stepOf r ≡ runList (now (bytes .entry)) ⌝ }
+    ensures { λ r. ⌜ respondedOf r ≡ responded (runList (now (bytes .entry))) ⌝ }
 {
     let count = bytes.len() / Record::BYTES;
-    let mut last = respond(
-        Machine::new(),
-        Response::Answered(Answer::Done),
-        ElIds::new(),
-    );
+    let mut last = respond(Machine::new(), Response::Answered(Answer::Done));
     for i in 0..count {
         let machine = last.machine;
         last = carry_out(machine, records::record_in(bytes, i));

@@ -5,6 +5,7 @@ use Rattle.signature.specs.declared.Typed.{Typed}
 use Rattle.signature.specs.Calls.{typedOf}
 use Rattle.semantics.specs.Calls.{typed, leading}
 use Rattle.carrying.specs.View.{machineOf}
+use Rattle.driver.specs.View.{responded}
 use Rattle.driver.proofs.Laws.{type-found, answers}
 use borrow.Author.Needs.{needs}
 use Rattle.driver.proofs.after_lookup.Statement.{statement}
@@ -16,32 +17,29 @@ enum-known-typed c = search needs
 leading-requires : tie.Need-leading-requires
 leading-requires c κs = search needs
 
-respond-requires : tie.Need-respond-requires
-respond-requires c κs = search needs
+respond-els-requires : tie.Need-respond-els-requires
+respond-els-requires c κs = search needs
 
 enum-told : tie.Need-enum-told
 enum-told c = search needs
 
-new-requires : tie.Need-new-requires
-new-requires c κs = search needs
-
-respond-requires-2 : tie.Need-respond-requires-2
-respond-requires-2 c κs = search needs
+respond-requires : tie.Need-respond-requires
+respond-requires c κs = search needs
 
 returns : tie.Need-returns
 returns c =
     let at = c .before .before .before in
     let a = at .before .before .args in
-    c .respond .ensures
-    ∙ type-found (machineOf (a .machine)) (givenEls (a .parents)) _ _ (c .before .leading .ensures) (at .typed .given .1)
+    c .respond-els .ensures
+    ∙ ap responded (type-found (machineOf (a .machine)) (givenEls (a .parents)) _ _ (c .before .leading .ensures) (at .typed .given .1))
 
 returns-2 : tie.Need-returns-2
 unfolding leading
 returns-2 c =
-    let at = c .before .before in
+    let at = c .before in
     let a = at .before .before .args in
-    c .respond2 .ensures
-    ∙ ap (λ (x : Typed). answers (typed (leading (givenEls (a .parents)) (typedOf x))) (machineOf (a .machine))) (sym (at .enum-told .given .1))
+    c .respond .ensures
+    ∙ ap (λ (x : Typed). responded (answers (typed (leading (givenEls (a .parents)) (typedOf x))) (machineOf (a .machine)))) (sym (at .enum-told .given .1))
 
 pub after-lookup-spec : {M : Type 1} → statement M
 after-lookup-spec =
@@ -49,9 +47,8 @@ after-lookup-spec =
     (tie.spec
     enum-known-typed
     leading-requires
-    respond-requires
+    respond-els-requires
     enum-told
-    new-requires
-    respond-requires-2
+    respond-requires
     returns
     returns-2)

@@ -1,8 +1,9 @@
 -- `find_root` meets its contract.
-use mathlib.Core.Path.{_∙_, sym}
+use mathlib.Core.Path.{_∙_, sym, ap}
 use Rattle.semantics.specs.Calls.{onStructure, found}
 use Rattle.semantics.proofs.Finds.{step-root}
 use Rattle.carrying.specs.View.{machineOf}
+use Rattle.driver.specs.View.{responded}
 use borrow.Author.Needs.{needs}
 use Rattle.driver.proofs.find_root.Statement.{statement}
 use Rattle.driver.proofs.find_root.Tie as tie
@@ -18,8 +19,7 @@ returns c =
     let at = c .before .before in
     let a = at .before .before .before .args in
     c .after-finding .ensures
-    ∙ (λ i. onStructure found (machineOf (a .machine)) (at .root .ensures i))
-    ∙ sym (step-root (machineOf (a .machine)) (a .el .0))
+    ∙ ap responded ((λ i. onStructure found (machineOf (a .machine)) (at .root .ensures i)) ∙ sym (step-root (machineOf (a .machine)) (a .el .0)))
 
 pub find-root-spec : {M : Type 1} → statement M
 find-root-spec = tie.close (tie.spec root-requires after-finding-requires returns)

@@ -1,9 +1,10 @@
 -- `look_up_type` meets its contract.
-use mathlib.Core.Path.{_∙_}
+use mathlib.Core.Path.{_∙_, ap}
 use Rattle.ids.specs.Ids.{givenEls}
 use Rattle.signature.specs.Calls.{TypedM, lookedOf}
 use Rattle.semantics.specs.Calls.{typed, leading, onNeither, answerOf, step}
 use Rattle.carrying.specs.View.{machineOf}
+use Rattle.driver.specs.View.{responded}
 use Rattle.driver.proofs.Laws.{on-neither}
 use borrow.Author.Needs.{needs}
 use Rattle.driver.proofs.look_up_type.Statement.{statement}
@@ -31,8 +32,8 @@ returns c =
     let looked = at .before .before in
     let a = looked .before .before .args in
     c .after-lookup .ensures
-    ∙ on-neither (λ (x : TypedM). typed (leading (givenEls (a .parents)) x)) (machineOf (a .machine)) lookedOf (at .looked .given .1)
-    ∙ (λ i. onNeither (λ (x : TypedM). typed (leading (givenEls (a .parents)) x)) (machineOf (a .machine)) (looked .lookup-type .ensures i))
+    ∙ ap responded (on-neither (λ (x : TypedM). typed (leading (givenEls (a .parents)) x)) (machineOf (a .machine)) lookedOf (at .looked .given .1)
+    ∙ (λ i. onNeither (λ (x : TypedM). typed (leading (givenEls (a .parents)) x)) (machineOf (a .machine)) (looked .lookup-type .ensures i)))
 
 returns-2 : tie.Need-returns-2
 unfolding step answerOf
@@ -41,8 +42,8 @@ returns-2 c =
     let looked = at .before .before in
     let a = looked .before .before .args in
     c .refuse .ensures
-    ∙ on-neither (λ (x : TypedM). typed (leading (givenEls (a .parents)) x)) (machineOf (a .machine)) lookedOf (at .looked2 .given .1)
-    ∙ (λ i. onNeither (λ (x : TypedM). typed (leading (givenEls (a .parents)) x)) (machineOf (a .machine)) (looked .lookup-type .ensures i))
+    ∙ ap responded (on-neither (λ (x : TypedM). typed (leading (givenEls (a .parents)) x)) (machineOf (a .machine)) lookedOf (at .looked2 .given .1)
+    ∙ (λ i. onNeither (λ (x : TypedM). typed (leading (givenEls (a .parents)) x)) (machineOf (a .machine)) (looked .lookup-type .ensures i)))
 
 pub look-up-type-spec : {M : Type 1} → statement M
 look-up-type-spec =

@@ -1,17 +1,17 @@
 -- `run` meets its contract.
-use mathlib.Core.Path.{_≡_, subst}
+use mathlib.Core.Path.{_≡_, ap, subst, _∙_}
 use Prim.Native.Nat.{_-_, _≤_}
 use native.Mathlib.Omega.{arith}
 use denote.Ref.{now}
 use Rattle.driver.specs.Calls.{wholeRecords, listBefore}
-use Rattle.driver.specs.View.{stepOf}
+use Rattle.driver.specs.View.{RespondedM, respondedOf, responded}
 use Rattle.driver.proofs.Laws.{begins, goes-on}
 use borrow.Author.Needs.{needs}
 use Rattle.driver.proofs.run.Statement.{statement}
 use Rattle.driver.proofs.run.Tie as tie
 
 abbrev Inv-loop : tie.InvT-loop
-Inv-loop bytes count last₀ i₀ last i = (i ≤ count) × (stepOf last ≡ listBefore bytes i)
+Inv-loop bytes count last₀ i₀ last i = (i ≤ count) × (respondedOf last ≡ responded (listBefore bytes i))
 
 abbrev μ-loop : tie.MeasureT-loop
 μ-loop bytes count last₀ i₀ last i = count - i
@@ -19,15 +19,12 @@ abbrev μ-loop : tie.MeasureT-loop
 new-requires : tie.Need-new-requires Inv-loop μ-loop
 new-requires c κs = search needs
 
-new-requires-2 : tie.Need-new-requires-2 Inv-loop μ-loop
-new-requires-2 c κs = search needs
-
 respond-requires : tie.Need-respond-requires Inv-loop μ-loop
 respond-requires c κs = search needs
 
 loop-holds : tie.Need-loop-holds Inv-loop μ-loop
 loop-holds c =
-    (omega arith, begins (now (c .before .before .before .before .args .bytes)) (c .before .before .new .ensures) (c .respond .ensures))
+    (omega arith, c .respond .ensures ∙ ap responded (begins (now (c .before .before .before .args .bytes)) (c .before .new .ensures)))
 
 record-in-requires : tie.Need-record-in-requires Inv-loop μ-loop
 record-in-requires c κs = search needs
@@ -38,7 +35,7 @@ carry-out-requires c κs = search needs
 add-i : tie.Need-add-i Inv-loop μ-loop
 add-i c =
     let at = c .before .before .before .before in
-    let start = at .before .before .before .before .before in
+    let start = at .before .before .before .before in
     omega (arith, c .before .before .before .loop-test .taken, start .good .0)
 
 loop-less : tie.Need-loop-less Inv-loop μ-loop
@@ -47,17 +44,18 @@ loop-less c = search needs
 loop-again : tie.Need-loop-again Inv-loop μ-loop
 loop-again c =
     let at = c .before .before .before .before in
-    let bytes = now (at .before .before .before .before .before .args .bytes) in (
+    let bytes = now (at .before .before .before .before .args .bytes) in (
       omega arith,
-      goes-on bytes (at .loop .i) (omega (arith, c .before .before .before .loop-test .taken)) (at .loop .inv .1) (c .before .record-in .ensures) (c .carry-out .ensures),
+      c .carry-out .ensures
+      ∙ ap responded (goes-on bytes (at .loop .i) (omega (arith, c .before .before .before .loop-test .taken)) (ap (λ (x : RespondedM). x .step) (at .loop .inv .1)) (c .before .record-in .ensures)),
     )
 
 returns : tie.Need-returns Inv-loop μ-loop
 returns c =
     let at = c .before in
-    let bytes = now (at .before .before .before .before .before .args .bytes) in
+    let bytes = now (at .before .before .before .before .args .bytes) in
     let all : at .loop .i ≡ wholeRecords bytes = omega (arith, at .loop .inv .0) in
-    subst (λ k. stepOf (at .loop .last) ≡ listBefore bytes k) all (at .loop .inv .1)
+    subst (λ k. respondedOf (at .loop .last) ≡ responded (listBefore bytes k)) all (at .loop .inv .1)
 
 pub run-spec : {M : Type 1} → statement M
 run-spec =
@@ -66,7 +64,6 @@ run-spec =
     Inv-loop
     μ-loop
     new-requires
-    new-requires-2
     respond-requires
     loop-holds
     record-in-requires
