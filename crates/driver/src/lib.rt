@@ -225,7 +225,8 @@ pub fn carry_out(machine: Machine, given: Record) -> Responded
     }
 }
 
-// The records of a list, whatever each answers: the last one's answer, and what all of them leave.
+// The records of a list from fresh values on, whatever each answers: the last one's answer, and what all of them leave.
+// Bytes after the last whole record are not looked at; a list of no records is done.
 pub fn run(bytes: &[u8]) -> Responded
     ensures { λ r. ⌜ respondedOf r ≡ responded (runList (now (bytes .entry))) ⌝ }
 {
