@@ -1,9 +1,10 @@
-"""Tests of tools/sheet. Run: python3 tools/test_sheet.py"""
+"""Tests of tools/sheet, of the samples and of ./close-sheet. Run: python3 tools/test_sheet.py"""
 
 import importlib.machinery
 import importlib.util
 import random
 import re
+import shutil
 import struct
 import subprocess
 import sys
@@ -13,6 +14,8 @@ from pathlib import Path
 
 TOOL = Path(__file__).resolve().parent / "sheet"
 SAMPLES = TOOL.parent.parent / "samples"
+# The samples of samples/bytes.
+LENGTHS = {"bytes-31": 31, "bytes-32769": 32769}
 
 sys.dont_write_bytecode = True
 loader = importlib.machinery.SourceFileLoader("sheet", str(TOOL))
@@ -341,13 +344,28 @@ class Samples(unittest.TestCase):
         for wanted in ("p1", "p2", "p5", "two-names", "unnamed-box", "refused-element"):
             self.assertIn(wanted, names)
         self.assertEqual(names, sorted(path.stem for path in SAMPLES.glob("*.sheet")))
-        self.assertEqual(names, sorted(path.stem for path in SAMPLES.glob("*.out")))
+        self.assertEqual(sorted([*names, *LENGTHS]), sorted(path.stem for path in SAMPLES.glob("*.out")))
         for name in names:
             with self.subTest(name=name):
                 data = (SAMPLES / f"{name}.sheet").read_bytes()
                 text = (SAMPLES / f"{name}.txt").read_text(encoding="utf-8")
                 self.assertEqual(sheet.assemble(text), data)
                 self.assertEqual(sheet.assemble(sheet.disassemble(data)), data)
+
+    def test_lengths_that_no_text_gives(self):
+        for name, length in LENGTHS.items():
+            with self.subTest(name=name):
+                done = subprocess.run([str(SAMPLES / "bytes"), name], capture_output=True, check=True)
+                self.assertEqual(len(done.stdout), length)
+                self.assertEqual((SAMPLES / f"{name}.out").read_text(), "refused 1 at 0\n")
+
+    def test_one_sheet_prints_more_than_64_kb(self):
+        self.assertGreater((SAMPLES / "long-print.out").stat().st_size, 65536)
+
+    def test_the_gate_runs_three_pages(self):
+        crate = SAMPLES.parent / "crates" / "close_sheet"
+        self.assertEqual((crate / "stdin").read_bytes(), (SAMPLES / "three-pages.sheet").read_bytes())
+        self.assertEqual((crate / "stdout").read_bytes(), (SAMPLES / "three-pages.out").read_bytes())
 
     def test_p2_is_that_of_document_01(self):
         self.assertEqual((SAMPLES / "p2.sheet").read_bytes(), pack(P2))
@@ -426,6 +444,80 @@ class Commands(unittest.TestCase):
         self.assertEqual(kinds, list(SHAPES))
         for kind, line in rows:
             self.assertIn(f"\n  {kind:<5} {line}", sheet.__doc__)
+
+
+class Script(unittest.TestCase):
+    """./close-sheet, with a program and a toolchain that stand in for the real ones."""
+
+    def setUp(self):
+        folder = tempfile.TemporaryDirectory()
+        self.addCleanup(folder.cleanup)
+        self.root = Path(folder.name)
+        shutil.copy(TOOL.parent.parent / "close-sheet", self.root)
+        (self.root / "tools").mkdir()
+        shutil.copy(TOOL, self.root / "tools")
+        # The commands that the script uses, and no `rt`.
+        self.commands = self.root / "commands"
+        self.commands.mkdir()
+        for name in ("bash", "cat", "dirname", "mkdir", "mktemp", "rm", "tail", "tee", "python3",
+                     "env"):
+            (self.commands / name).symlink_to(shutil.which(name))
+
+    def put(self, path, text):
+        path.parent.mkdir(parents=True, exist_ok=True)
+        path.write_text(text)
+        path.chmod(0o755)
+
+    def program(self, text):
+        self.put(self.root / "target/bin/close_sheet", "#!/usr/bin/env bash\n" + text)
+
+    def run_script(self, *words):
+        done = subprocess.run([shutil.which("bash"), "close-sheet", *words], cwd=self.root,
+                              env={"PATH": str(self.commands)}, capture_output=True, check=False)
+        return done.returncode, done.stdout, done.stderr.decode()
+
+    def test_the_last_line_decides(self):
+        (self.root / "a.sheet").write_bytes(b"sheet\n")
+        for lines, code in (("close 0 0 1\nend 1\n", 0), ("refused 5 at 3\n", 0), ("", 1),
+                            ("close 0 0 1\n", 1), ("end 1\nclose 0 0 1\n", 1), ("ends\n", 1)):
+            with self.subTest(lines=lines):
+                self.program(f"cat >/dev/null; printf '{lines}'".replace("\n", "\\n"))
+                self.assertEqual(self.run_script("a.sheet")[:2], (code, lines.encode()))
+
+    def test_names(self):
+        self.program("cat; echo; echo end 1")
+        (self.root / "-a.sheet").write_bytes(b"sheet\n")
+        self.assertEqual(self.run_script("-a.sheet"), (0, b"sheet\n\nend 1\n", ""))
+        (self.root / "-a.txt").write_text("close\n")
+        self.assertEqual(self.run_script("-a.txt"),
+                         (0, pack([record(13)]) + b"\nend 1\n", ""))
+
+    def test_what_is_wrong_is_said(self):
+        self.program("cat; echo; echo end 1")
+        (self.root / "a.txt").write_text("equal 0 drumm\n")
+        for words, code, message in (
+                ((), 2, "usage: ./close-sheet SHEET\n"),
+                (("tools",), 1, "close-sheet: tools: a directory, not a sheet\n"),
+                (("b.sheet",), 1, "close-sheet: b.sheet: no such file\n"),
+                (("a.txt",), 1, "line 1: 'drumm' is not declared as an element\n")):
+            with self.subTest(words=words):
+                self.assertEqual(self.run_script(*words), (code, b"", message))
+
+    def test_toolchain(self):
+        (self.root / "a.sheet").write_bytes(b"")
+        self.assertEqual(self.run_script("a.sheet"),
+                         (1, b"", "close-sheet: target/bin/close_sheet is not built, and rt, which"
+                                  " builds it, is not found\n"))
+        # Where it is there, it builds the program, and standard input is the sheet's.
+        made = self.root / "target/bin/close_sheet"
+        self.put(self.commands / "rt", f"#!{shutil.which('bash')}\ncat\nmkdir -p target/bin\n"
+                                       f"printf '#!{shutil.which('bash')}\\necho end 1\\n' >{made}\n"
+                                       f"{shutil.which('chmod')} +x {made}\n")
+        self.assertEqual(self.run_script("a.sheet"), (0, b"end 1\n", ""))
+        self.put(self.commands / "rt", f"#!{shutil.which('bash')}\necho no proof\nexit 1\n")
+        self.assertEqual(self.run_script("a.sheet"),
+                         (1, b"", "no proof\nclose-sheet: close_sheet is not proved;"
+                                  " target/close-sheet.log says why\n"))
 
 
 if __name__ == "__main__":
