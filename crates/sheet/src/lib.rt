@@ -8,15 +8,17 @@ use lines::Line;
 use records::Record;
 use structure::Structure;
 ghost use mathlib.Core.Path.{_≡_};
-ghost use Prim.Native.Nat.{_+_, _-_, _<_};
+ghost use mathlib.Core.List.{[]};
+ghost use Prim.Native.Nat.{_-_, _<_};
+ghost use lib.ListN.{drop};
 ghost use lib.Dec.{eqb};
-ghost use Rattle.unification.specs.Roots.{maxEls};
-ghost use Rattle.semantics.specs.Sheet.{stops, refusedLine, chainBroken, carried as carriedOut};
-ghost use Rattle.lines.specs.View.{lineOf};
+ghost use Rattle.semantics.specs.Sheet.{endLine, chainBroken};
 ghost use Rattle.records.specs.View.{recordView};
+ghost use Rattle.conflicts.specs.View.{conflictsOf};
 ghost use Rattle.carrying.specs.View.{machineOf, stepOf};
-ghost use Rattle.sheet.specs.View.{maxPieces, doneBefore, following, piecesFollowing, restAt, piecesAt, standing, Started, Became};
-ghost use Rattle.sheet.specs.View.{Follows, Passes, Visited, Steps, Advanced};
+ghost use Rattle.sheet.specs.Pieces.{isEnded, maxPieces, doneBefore, standing, piece as pieceM, startOf, refusal, followOf, stepPiece};
+ghost use Rattle.sheet.specs.Pieces.{visitPiece, listPiece, pieceAt, nextPiece};
+ghost use Rattle.sheet.specs.View.{progressOf, pieceOf};
 ghost use Rattle.sheet.specs.declared.Stage.the-variants as stages;
 
 // What the next piece is of: the refusal of a sheet whose length is bad, a record, a line of conflicts, the last line,
@@ -27,6 +29,20 @@ pub enum Stage {
     Listing,
     Ending,
     Ended,
+}
+
+impl Stage {
+    pub fn is_ended(self) -> bool
+        ensures { λ r. ⌜ r ≡ isEnded self ⌝ }
+    {
+        match self {
+            Stage::Refusing => false,
+            Stage::Visiting => false,
+            Stage::Listing => false,
+            Stage::Ending => false,
+            Stage::Ended => true,
+        }
+    }
 }
 
 pub struct Progress {
@@ -63,7 +79,7 @@ impl Progress {
 }
 
 fn at_stage(stage: Stage, machine: Machine, count: u16, index: u16, done: u16) -> Progress
-    ensures { λ r. ⌜ r ≡ standing stage machine count index done (r .conflicts) ⌝ }
+    ensures { λ r. ⌜ progressOf r ≡ standing stage (machineOf machine) count index done ⌝ }
 {
     Progress {
         stage,
@@ -78,7 +94,7 @@ fn at_stage(stage: Stage, machine: Machine, count: u16, index: u16, done: u16) -
 
 // Before the first record of a sheet of so many bytes.
 pub fn start(length: usize) -> Progress
-    ensures { λ r. ⌜ Started length r ⌝ }
+    ensures { λ r. ⌜ progressOf r ≡ startOf length ⌝ }
 {
     let machine = Machine::new();
     if length == 0 {
@@ -96,7 +112,7 @@ pub fn start(length: usize) -> Progress
 
 // `refused N at I`, and nothing any more.
 fn refuse(machine: Machine, number: u16, index: u16) -> Piece
-    ensures { λ r. ⌜ Became (λ bytes. stops (refusedLine number index) (machineOf machine)) 1 (lineOf (r .line)) (r .progress) ⌝ }
+    ensures { λ r. ⌜ pieceOf r ≡ refusal number index (machineOf machine) ⌝ }
 {
     let line = lines::refused_line(number, index);
     let progress = at_stage(Stage::Ended, machine, 0, 0, 0);
@@ -105,7 +121,7 @@ fn refuse(machine: Machine, number: u16, index: u16) -> Piece
 
 // After a record: the next one, or the last line.
 fn follow(machine: Machine, count: u16, next: u16, done: u16) -> Progress
-    ensures { λ r. ⌜ Follows count next done (machineOf machine) r ⌝ }
+    ensures { λ r. ⌜ progressOf r ≡ followOf (machineOf machine) count next done ⌝ }
 {
     if next == 0 {
         return at_stage(Stage::Ending, machine, count, next, done);
@@ -115,7 +131,7 @@ fn follow(machine: Machine, count: u16, next: u16, done: u16) -> Progress
 
 // After a record that prints nothing.
 fn pass(machine: Machine, count: u16, next: u16, done: u16) -> Piece
-    ensures { λ r. ⌜ Passes count next done (machineOf machine) (lineOf (r .line)) (r .progress) ⌝ }
+    ensures { λ r. ⌜ pieceOf r ≡ pieceM [] (followOf (machineOf machine) count next done) ⌝ }
 {
     let line = Line::new();
     let progress = follow(machine, count, next, done);
@@ -148,7 +164,7 @@ fn is_broken(count: u16, done: u16, next: u16) -> bool
 
 // What a record that was carried out prints.
 fn after_record(carried: Carried, count: u16, index: u16, next: u16, done: u16) -> Piece
-    ensures { λ r. ⌜ Became (λ bytes. carriedOut index (stepOf carried) (following bytes count next done)) (maxEls + 2 + piecesFollowing count next done) (lineOf (r .line)) (r .progress) ⌝ }
+    ensures { λ r. ⌜ pieceOf r ≡ stepPiece (stepOf carried) index count next done ⌝ }
 {
     let machine = carried.machine;
     let conflicts = carried.conflicts;
@@ -181,7 +197,7 @@ fn after_record(carried: Carried, count: u16, index: u16, next: u16, done: u16) 
 
 // A record is visited: its next index is looked at before it is carried out.
 fn visit(progress: Progress, given: Record) -> Piece
-    ensures { λ r. ⌜ Visited (recordView given) progress (lineOf (r .line)) (r .progress) ⌝ }
+    ensures { λ r. ⌜ pieceOf r ≡ visitPiece (recordView given) (progressOf progress) ⌝ }
 {
     let machine = progress.machine;
     let count = progress.count;
@@ -196,8 +212,7 @@ fn visit(progress: Progress, given: Record) -> Piece
 
 // The next conflict, or after the last one their number.
 fn list(progress: Progress) -> Piece
-    requires { ⌜ progress .stage ≡ stages.Listing ⌝ }
-    ensures { λ r. ⌜ Became (λ bytes. restAt bytes stages.Listing progress) (piecesAt stages.Listing progress) (lineOf (r .line)) (r .progress) ⌝ }
+    ensures { λ r. ⌜ pieceOf r ≡ listPiece (drop (progress .printed) (conflictsOf (progress .conflicts))) (progressOf progress) ⌝ }
 {
     let conflicts = progress.conflicts;
     let n = conflicts.size();
@@ -220,7 +235,7 @@ fn list(progress: Progress) -> Piece
 
 // `end K`, and nothing any more.
 fn end(progress: Progress) -> Piece
-    ensures { λ r. ⌜ Became (λ bytes. restAt bytes stages.Ending progress) 1 (lineOf (r .line)) (r .progress) ⌝ }
+    ensures { λ r. ⌜ pieceOf r ≡ pieceM (endLine (progress .done)) (standing stages.Ended (machineOf (progress .machine)) 0 0 0) ⌝ }
 {
     let machine = progress.machine;
     let line = lines::end_line(progress.done);
@@ -233,7 +248,7 @@ fn end(progress: Progress) -> Piece
 
 // The next piece, where the record of the progress' index is given.
 fn step(progress: Progress, given: Record) -> Piece
-    ensures { λ r. ⌜ Steps (recordView given) progress (lineOf (r .line)) (r .progress) ⌝ }
+    ensures { λ r. ⌜ pieceOf r ≡ pieceAt (progress .stage) (recordView given) (progressOf progress) ⌝ }
 {
     let stage = progress.stage;
     match stage {
@@ -253,7 +268,7 @@ fn step(progress: Progress, given: Record) -> Piece
 
 // The next piece of the sheet in the first of the bytes.
 pub fn advance(progress: Progress, bytes: &[u8; Record::MAX_BYTES]) -> Piece
-    ensures { λ r. ⌜ Advanced (now (bytes .entry)) progress (lineOf (r .line)) (r .progress) ⌝ }
+    ensures { λ r. ⌜ pieceOf r ≡ nextPiece (now (bytes .entry)) (progressOf progress) ⌝ }
 {
     let index = progress.index;
     // The whole array, for its length.

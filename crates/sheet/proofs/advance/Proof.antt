@@ -1,5 +1,6 @@
 -- `advance` meets its contract.
 use Rattle.sheet.proofs.Laws.{reads}
+use Rattle.sheet.specs.View.{progressOf}
 use denote.Ref.{now}
 use borrow.Author.Needs.{needs}
 use Rattle.sheet.proofs.advance.Statement.{statement}
@@ -15,7 +16,7 @@ returns : tie.Need-returns
 returns c =
     let sheet = c .before .before in
     let a = sheet .before .args in
-    c .step .ensures (now (a .bytes)) (reads (now (a .bytes)) (a .progress .index) (sheet .sheet .given .0) (c .before .record-at .ensures))
+    reads (now (a .bytes)) (progressOf (a .progress)) (sheet .sheet .given .0) (c .before .record-at .ensures) (c .step .ensures)
 
 pub advance-spec : {M : Type 1} → statement M
 advance-spec = tie.close (tie.spec record-at-requires step-requires returns)

@@ -1,7 +1,7 @@
 -- `after_record` meets its contract.
-use Rattle.sheet.proofs.Laws.{after-refusal, after-close, after-conflicts, after-pass}
+use Rattle.sheet.proofs.Laws.{both, answered}
 use mathlib.Core.Path.{refl}
-use Rattle.semantics.specs.Sheet.{printAnswer}
+use Rattle.sheet.specs.Pieces.{answerPiece}
 use borrow.Author.Needs.{needs}
 use Rattle.sheet.proofs.after_record.Statement.{statement}
 use Rattle.sheet.proofs.after_record.Tie as tie
@@ -46,37 +46,40 @@ pass-requires-3 : tie.Need-pass-requires-3
 pass-requires-3 c κs = search needs
 
 returns : tie.Need-returns
+unfolding answerPiece
 returns c =
     let a = c .before .before .before .before .before .before .args in
-    after-refusal (a .carried) (a .index) (a .count) (a .next) (a .done) (c .before .before .answer .given .1) (c .refuse .ensures)
+    answered (a .carried) (a .index) (a .count) (a .next) (a .done) (c .before .before .answer .given .1) (c .refuse .ensures)
 
 returns-2 : tie.Need-returns-2
+unfolding answerPiece
 returns-2 c =
     let a = c .before .before .before .before .before .before .before .args in
-    after-close (a .carried) (a .index) (a .count) (a .next) (a .done) (c .before .before .before .answer2 .given .1) refl (c .before .close-line .ensures) (c .follow .ensures)
+    answered (a .carried) (a .index) (a .count) (a .next) (a .done) (c .before .before .before .answer2 .given .1) (both (c .before .close-line .ensures) (c .follow .ensures))
 
 returns-3 : tie.Need-returns-3
+unfolding answerPiece
 returns-3 c =
     let a = c .before .before .before .before .before .args in
-    after-conflicts (a .carried) (a .index) (a .count) (a .next) (a .done) (c .before .enum-told .given .1) (c .new .ensures) refl
+    answered (a .carried) (a .index) (a .count) (a .next) (a .done) (c .before .enum-told .given .1) (both (c .new .ensures) refl)
 
 returns-4 : tie.Need-returns-4
-unfolding printAnswer
+unfolding answerPiece
 returns-4 c =
     let a = c .before .before .before .before .before .before .args in
-    after-pass (a .carried) (a .index) (a .count) (a .next) (a .done) (c .before .before .answer3 .given .1) (λ r. refl) (c .pass .ensures)
+    answered (a .carried) (a .index) (a .count) (a .next) (a .done) (c .before .before .answer3 .given .1) (c .pass .ensures)
 
 returns-5 : tie.Need-returns-5
-unfolding printAnswer
+unfolding answerPiece
 returns-5 c =
     let a = c .before .before .before .before .before .before .args in
-    after-pass (a .carried) (a .index) (a .count) (a .next) (a .done) (c .before .before .answer4 .given .1) (λ r. refl) (c .pass2 .ensures)
+    answered (a .carried) (a .index) (a .count) (a .next) (a .done) (c .before .before .answer4 .given .1) (c .pass2 .ensures)
 
 returns-6 : tie.Need-returns-6
-unfolding printAnswer
+unfolding answerPiece
 returns-6 c =
     let a = c .before .before .before .before .before .args in
-    after-pass (a .carried) (a .index) (a .count) (a .next) (a .done) (c .before .enum-told2 .given .1) (λ r. refl) (c .pass3 .ensures)
+    answered (a .carried) (a .index) (a .count) (a .next) (a .done) (c .before .enum-told2 .given .1) (c .pass3 .ensures)
 
 pub after-record-spec : {M : Type 1} → statement M
 after-record-spec =

@@ -1,6 +1,5 @@
 -- `end` meets its contract.
-use Rattle.sheet.proofs.Laws.{stopped}
-use Rattle.sheet.specs.View.{restAt}
+use Rattle.sheet.proofs.Laws.{both}
 use borrow.Author.Needs.{needs}
 use Rattle.sheet.proofs.end.Statement.{statement}
 use Rattle.sheet.proofs.end.Tie as tie
@@ -12,9 +11,8 @@ at-stage-requires : tie.Need-at-stage-requires
 at-stage-requires c κs = search needs
 
 returns : tie.Need-returns
-unfolding restAt
 returns c =
-    stopped (c .before .end-line .ensures) (c .at-stage .ensures)
+    both (c .before .end-line .ensures) (c .at-stage .ensures)
 
 pub end-spec : {M : Type 1} → statement M
 end-spec = tie.close (tie.spec end-line-requires at-stage-requires returns)

@@ -1,5 +1,5 @@
 -- `list` meets its contract.
-use Rattle.sheet.proofs.Laws.{listed-all, listed-one}
+use Rattle.sheet.proofs.Laws.{both, listed-all, listed-one}
 use mathlib.Core.Path.{refl}
 use borrow.Author.Needs.{needs}
 use Rattle.sheet.proofs.list.Statement.{statement}
@@ -25,7 +25,7 @@ returns c =
     let lined = c .before in
     let then1 = lined .before .before in
     let sized = then1 .before .before in
-    listed-all (sized .before .before .args .progress) (sized .size .ensures .is) (then1 .if1 .taken) (lined .conflicts-line .ensures) (c .follow .ensures)
+    listed-all (sized .before .before .args .progress) (sized .size .ensures .is) (then1 .if1 .taken) (both (lined .conflicts-line .ensures) (c .follow .ensures))
 
 mul-c : tie.Need-mul-c
 mul-c c = search needs
@@ -44,7 +44,7 @@ returns-2 c =
     let lined = c .before in
     let else1 = lined .before .before in
     let sized = else1 .before .before in
-    listed-one (sized .before .before .args .progress) (sized .size .ensures .is) (sized .before .before .pre) (sized .size .ensures .most) (else1 .if1 .left) _ (lined .conflict-line .ensures) refl
+    listed-one (sized .before .before .args .progress) (sized .size .ensures .is) (else1 .if1 .left) _ (both (lined .conflict-line .ensures) refl)
 
 pub list-spec : {M : Type 1} → statement M
 list-spec =

@@ -1,5 +1,5 @@
 -- `refuse` meets its contract.
-use Rattle.sheet.proofs.Laws.{stopped}
+use Rattle.sheet.proofs.Laws.{both}
 use borrow.Author.Needs.{needs}
 use Rattle.sheet.proofs.refuse.Statement.{statement}
 use Rattle.sheet.proofs.refuse.Tie as tie
@@ -12,7 +12,7 @@ at-stage-requires c κs = search needs
 
 returns : tie.Need-returns
 returns c =
-    stopped (c .before .refused-line .ensures) (c .at-stage .ensures)
+    both (c .before .refused-line .ensures) (c .at-stage .ensures)
 
 pub refuse-spec : {M : Type 1} → statement M
 refuse-spec = tie.close (tie.spec refused-line-requires at-stage-requires returns)

@@ -1,8 +1,9 @@
 -- `step` meets its contract.
-use Rattle.sheet.proofs.Laws.{advanced, by-part, stays}
+use Rattle.sheet.proofs.Laws.{both, at-stage}
 use mathlib.Core.Path.{refl}
-use native.Mathlib.Omega.{arith}
-use Rattle.sheet.specs.View.{restAt, piecesAt}
+use Rattle.records.specs.View.{recordView}
+use Rattle.sheet.specs.Pieces.{pieceAt}
+use Rattle.sheet.specs.View.{progressOf}
 use borrow.Author.Needs.{needs}
 use Rattle.sheet.proofs.step.Statement.{statement}
 use Rattle.sheet.proofs.step.Tie as tie
@@ -23,7 +24,7 @@ enum-told-3 : tie.Need-enum-told-3
 enum-told-3 c = search needs
 
 list-requires : tie.Need-list-requires
-list-requires c κs = c .enum-told3 .given .1
+list-requires c κs = search needs
 
 enum-told-4 : tie.Need-enum-told-4
 enum-told-4 c = search needs
@@ -38,26 +39,29 @@ new-requires : tie.Need-new-requires
 new-requires c κs = search needs
 
 returns : tie.Need-returns
-unfolding restAt piecesAt
+unfolding pieceAt
 returns c =
-    λ bytes reads. by-part (c .before .before .before .before .args .progress) (c .before .before .enum-told .given .1) bytes refl refl (c .refuse .ensures)
+    let a = c .before .before .before .before .args in at-stage (recordView (a .given)) (progressOf (a .progress)) (c .before .before .enum-told .given .1) (c .refuse .ensures)
 
 returns-2 : tie.Need-returns-2
+unfolding pieceAt
 returns-2 c =
-    λ bytes reads. advanced (c .before .before .before .args .progress) (c .before .enum-told2 .given .1) bytes (c .visit .ensures .rest bytes reads) (omega (arith, c .visit .ensures .less))
+    let a = c .before .before .before .args in at-stage (recordView (a .given)) (progressOf (a .progress)) (c .before .enum-told2 .given .1) (c .visit .ensures)
 
 returns-3 : tie.Need-returns-3
+unfolding pieceAt
 returns-3 c =
-    λ bytes reads. by-part (c .before .before .before .args .progress) (c .before .enum-told3 .given .1) bytes refl refl (c .list .ensures)
+    let a = c .before .before .before .args in at-stage (recordView (a .given)) (progressOf (a .progress)) (c .before .enum-told3 .given .1) (c .list .ensures)
 
 returns-4 : tie.Need-returns-4
-unfolding piecesAt
+unfolding pieceAt
 returns-4 c =
-    λ bytes reads. by-part (c .before .before .before .args .progress) (c .before .enum-told4 .given .1) bytes refl refl (c .end .ensures)
+    let a = c .before .before .before .args in at-stage (recordView (a .given)) (progressOf (a .progress)) (c .before .enum-told4 .given .1) (c .end .ensures)
 
 returns-5 : tie.Need-returns-5
+unfolding pieceAt
 returns-5 c =
-    λ bytes reads. stays (c .before .before .before .args .progress) (c .before .enum-told5 .given .1) bytes (c .new .ensures)
+    let a = c .before .before .before .args in at-stage (recordView (a .given)) (progressOf (a .progress)) (c .before .enum-told5 .given .1) (both (c .new .ensures) refl)
 
 pub step-spec : {M : Type 1} → statement M
 step-spec =

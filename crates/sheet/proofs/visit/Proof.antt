@@ -1,8 +1,8 @@
 -- `visit` meets its contract.
 use Rattle.ids.proofs.Tests.{told}
-use Rattle.carrying.specs.View.{stepOf}
 use Rattle.carrying.proofs.Laws.{carried-step}
 use Rattle.sheet.proofs.Laws.{visited-broken, visited-whole}
+use Rattle.sheet.specs.View.{progressOf}
 use Rattle.records.specs.View.{recordView}
 use borrow.Author.Needs.{needs}
 use Rattle.sheet.proofs.visit.Statement.{statement}
@@ -22,7 +22,7 @@ returns c =
     let found = c .before .before in
     let d = found .before .done-before in
     let a = found .before .before .before .args in
-    visited-broken (recordView (a .given)) (a .progress) (d .result) (d .ensures .0) (told (found .is-broken .ensures) (c .before .if1 .taken)) (c .refuse .ensures)
+    visited-broken (recordView (a .given)) (progressOf (a .progress)) (d .ensures .0) (told (found .is-broken .ensures) (c .before .if1 .taken)) (c .refuse .ensures)
 
 carry-out-requires : tie.Need-carry-out-requires
 carry-out-requires c κs = search needs
@@ -38,7 +38,7 @@ returns-2 c =
     let found = c .before .before .before in
     let d = found .before .done-before in
     let a = found .before .before .before .args in
-    visited-whole (recordView (a .given)) (a .progress) (d .result) (d .ensures .0) (stepOf (c .before .carry-out .result))
+    visited-whole (recordView (a .given)) (progressOf (a .progress)) (d .ensures .0)
     (told (found .is-broken .ensures) (c .before .before .if1 .left))
     (carried-step (c .before .carry-out .result) (c .before .carry-out .ensures))
     (c .after-record .ensures)

@@ -1,0 +1,16 @@
+-- `at_stage` meets its contract.
+use Rattle.sheet.proofs.Laws.{unlisted}
+use Rattle.carrying.specs.View.{machineOf}
+use borrow.Author.Needs.{needs}
+use Rattle.sheet.proofs.at_stage.Statement.{statement}
+use Rattle.sheet.proofs.at_stage.Tie as tie
+
+new-requires : tie.Need-new-requires
+new-requires c κs = search needs
+
+returns : tie.Need-returns
+returns c =
+    let a = c .before .args in unlisted (a .stage) (machineOf (a .machine)) (a .count) (a .index) (a .done) (c .new .ensures)
+
+pub at-stage-spec : {M : Type 1} → statement M
+at-stage-spec = tie.close (tie.spec new-requires returns)
