@@ -1,10 +1,19 @@
 // Reads a sheet from standard input, carries out its records and prints their lines.
 use libc::STDIN_FILENO;
 use libc::STDOUT_FILENO;
-use lines::Line;
+use pages::Page;
 use records::Record;
-use sheet::Progress;
-use sheet::Stage;
+ghost use mathlib.Core.Path.{_≡_};
+ghost use Rattle.io.specs.Counts.{Counts};
+ghost use Rattle.close_sheet.specs.Reading.{afterRead, Gave, Reads, readingOf};
+
+// What a read came to: so many bytes are there, and there may be more; the input has ended with so many, one more than
+// the longest sheet has where there are more; or it failed.
+pub enum Reading {
+    On(usize),
+    Whole(usize),
+    Failed,
+}
 
 // What was read: so many bytes, one more than the longest sheet has where there are more; or a read failed.
 pub enum Input {
@@ -12,126 +21,98 @@ pub enum Input {
     Failed,
 }
 
-// One read, into the bytes from an index on.
-fn read_from(bytes: &mut [u8], at: usize) -> isize {
-    if bytes.len() <= at {
-        return 0;
+// After a read that failed or gave n bytes, where so many were there before it.
+fn after_read(at: usize, failed: bool, n: usize) -> Reading
+    ensures { λ r. ⌜ r ≡ afterRead at failed n ⌝ }
+    ensures { λ r. ⌜ Gave at r ⌝ }
+{
+    let over = Record::MAX_BYTES + 1;
+    if failed {
+        return Reading::Failed;
     }
-    libc::read(STDIN_FILENO, &mut bytes[at..])
-}
-
-// So many bytes further, but not past the end of the longest sheet.
-fn further(at: usize, n: usize) -> usize {
-    if Record::MAX_BYTES <= at {
-        return at;
+    if n == 0 {
+        return Reading::Whole(at);
+    }
+    if Record::MAX_BYTES < at {
+        return Reading::Whole(over);
     }
     if Record::MAX_BYTES - at < n {
-        return Record::MAX_BYTES;
+        return Reading::Whole(over);
     }
-    at + n
+    Reading::On(at + n)
 }
 
-// Where the bytes end after a read.
-fn after_read(bytes: &[u8; Record::MAX_BYTES], at: usize, got: isize) -> usize {
-    further(at, io::count(got, bytes))
+// One read, into a part of the bytes.
+fn read_into(part: &mut [u8], at: usize) -> Reading
+    ensures { λ r. ⌜ Gave at r ⌝ }
+{
+    let got = libc::read(STDIN_FILENO, part);
+    let failed = got < 0;
+    let n = io::count(got, part);
+    after_read(at, failed, n)
 }
 
-// Whether the input goes on: one byte more is read.
-fn read_past() -> isize {
-    let mut more = [0u8; 1];
-    libc::read(STDIN_FILENO, &mut more)
+// One read, into the bytes from an index on; past the last, of one byte more.
+fn read_on(bytes: &mut [u8], at: usize) -> Reading
+    ensures { λ r. ⌜ Gave at r ⌝ }
+{
+    if bytes.len() <= at {
+        let mut more = [0u8; 1];
+        return read_into(&mut more, at);
+    }
+    read_into(&mut bytes[at..], at)
 }
 
-fn read_sheet(bytes: &mut [u8; Record::MAX_BYTES]) -> Input {
+fn read_sheet(bytes: &mut [u8; Record::MAX_BYTES]) -> Input
+    ensures { λ r. ⌜ Reads 0 (readingOf r) ⌝ }
+{
     let mut at: usize = 0;
-    for i in 0..Record::MAX_BYTES {
-        if Record::MAX_BYTES <= at {
-            break;
-        }
-        let got = read_from(bytes, at);
-        if got < 0 {
-            return Input::Failed;
-        }
-        if got == 0 {
-            return Input::Bytes(at);
-        }
-        at = after_read(bytes, at, got);
-    }
-    let more = read_past();
-    if more < 0 {
-        return Input::Failed;
-    }
-    if more == 0 {
-        return Input::Bytes(at);
-    }
-    let over = Record::MAX_BYTES + 1;
-    Input::Bytes(over)
-}
-
-// The text to write: the first n bytes of an array. So many are gathered before they are written.
-
-const MAX_TEXT: usize = 65536;
-
-fn write_first(text: &[u8], n: usize) -> bool {
-    if MAX_TEXT < n {
-        return true;
-    }
-    let m = io::count(n as isize, text);
-    io::write_all(STDOUT_FILENO, &text[..m])
-}
-
-fn flush(text: &[u8; MAX_TEXT], n: usize) -> bool {
-    write_first(text, n)
-}
-
-fn put(text: &mut [u8; MAX_TEXT], n: usize, b: u8) -> usize {
-    if MAX_TEXT <= n {
-        return n;
-    }
-    text[n] = b;
-    n + 1
-}
-
-fn put_line(text: &mut [u8; MAX_TEXT], n: usize, line: Line) -> usize {
-    let size = line.size();
-    let mut at = n;
-    for i in 0..size {
-        at = put(text, at, line.bytes[i]);
-    }
-    at
-}
-
-// The pieces of a sheet, from the first to the last; false where a write failed.
-fn run(bytes: &[u8; Record::MAX_BYTES], text: &mut [u8; MAX_TEXT], length: usize) -> bool {
-    let mut progress = sheet::start(length);
-    let mut n: usize = 0;
-    for i in 0..Progress::MAX_PIECES {
-        let stage = progress.stage;
-        if let Stage::Ended = stage {
-            break;
-        }
-        let piece = sheet::advance(progress, bytes);
-        let line = piece.line;
-        let next = piece.progress;
-        progress = next;
-        n = put_line(text, n, line);
-        if MAX_TEXT - Line::MAX_LEN < n {
-            if !flush(text, n) {
-                return false;
+    loop {
+        let reading = read_on(bytes, at);
+        match reading {
+            Reading::On(n) => {
+                at = n;
             }
-            n = 0;
+            Reading::Whole(n) => {
+                return Input::Bytes(n);
+            }
+            Reading::Failed => {
+                return Input::Failed;
+            }
         }
     }
-    flush(text, n)
+}
+
+fn write_page(text: &[u8], n: usize) -> bool
+    requires { ⌜ Counts n (now text) ⌝ }
+{
+    io::write_all(STDOUT_FILENO, &text[..n])
+}
+
+// The pages of a sheet of so many bytes, from the first to the last; false where a write failed.
+fn print(bytes: &[u8; Record::MAX_BYTES], text: &mut [u8; Page::MAX_LEN], length: usize) -> bool {
+    let mut progress = sheet::start(length);
+    loop {
+        let stage = progress.stage;
+        if stage.is_ended() {
+            return true;
+        }
+        let page = pages::fill(progress, bytes, text);
+        if !write_page(text, page.len) {
+            return false;
+        }
+        let next = page.progress;
+        progress = next;
+    }
 }
 
 fn main() {
     let mut bytes = [0u8; Record::MAX_BYTES];
-    let mut text = [0u8; MAX_TEXT];
+    let mut text = [0u8; Page::MAX_LEN];
     let input = read_sheet(&mut bytes);
     match input {
         Input::Bytes(length) => {
-            if !run(&bytes, &mut text, length) {
+            if !print(&bytes, &mut text, length) {
                 os::fail(b"standard output");
             }
         }

@@ -1,53 +1,62 @@
--- `read_sheet` is safe and ends.
+-- `read_sheet` meets its contract, and ends: a read after which there may be more gave a byte.
 use Prim.Native.Nat.{_-_}
+use mathlib.Core.Path.{subst}
+use native.Mathlib.Omega.{arith}
 use borrow.Author.Needs.{needs}
+use Rattle.close_sheet.specs.declared.Reading.{Reading}
+use Rattle.close_sheet.specs.Reading.{maxBytes, Gave, Reads, last, next, readingOf}
+use Rattle.close_sheet.proofs.Laws.{grows}
 use Rattle.close_sheet.proofs.read_sheet.Statement.{statement}
 use Rattle.close_sheet.proofs.read_sheet.Tie as tie
 
+-- what the reads from here on come to is what all of them come to
 abbrev Inv-loop : tie.InvT-loop
-Inv-loop bytes₀ at₀ i₀ bytes at i = Unit {0}
+Inv-loop bytes₀ at₀ bytes at = (r : Reading) → Reads at r → Reads 0 r
 
 abbrev μ-loop : tie.MeasureT-loop
-μ-loop bytes₀ at₀ i₀ bytes at i = 32768 - i
+μ-loop bytes₀ at₀ bytes at = maxBytes - at
 
 loop-holds : tie.Need-loop-holds Inv-loop μ-loop
-loop-holds c = tt
+loop-holds c = λ r h. h
 
-read-from-requires : tie.Need-read-from-requires Inv-loop μ-loop
-read-from-requires c κs = search needs
+read-on-requires : tie.Need-read-on-requires Inv-loop μ-loop
+read-on-requires c κs = search needs
 
-returns : tie.Need-returns Inv-loop μ-loop
-returns c = tt
-
-returns-2 : tie.Need-returns-2 Inv-loop μ-loop
-returns-2 c = tt
-
-after-read-requires : tie.Need-after-read-requires Inv-loop μ-loop
-after-read-requires c κs = search needs
-
-add-i : tie.Need-add-i Inv-loop μ-loop
-add-i c = search needs
+enum-known-reading : tie.Need-enum-known-reading Inv-loop μ-loop
+enum-known-reading c = search needs
 
 loop-less : tie.Need-loop-less Inv-loop μ-loop
-loop-less c = search needs
+loop-less c =
+    let done = c .before .before .before in
+    let l = done .before .before .loop in
+    let more = grows (l .at) _ (subst (Gave (l .at)) (c .before .reading .given .1) (done .read-on .ensures)) in
+    omega (arith, more .0, more .1)
 
 loop-again : tie.Need-loop-again Inv-loop μ-loop
-loop-again c = tt
+loop-again c =
+    let done = c .before .before .before in
+    let l = done .before .before .loop in
+    λ r h. l .inv r (next (subst (Gave (l .at)) (c .before .reading .given .1) (done .read-on .ensures)) h)
 
-read-past-requires : tie.Need-read-past-requires Inv-loop μ-loop
-read-past-requires c κs = search needs
+enum-known-reading-2 : tie.Need-enum-known-reading-2 Inv-loop μ-loop
+enum-known-reading-2 c = search needs
 
-returns-3 : tie.Need-returns-3 Inv-loop μ-loop
-returns-3 c = tt
+returns : tie.Need-returns Inv-loop μ-loop
+unfolding readingOf
+returns c =
+    let done = c .before .before .before in
+    let l = done .before .before .loop in
+    l .inv _ (last (subst (Gave (l .at)) (c .before .reading2 .given .1) (done .read-on .ensures)))
 
-returns-4 : tie.Need-returns-4 Inv-loop μ-loop
-returns-4 c = tt
+enum-told : tie.Need-enum-told Inv-loop μ-loop
+enum-told c = search needs
 
-add-over : tie.Need-add-over Inv-loop μ-loop
-add-over c = search needs
-
-returns-5 : tie.Need-returns-5 Inv-loop μ-loop
-returns-5 c = tt
+returns-2 : tie.Need-returns-2 Inv-loop μ-loop
+unfolding readingOf
+returns-2 c =
+    let done = c .before .before in
+    let l = done .before .before .loop in
+    l .inv _ (last (subst (Gave (l .at)) (c .enum-told .given .1) (done .read-on .ensures)))
 
 pub read-sheet-spec : {M : Type 1} → statement M
 read-sheet-spec =
@@ -56,15 +65,11 @@ read-sheet-spec =
     Inv-loop
     μ-loop
     loop-holds
-    read-from-requires
-    returns
-    returns-2
-    after-read-requires
-    add-i
+    read-on-requires
+    enum-known-reading
     loop-less
     loop-again
-    read-past-requires
-    returns-3
-    returns-4
-    add-over
-    returns-5)
+    enum-known-reading-2
+    returns
+    enum-told
+    returns-2)

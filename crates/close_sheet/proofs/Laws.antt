@@ -1,0 +1,59 @@
+-- Laws of the reads of a sheet.
+use Prim.Native.Nat.{ℕ, suc, _+_, _≤_, _<_}
+use mathlib.Core.Path.{_≡_, refl, sym, ap, _∙_}
+use mathlib.Core.Bool.{Bool, true, false}
+use native.Mathlib.Omega.{arith}
+use lib.Dec.{eqb, ltb}
+use borrow.Author.Tests.{eq-eqb, ne-eqb, eqb-true, eqb-false, lt-ltb, le-ltb, ltb-true, ltb-false}
+use Rattle.close_sheet.specs.declared.Reading.{Reading}
+use Rattle.close_sheet.specs.declared.Reading.the-variants as readings
+use Rattle.close_sheet.specs.Reading.{maxBytes, counted, given, afterRead, Gave}
+
+-- what a read comes to, by the code's tests
+module _ (at : ℕ) (failed : Bool) (n : ℕ) where
+  pub after-failed : failed ≡ true → readings.Failed ≡ afterRead at failed n
+  unfolding afterRead
+  after-failed h = ap (λ (b : Bool). afterRead at b n) (sym h)
+
+  not-failed : failed ≡ false → given (eqb n 0) at n ≡ afterRead at failed n
+  unfolding afterRead
+  not-failed h = ap (λ (b : Bool). afterRead at b n) (sym h)
+
+  pub after-end : failed ≡ false → n ≡ 0 → readings.Whole at ≡ afterRead at failed n
+  unfolding given
+  after-end h e = ap (λ (b : Bool). given b at n) (sym (eq-eqb n 0 e)) ∙ not-failed h
+
+  pub after-over : failed ≡ false → (n ≡ 0 → ⊥) → maxBytes < at + n → readings.Whole (maxBytes + 1) ≡ afterRead at failed n
+  unfolding given counted
+  after-over h e l =
+      ap (λ (b : Bool). counted b (at + n)) (sym (lt-ltb maxBytes (at + n) l)) ∙ ap (λ (b : Bool). given b at n) (sym (ne-eqb n 0 e)) ∙ not-failed h
+
+  pub after-more : failed ≡ false → (n ≡ 0 → ⊥) → at + n ≤ maxBytes → readings.On (at + n) ≡ afterRead at failed n
+  unfolding given counted
+  after-more h e l =
+      ap (λ (b : Bool). counted b (at + n)) (sym (le-ltb maxBytes (at + n) l)) ∙ ap (λ (b : Bool). given b at n) (sym (ne-eqb n 0 e)) ∙ not-failed h
+
+  pub gave : {r : Reading} → r ≡ afterRead at failed n → (r ≡ afterRead at failed n) × Gave at r
+  gave e = (e, record { failed = failed; n = n; is = e })
+
+-- where there may be more, there are more bytes than before, and not more than the longest sheet has
+there : Reading → ℕ
+there (readings.On n) = suc n
+there (readings.Whole n) = 0
+there readings.Failed = 0
+
+pub grows : (at m : ℕ) → Gave at (readings.On m) → (at < m) × (m ≤ maxBytes)
+unfolding there
+grows at m g = go (g .failed) (eqb (g .n) 0) (ltb maxBytes (at + g .n)) refl refl refl where
+  go : (f a b : Bool) → g .failed ≡ f → eqb (g .n) 0 ≡ a → ltb maxBytes (at + g .n) ≡ b → (at < m) × (m ≤ maxBytes)
+  go true a b e h k =
+      let none : suc m ≡ 0 = ap there (g .is ∙ sym (after-failed at (g .failed) (g .n) e)) in absurd (omega (arith, none))
+  go false true b e h k =
+      let none : suc m ≡ 0 = ap there (g .is ∙ sym (after-end at (g .failed) (g .n) e (eqb-true _ 0 h))) in absurd (omega (arith, none))
+  go false false true e h k =
+      let none : suc m ≡ 0 = ap there (g .is ∙ sym (after-over at (g .failed) (g .n) e (eqb-false _ 0 h) (ltb-true _ _ k))) in absurd (omega (arith, none))
+  go false false false e h k =
+      let some : g .n ≡ 0 → ⊥ = eqb-false (g .n) 0 h in
+      let most : at + g .n ≤ maxBytes = ltb-false maxBytes (at + g .n) k in
+      let is : suc m ≡ suc (at + g .n) = ap there (g .is ∙ sym (after-more at (g .failed) (g .n) e some most)) in
+      (omega (arith, is, some), omega (arith, is, most))

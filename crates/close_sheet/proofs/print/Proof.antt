@@ -1,0 +1,69 @@
+-- `print` is safe, and ends: each page leaves fewer pieces.
+use Prim.Native.Nat.{_-_, _≤_, _<_}
+use mathlib.Core.Path.{sym}
+use native.Mathlib.Omega.{arith}
+use lib.Seq.{length-take-le}
+use borrow.Author.Needs.{needs}
+use Rattle.ids.proofs.Tests.{told}
+use Rattle.sheet.specs.Pieces.{piecesOf}
+use Rattle.sheet.specs.View.{progressOf}
+use Rattle.sheet.proofs.Pieces.{some-left}
+use Rattle.close_sheet.proofs.print.Statement.{statement}
+use Rattle.close_sheet.proofs.print.Tie as tie
+
+abbrev Inv-loop : tie.InvT-loop
+Inv-loop bytes text₀ length progress₀ text progress = Unit {0}
+
+abbrev μ-loop : tie.MeasureT-loop
+μ-loop bytes text₀ length progress₀ text progress = piecesOf bytes (progressOf progress)
+
+start-requires : tie.Need-start-requires Inv-loop μ-loop
+start-requires c κs = search needs
+
+loop-holds : tie.Need-loop-holds Inv-loop μ-loop
+loop-holds c = tt
+
+is-ended-requires : tie.Need-is-ended-requires Inv-loop μ-loop
+is-ended-requires c κs = search needs
+
+returns : tie.Need-returns Inv-loop μ-loop
+returns c = tt
+
+fill-requires : tie.Need-fill-requires Inv-loop μ-loop
+fill-requires c κs = search needs
+
+write-page-requires : tie.Need-write-page-requires Inv-loop μ-loop
+write-page-requires c κs =
+    let page = c .before .before .fill in (page .ensures .within, sym (length-take-le (page .result .len) _ (page .ensures .within)))
+
+returns-2 : tie.Need-returns-2 Inv-loop μ-loop
+returns-2 c = tt
+
+loop-less : tie.Need-loop-less Inv-loop μ-loop
+loop-less c =
+    let filled = c .before .before .before .before .before in
+    let tested = filled .before .before in
+    let p = progressOf (tested .before .before .loop .progress) in
+    let bytes = tested .before .before .before .before .args .bytes .now in
+    let some : 0 < piecesOf bytes p = some-left bytes p (told (tested .before .is-ended .ensures) (tested .if1 .left)) in
+    let less : piecesOf bytes (progressOf (filled .fill .result .progress)) ≤ piecesOf bytes p - 1 = filled .fill .ensures .less in
+    omega (arith, some, less)
+
+loop-again : tie.Need-loop-again Inv-loop μ-loop
+loop-again c = tt
+
+pub print-spec : {M : Type 1} → statement M
+print-spec =
+    tie.close
+    (tie.spec
+    Inv-loop
+    μ-loop
+    start-requires
+    loop-holds
+    is-ended-requires
+    returns
+    fill-requires
+    write-page-requires
+    returns-2
+    loop-less
+    loop-again)
