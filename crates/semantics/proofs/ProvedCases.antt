@@ -244,17 +244,17 @@ typesAndFuncs = typ model [] ∷ typ model [] ∷ typ (mor 0) [] ∷ typ (mor 1)
 abbrev pub signature7 : List Call
 signature7 = typesAndFuncs ++ (modelOf 0 2 (0 ∷ 1 ∷ 2 ∷ 3 ∷ []) ∷ morApp 4 2 4 ∷ [])
 
--- the facts of the elements 0, 1, .. with the types 0 to 3, n in all, before the facts fs
+-- the facts of the elements 0, 1, .., each with all types, n in all, before the facts fs
 unfoldable pub factsBefore : ℕ → List Fact → List Fact
 factsBefore zero fs = fs
-factsBefore (suc n) fs = factsBefore n (fact (n / 4) (n % 4) [] ∷ fs)
+factsBefore (suc n) fs = factsBefore n (fact (n / maxTypes) (n % maxTypes) [] ∷ fs)
 
 abbrev pub setFacts : List Fact → Machine → Machine
 setFacts fs m = record { sig = m .sig; structure = with-facts fs (m .structure) }
 
--- four types, all elements that there can be, and n facts
+-- all types that there can be, as many elements, and n facts
 abbrev pub holding : ℕ → Machine
-holding n = setFacts (factsBefore n []) (leftBy (downFrom 4 (λ n. typ plain []) ++ downFrom maxEls (λ n. plainEl)) start)
+holding n = setFacts (factsBefore n []) (leftBy (downFrom maxTypes (λ n. typ plain []) ++ downFrom maxTypes (λ n. plainEl)) start)
 
 -- The table.
 
@@ -522,12 +522,17 @@ table =
     }
     -- number 8: "model type, function in records 4 and 5, morphism pair, .. given again"
     ∷ record {
-      source = calls
-          (signature7
-          ++ (modelOf 0 2 (5 ∷ 6 ∷ 7 ∷ 8 ∷ []) ∷ modelOf 1 3 (5 ∷ 6 ∷ 7 ∷ 0 ∷ []) ∷ modelOf 1 3 (4 ∷ 6 ∷ 7 ∷ 8 ∷ [])
-          ∷ modelOf 1 3 (5 ∷ 6 ∷ 7 ∷ 5 ∷ []) ∷ morApp 3 3 4 ∷ morApp 4 3 4 ∷ morApp 5 2 4 ∷ []));
-      output = tells (refuses 8 ∷ refuses 8 ∷ refuses 8 ∷ refuses 8 ∷ refuses 8 ∷ refuses 8 ∷ refuses 8 ∷ []);
+      source = calls (signature7 ++ (modelOf 0 2 (5 ∷ 6 ∷ 7 ∷ 8 ∷ []) ∷ []));
+      output = tells (refuses 8 ∷ []);
       claims = machine is whole (leftBy signature7 start) ∷ [];
+    }
+    ∷ record {
+      source = calls signature7;
+      output = tells [];
+      claims =
+          answer (modelOf 1 3 (5 ∷ 6 ∷ 7 ∷ 0 ∷ [])) is said (refuse 8) ∷ answer (modelOf 1 3 (4 ∷ 6 ∷ 7 ∷ 8 ∷ [])) is said (refuse 8)
+          ∷ answer (modelOf 1 3 (5 ∷ 6 ∷ 7 ∷ 5 ∷ [])) is said (refuse 8) ∷ answer (morApp 3 3 4) is said (refuse 8)
+          ∷ answer (morApp 4 3 4) is said (refuse 8) ∷ answer (morApp 5 2 4) is said (refuse 8) ∷ [];
     }
     -- number 8: ".., variable or ambient given again"
     ∷ record {
