@@ -1,4 +1,5 @@
 -- `at_stage` meets its contract.
+use Rattle.ids.proofs.Lists.{as-held}
 use Rattle.sheet.proofs.Laws.{unlisted}
 use Rattle.carrying.specs.View.{machineOf}
 use borrow.Author.Needs.{needs}
@@ -10,7 +11,7 @@ new-requires c κs = search needs
 
 returns : tie.Need-returns
 returns c =
-    let a = c .before .args in unlisted (a .stage) (machineOf (a .machine)) (a .count) (a .index) (a .done) (c .new .ensures)
+    let a = c .before .args in unlisted (a .stage) (machineOf (a .machine)) (a .count) (a .index) (a .done) (as-held (c .new .ensures))
 
 pub at-stage-spec : {M : Type 1} → statement M
 at-stage-spec = tie.close (tie.spec new-requires returns)
