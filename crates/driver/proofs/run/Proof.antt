@@ -47,7 +47,7 @@ loop-again c =
     let bytes = now (at .before .before .before .before .args .bytes) in (
       omega arith,
       c .carry-out .ensures
-      ∙ ap responded (goes-on bytes (at .loop .i) (omega (arith, c .before .before .before .loop-test .taken)) (ap (λ (x : RespondedM). x .step) (at .loop .inv .1)) (c .before .record-in .ensures)),
+          ∙ ap responded (goes-on bytes (at .loop .i) (omega (arith, c .before .before .before .loop-test .taken)) (ap (λ (x : RespondedM). x .step) (at .loop .inv .1)) (c .before .record-in .ensures)),
     )
 
 returns : tie.Need-returns Inv-loop μ-loop
