@@ -4,10 +4,18 @@ use mathlib.Core.Path.{_≡_, refl, sym, ap, _∙_}
 use mathlib.Core.Bool.{Bool, true, false}
 use native.Mathlib.Omega.{arith}
 use lib.Dec.{eqb, ltb}
+use lib.IntN.{ℤ, pos, negsuc}
+use lib.Signed.{ltZ}
 use borrow.Author.Tests.{eq-eqb, ne-eqb, eqb-true, eqb-false, lt-ltb, le-ltb, ltb-true, ltb-false}
 use Rattle.close_sheet.specs.declared.Reading.{Reading}
 use Rattle.close_sheet.specs.declared.Reading.the-variants as readings
-use Rattle.close_sheet.specs.Reading.{maxBytes, counted, given, afterRead, Gave}
+use Rattle.close_sheet.specs.Reading.{isNegative, maxBytes, counted, given, afterRead, Gave}
+
+-- a number below zero, by the code's test
+pub below-zero : (z : ℤ) → ltZ z (pos 0) ≡ isNegative z
+unfolding isNegative
+below-zero (pos k) = le-ltb k 0 (omega arith)
+below-zero (negsuc k) = refl
 
 -- what a read comes to, by the code's tests
 module _ (at : ℕ) (failed : Bool) (n : ℕ) where
@@ -32,9 +40,6 @@ module _ (at : ℕ) (failed : Bool) (n : ℕ) where
   unfolding given counted
   after-more h e l =
       ap (λ (b : Bool). counted b (at + n)) (sym (le-ltb maxBytes (at + n) l)) ∙ ap (λ (b : Bool). given b at n) (sym (ne-eqb n 0 e)) ∙ not-failed h
-
-  pub gave : {r : Reading} → r ≡ afterRead at failed n → (r ≡ afterRead at failed n) × Gave at r
-  gave e = (e, record { failed = failed; n = n; is = e })
 
 -- where there may be more, there are more bytes than before, and not more than the longest sheet has
 there : Reading → ℕ

@@ -3,6 +3,7 @@ use Prim.Native.Nat.{ℕ, _+_, _*_}
 use mathlib.Core.Path.{_≡_}
 use mathlib.Core.Bool.{Bool, true, false}
 use lib.Dec.{eqb, ltb}
+use lib.IntN.{ℤ, pos, negsuc}
 use Rattle.semantics.specs.Sheet.{maxRecords, recordBytes}
 use Rattle.close_sheet.specs.declared.Reading.{Reading}
 use Rattle.close_sheet.specs.declared.Reading.the-variants as readings
@@ -27,6 +28,11 @@ given false at n = counted (ltb maxBytes (at + n)) (at + n)
 unfoldable pub afterRead : ℕ → Bool → ℕ → Reading
 afterRead at true n = readings.Failed
 afterRead at false n = given (eqb n 0) at n
+
+-- the C library answers a read that failed with a number below zero
+unfoldable pub isNegative : ℤ → Bool
+isNegative (pos k) = false
+isNegative (negsuc k) = true
 
 -- what a read can come to: which of these it is, is for the C library to say
 pub record Gave (at : ℕ) (r : Reading) : Type 0 where

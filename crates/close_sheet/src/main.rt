@@ -4,8 +4,9 @@ use libc::STDOUT_FILENO;
 use pages::Page;
 use records::Record;
 ghost use mathlib.Core.Path.{_≡_};
-ghost use Rattle.io.specs.Counts.{Counts};
-ghost use Rattle.close_sheet.specs.Reading.{afterRead, Gave, Reads, readingOf};
+ghost use lib.ListN.{length};
+ghost use Rattle.io.specs.Counts.{Counts, clamped};
+ghost use Rattle.close_sheet.specs.Reading.{isNegative, afterRead, Gave, Reads, readingOf};
 
 // What a read came to: so many bytes are there, and there may be more; the input has ended with so many, one more than
 // the longest sheet has where there are more; or it failed.
@@ -24,7 +25,6 @@ pub enum Input {
 // After a read that failed or gave n bytes, where so many were there before it.
 fn after_read(at: usize, failed: bool, n: usize) -> Reading
     ensures { λ r. ⌜ r ≡ afterRead at failed n ⌝ }
-    ensures { λ r. ⌜ Gave at r ⌝ }
 {
     let over = Record::MAX_BYTES + 1;
     if failed {
@@ -42,14 +42,28 @@ fn after_read(at: usize, failed: bool, n: usize) -> Reading
     Reading::On(at + n)
 }
 
+// Whether the C library's answer tells of a failure.
+fn is_failure(got: isize) -> bool
+    ensures { λ r. ⌜ r ≡ isNegative got ⌝ }
+{
+    got < 0
+}
+
+// What a read into a part of the bytes came to, by what the C library answered.
+fn came_to(at: usize, got: isize, part: &[u8]) -> Reading
+    ensures { λ r. ⌜ r ≡ afterRead at (isNegative got) (clamped got (length (now (part .entry)))) ⌝ }
+{
+    let failed = is_failure(got);
+    let n = io::count(got, part);
+    after_read(at, failed, n)
+}
+
 // One read, into a part of the bytes.
 fn read_into(part: &mut [u8], at: usize) -> Reading
     ensures { λ r. ⌜ Gave at r ⌝ }
 {
     let got = libc::read(STDIN_FILENO, part);
-    let failed = got < 0;
-    let n = io::count(got, part);
-    after_read(at, failed, n)
+    came_to(at, got, part)
 }
 
 // One read, into the bytes from an index on; past the last, of one byte more.
