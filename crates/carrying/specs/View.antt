@@ -30,16 +30,16 @@ abbrev pub stepOf : Carried → calls.Step
 stepOf r = record { answer = answerOf (conflictsOf (r .conflicts)) (r .answer); after = machineOf (r .machine) }
 
 -- the conflicts that an answer lists: none where it is another
-abbrev pub listed : calls.Answer → List Conflict
-listed (calls.number n) = []
-listed (calls.says b) = []
-listed calls.done = []
-listed (calls.closed c) = []
-listed (calls.conflicting cs) = cs
-listed (calls.found f) = []
-listed (calls.typed t) = []
-listed (calls.els es) = []
-listed (calls.refuse n) = []
+abbrev pub conflictsBeside : calls.Answer → List Conflict
+conflictsBeside (calls.number n) = []
+conflictsBeside (calls.says b) = []
+conflictsBeside calls.done = []
+conflictsBeside (calls.closed c) = []
+conflictsBeside (calls.conflicting cs) = cs
+conflictsBeside (calls.found f) = []
+conflictsBeside (calls.typed t) = []
+conflictsBeside (calls.els es) = []
+conflictsBeside (calls.refuse n) = []
 
 -- a step, and the conflicts that stand beside its answer
 pub record CarriedM : Type 0 where
@@ -51,7 +51,7 @@ carriedOf r = record { step = stepOf r; conflicts = handedConflicts (r .conflict
 
 -- beside an answer stand the conflicts that it lists
 abbrev pub carried : calls.Step → CarriedM
-carried s = record { step = s; conflicts = whole (listed (s .answer)) }
+carried s = record { step = s; conflicts = whole (conflictsBeside (s .answer)) }
 
 -- what a record that fits its kind's form answers
 unfoldable pub formStep : Option Form → sheet.Record → calls.Machine → calls.Step

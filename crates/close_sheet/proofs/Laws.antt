@@ -2,7 +2,10 @@
 use Prim.Native.Nat.{ℕ, suc, _+_, _≤_, _<_}
 use mathlib.Core.Path.{_≡_, refl, sym, ap, _∙_}
 use mathlib.Core.Bool.{Bool, true, false}
+use mathlib.Core.List.{List, _++_}
 use native.Mathlib.Omega.{arith}
+use lib.ListN.{length, take, length-take}
+use lib.Seq.{take-all, take-append-le}
 use lib.Dec.{eqb, ltb}
 use lib.IntN.{ℤ, pos, negsuc}
 use lib.Signed.{ltZ}
@@ -40,6 +43,11 @@ module _ (at : ℕ) (failed : Bool) (n : ℕ) where
   unfolding given counted
   after-more h e l =
       ap (λ (b : Bool). counted b (at + n)) (sym (le-ltb maxBytes (at + n) l)) ∙ ap (λ (b : Bool). given b at n) (sym (ne-eqb n 0 e)) ∙ not-failed h
+
+-- the first a entries, where others are put after them
+pub kept-before : (a : ℕ) (xs zs : List ℕ) → a ≤ length xs → take a (take a xs ++ zs) ≡ take a xs
+kept-before a xs zs h =
+    take-append-le a (take a xs) zs (omega (arith, length-take a xs)) ∙ take-all a (take a xs) (omega (arith, length-take a xs))
 
 -- where there may be more, there are more bytes than before, and not more than the longest sheet has
 there : Reading → ℕ

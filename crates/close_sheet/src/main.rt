@@ -4,7 +4,7 @@ use libc::STDOUT_FILENO;
 use pages::Page;
 use records::Record;
 ghost use mathlib.Core.Path.{_≡_};
-ghost use lib.ListN.{length};
+ghost use lib.ListN.{length, take};
 ghost use Rattle.io.specs.Counts.{Counts, clamped};
 ghost use Rattle.close_sheet.specs.Reading.{isNegative, afterRead, Gave, Reads, readingOf};
 
@@ -66,9 +66,10 @@ fn read_into(part: &mut [u8], at: usize) -> Reading
     came_to(at, got, part)
 }
 
-// One read, into the bytes from an index on; past the last, of one byte more.
+// One read, into the bytes from an index on, those before it as they were; past the last, of one byte more.
 fn read_on(bytes: &mut [u8], at: usize) -> Reading
     ensures { λ r. ⌜ Gave at r ⌝ }
+    ensures { λ r. ⌜ take at (now (bytes .exit)) ≡ take at (now (bytes .entry)) ⌝ }
 {
     if bytes.len() <= at {
         let mut more = [0u8; 1];

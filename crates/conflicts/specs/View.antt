@@ -3,12 +3,12 @@ use Prim.Native.Nat.{ℕ}
 use mathlib.Core.List.{List, [], map}
 use lib.ListN.{take, length}
 use Rattle.ids.specs.Answers.{accepted, Outcome}
-use Rattle.ids.specs.Ids.{givenEls, padded, Handed}
+use Rattle.ids.specs.Ids.{padded, Handed}
 use Rattle.semantics.specs.Structure as model
 use Rattle.semantics.specs.Structure.{Fact, empty, with-links, with-facts}
 use Rattle.semantics.specs.Conflicts.{Conflict, typeConflicts}
 use Rattle.facts.specs.declared.Fact as code
-use Rattle.facts.specs.View.{factOf}
+use Rattle.facts.specs.View.{factOf, givenFact}
 use Rattle.structure.specs.View.{structureOf}
 use Rattle.conflicts.specs.declared.TypeConflict.{TypeConflict}
 use Rattle.conflicts.specs.declared.TypeConflicts.{TypeConflicts}
@@ -21,9 +21,6 @@ abbrev pub conflictsOf : TypeConflicts → List Conflict
 conflictsOf t = map conflictOf (take (t .len) (t .items))
 
 -- the same with the lengths that the lists say
-abbrev pub givenFact : code.Fact → Fact
-givenFact f = record { el = f .el .0; typ = f .ct .typ .0; parents = givenEls (f .ct .parents) }
-
 abbrev pub givenConflict : TypeConflict → Conflict
 givenConflict c = record { el = c .el .0; a = givenFact (c .a); b = givenFact (c .b) }
 
@@ -47,12 +44,14 @@ handedConflicts t = record { given = givenConflicts t; held = conflictsOf t }
 unfoldable pub conflictsIn : List ℕ → List Fact → List Conflict
 conflictsIn ls fs = typeConflicts (with-links ls (with-facts fs empty))
 
--- the answer with the conflicts as they are given, and as they are held
+-- the answer with the conflicts as they are given
 abbrev pub conflictingOf : Conflicting → Outcome (List Conflict) model.Structure
 conflictingOf r = record { answer = accepted (givenConflicts (r .conflicts)); left = structureOf (r .structure) }
 
+-- as they are held
 abbrev pub heldConflicting : Conflicting → Outcome (List Conflict) model.Structure
 heldConflicting r = record { answer = accepted (conflictsOf (r .conflicts)); left = structureOf (r .structure) }
 
+-- both
 abbrev pub handedConflicting : Conflicting → Handed (Outcome (List Conflict) model.Structure)
 handedConflicting r = record { given = conflictingOf r; held = heldConflicting r }

@@ -34,7 +34,8 @@ use Rattle.structure.specs.declared.Doing.{Doing}
 use Rattle.structure.specs.declared.AmbientParents.{AmbientParents}
 use Rattle.structure.specs.declared.Rooting.{Rooting}
 use Rattle.structure.specs.View.{structureOf, numberingOf, sayingOf, doingOf, parentsOf, rootingOf}
-use Rattle.inserting.specs.View.{givenFact, givenFuncApp, givenPredApp}
+use Rattle.facts.specs.View.{givenFact}
+use Rattle.inserting.specs.View.{givenFuncApp, givenPredApp}
 use Rattle.close.specs.declared.Closing.{Closing}
 use Rattle.close.specs.View.{closingOf}
 use Rattle.conflicts.specs.declared.Conflicting.{Conflicting}

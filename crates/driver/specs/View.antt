@@ -8,7 +8,7 @@ use Rattle.semantics.specs.Structure.{Fact}
 use Rattle.semantics.specs.Conflicts.{Conflict}
 use Rattle.semantics.specs.Calls as calls
 use Rattle.conflicts.specs.View.{conflictsOf, handedConflicts}
-use Rattle.carrying.specs.View.{machineOf, answerOf, listed}
+use Rattle.carrying.specs.View.{machineOf, answerOf, conflictsBeside}
 use Rattle.driver.specs.declared.Response.{Response}
 use Rattle.driver.specs.declared.Response.the-variants as responses
 use Rattle.driver.specs.declared.Responded.{Responded}
@@ -50,4 +50,4 @@ respondedOf r = record { step = stepOf r; els = givenEls (r .els); conflicts = h
 
 -- beside an answer stand the lists that it gives
 abbrev pub responded : calls.Step → RespondedM
-responded s = record { step = s; els = elsIn (s .answer); conflicts = whole (listed (s .answer)) }
+responded s = record { step = s; els = elsIn (s .answer); conflicts = whole (conflictsBeside (s .answer)) }

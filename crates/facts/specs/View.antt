@@ -2,7 +2,7 @@
 use Prim.Native.Nat.{ℕ}
 use mathlib.Core.List.{List, [], _∷_, map}
 use lib.ListN.{take}
-use Rattle.ids.specs.Ids.{elsOf}
+use Rattle.ids.specs.Ids.{elsOf, givenEls}
 use Rattle.ids.specs.Table.{Grown}
 use Rattle.semantics.specs.Structure as model
 use Rattle.facts.specs.declared.Fact.{Fact}
@@ -13,6 +13,10 @@ use Rattle.facts.specs.declared.Impositions.{Impositions}
 -- a fact as it is stored
 abbrev pub factOf : Fact → model.Fact
 factOf f = record { el = f .el .0; typ = f .ct .typ .0; parents = elsOf (f .ct .parents) }
+
+-- a fact as it is given to a call or handed back: its list of as many elements as the length says
+abbrev pub givenFact : Fact → model.Fact
+givenFact f = record { el = f .el .0; typ = f .ct .typ .0; parents = givenEls (f .ct .parents) }
 
 -- the facts of a table
 abbrev pub factsOf : Facts → List model.Fact

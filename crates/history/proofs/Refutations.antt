@@ -245,7 +245,7 @@ module _ {feeds : Feeds} {Admits : List Bool → Type 0} {Share : Sharing} {coun
   parts : w .root ≡ 0 → (Share b 0 1 → ⊥) → ⊥
   parts r n = n (shares r)
 
-  -- it counts one class, and of two elements it has not one merged
+  -- one class is counted, so that the merges of two elements must be 1, and the version has another number
   miscounts : (k : ℕ) → counts b ≡ suc k → k ≤ 1 → (1 ≤ k → w .root ≡ 0) → (merged b (w .answer) ≡ 1 → ⊥) → ⊥
   miscounts k q l r n = n (omega (arith, said .sum, said .counted .many, one, two))
     where

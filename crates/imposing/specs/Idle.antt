@@ -1,5 +1,5 @@
 -- When imposing a fact changes nothing: no parents are merged, and nothing is inserted (01, "To impose a fact").
--- `Exact` of the proofs says that this is exactly so.
+-- `idle-exactly` of the proofs says that this is exactly so where no number was met.
 use Prim.Native.Nat.{ℕ}
 use mathlib.Core.Bool.{Bool, true, false, not, _&&_, _||_}
 use mathlib.Core.List.{List, [], _∷_}
@@ -14,17 +14,17 @@ unfoldable pub anyMarked : List Bool → Bool
 anyMarked [] = false
 anyMarked (m ∷ ms) = m || anyMarked ms
 
--- "Where two roots differ and either is marked": of these two roots that is not so
+-- "Where two roots differ and either is marked": whether these two are left unmerged
 unfoldable pub keepsRoots : List Bool → ℕ → ℕ → Bool
 keepsRoots ms a b = eqb a b || not (marked ms a || marked ms b)
 
 -- with the links ls and the marks ms
 module _ (ls : List ℕ) (ms : List Bool) where
-  -- of these two parents
+  -- whether these two parents are left unmerged
   unfoldable pub keepsPair : ℕ → ℕ → Bool
   keepsPair p q = keepsRoots ms (rootOf ls p) (rootOf ls q)
 
-  -- nor of any two, "up to the shorter length"
+  -- whether all that are paired "up to the shorter length" are
   unfoldable pub keepsParents : List ℕ → List ℕ → Bool
   keepsParents [] qs = true
   keepsParents (p ∷ ps) [] = true

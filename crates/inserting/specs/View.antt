@@ -5,12 +5,8 @@ use Rattle.signature.specs.Model.{Sig}
 use Rattle.signature.specs.Calls.{isFunc}
 use Rattle.semantics.specs.Structure as model
 use Rattle.semantics.specs.Calls.{isEl, areEls}
-use Rattle.facts.specs.declared.Fact.{Fact}
 use Rattle.apps.specs.declared.FuncApp.{FuncApp}
 use Rattle.apps.specs.declared.PredApp.{PredApp}
-
-abbrev pub givenFact : Fact → model.Fact
-givenFact f = record { el = f .el .0; typ = f .ct .typ .0; parents = givenEls (f .ct .parents) }
 
 abbrev pub givenFuncApp : FuncApp → model.FuncApp
 givenFuncApp x = record { func = x .func .0; parents = givenEls (x .parents); args = givenEls (x .args); result = x .result .0 }

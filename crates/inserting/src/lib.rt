@@ -15,7 +15,8 @@ ghost use Rattle.signature.specs.Model.{sigOf, viewModels};
 ghost use Rattle.semantics.specs.Calls.{isPred, isIdOrComp, isReserved, imposeType, applyFunc, applyPred};
 ghost use Rattle.apps.specs.View.{funcAppOf};
 ghost use Rattle.structure.specs.View.{structureOf, sayingOf};
-ghost use Rattle.inserting.specs.View.{givenFact, givenFuncApp, givenPredApp, appDeclared};
+ghost use Rattle.facts.specs.View.{givenFact};
+ghost use Rattle.inserting.specs.View.{givenFuncApp, givenPredApp, appDeclared};
 
 // Kind 8: a fact is queued, as roots, to be imposed.
 pub fn impose_type(structure: Structure, signature: Signature, fact: Fact) -> Saying

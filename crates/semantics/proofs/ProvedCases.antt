@@ -1,4 +1,4 @@
--- The proved cases (01, "Proved sheets"): P1 to P10, rows for each number 1 to 11 and a few more as one table, and one theorem: every row holds.
+-- The proved cases (01, "Proved sheets"): P1 to P10, rows for each number 1 to 11 and for single sentences of 01, as one table, and one theorem: every row holds.
 -- A row is data: what it runs, what that answers or prints, and claims about the machine that it leaves.
 use mathlib.Core.Path.{_≡_, refl}
 use mathlib.Core.Bool.{Bool, true, false}

@@ -92,7 +92,7 @@ impl Unification {
         Find { root, count }
     }
 
-    // The roots of a list of elements, of as many as its length says.
+    // The roots of the elements that a list holds.
     pub fn roots(self, els: ElIds) -> ElIds
         ensures { λ r. ⌜ handedEls r ≡ whole (map (rootOf (linksOf self)) (elsOf els)) ⌝ }
     {

@@ -1,5 +1,5 @@
 -- Number 11: the close with the limit and the close without one (specs/Unlimited.antt) agree up to the first moment at which more than
--- `maxFacts` facts would be held, and 11 is given exactly if there is such a moment. For every signature and structure.
+-- `maxFacts` facts would be held, and 11 is given exactly if there is such a moment: for every signature and structure, with as many rounds as the close may run.
 use mathlib.Core.Path.{_≡_, refl, sym, ap, subst, _∙_}
 use mathlib.Core.Logic.{_⊎_, inl, inr}
 use mathlib.Core.Bool.{Bool, true, false, not, _&&_, _||_}
@@ -22,8 +22,8 @@ use Rattle.semantics.specs.Close.{Turn, drained, drainPass, rewrote, functional
 use Rattle.semantics.specs.Close.{Rounds, isNone, lastRound, oneMore, roundsFrom, rounds, fuel, Closed, coreOf, closeWith, closeImposed}
 use Rattle.semantics.specs.Close.{closeAfter, close}
 use Rattle.semantics.specs.Valid.{Valid}
-use Rattle.validity.specs.Unlimited.{Ran, imposeBy, imposeAllBy, typingBy, roundBy, roundsFromBy, roundsBy, ranBy, worksUnmet, limited}
-use Rattle.validity.specs.Unlimited.{noted, insertAlways, works, ranFree, unlimited, moment, elevenAt, judged}
+use Rattle.validity.specs.Unlimited.{RanRounds, imposeBy, imposeAllBy, typingBy, roundBy, roundsFromBy, roundsBy, ranBy, worksUnmet, limited}
+use Rattle.validity.specs.Unlimited.{notedIfOver, insertAlways, works, ranFree, unlimited, moment, elevenAt, closeOrEleven}
 use Rattle.validity.proofs.Closing.{close-fuel}
 
 -- The close is the close over its insertion.
@@ -204,7 +204,7 @@ metTurn t = t .core .met
 abbrev metRounds : Rounds → Option ℕ
 metRounds r = r .core .met
 
-abbrev metRan : Ran → Option ℕ
+abbrev metRan : RanRounds → Option ℕ
 metRan r = r .core .met
 
 -- 11 is met
@@ -231,7 +231,7 @@ always-by t u f w =
 
 -- there is room exactly where one more is not too many
 insert-agrees : (f : Fact) (w : Core) → w .met ≡ none → Agree metCore (insertFact f w) (insertAlways f w)
-unfolding insertFact insertAlways noted
+unfolding insertFact insertAlways notedIfOver
 insert-agrees f w m =
     go (present compareFact f (w .facts)) refl (ltb (length (w .facts)) maxFacts) refl (ltb maxFacts (length (placed compareFact f (w .facts)))) refl
   where
@@ -265,13 +265,25 @@ insert-met f w h = go (present compareFact f (w .facts)) (ltb (length (w .facts)
     go false false = met-after w h
 
 always-met : (f : Fact) (w : Core) → Met w → Met (insertAlways f w)
-unfolding insertAlways noted
+unfolding insertAlways notedIfOver
 always-met f w h = go (present compareFact f (w .facts)) (ltb maxFacts (length (placed compareFact f (w .facts))))
   where
     go : (t u : Bool) → Met (always-by t u f w)
     go true u = h
     go false true = met-after w h
     go false false = h
+
+-- the first insertion that leaves more than `maxFacts` leaves exactly one more
+pub first-over : (f : Fact) (w : Core) → length (w .facts) ≤ maxFacts → ltb maxFacts (length (insertAlways f w .facts)) ≡ true
+    → length (insertAlways f w .facts) ≡ suc maxFacts
+unfolding insertAlways notedIfOver
+first-over f w h = go (present compareFact f (w .facts)) refl (ltb maxFacts (length (placed compareFact f (w .facts))))
+  where
+    go : (t : Bool) → present compareFact f (w .facts) ≡ t → (u : Bool) → ltb maxFacts (length (always-by t u f w .facts)) ≡ true
+        → length (always-by t u f w .facts) ≡ suc maxFacts
+    go true p u o = absurd (omega (arith, h, ltb-true maxFacts (length (w .facts)) o))
+    go false p true o = omega (arith, h, placed-absent compareFact f (w .facts) p, ltb-true maxFacts (length (placed compareFact f (w .facts))) o)
+    go false p false o = omega (arith, h, placed-absent compareFact f (w .facts) p, ltb-true maxFacts (length (placed compareFact f (w .facts))) o)
 
 -- The layers. Each law holds for every list and every number of rounds, so it speaks of the moment after each entry and each round.
 
@@ -350,14 +362,14 @@ module _ (g : Sig) (s : Structure) where
           go (inr h) = inr h
 
   -- for any number of rounds
-  pub limited-exactly : (n : ℕ) → limited insertFact n g s ≡ judged n g s
+  pub limited-exactly : (n : ℕ) → limited insertFact n g s ≡ closeOrEleven n g s
   unfolding limited unlimited moment elevenAt isNone closeWith
   limited-exactly n = go (ranBy insertFact worksUnmet n g s) (ranFree n g s) (ran-agrees n)
     where
-      free : Ran → Outcome Closed Structure
+      free : RanRounds → Outcome Closed Structure
       free r = closeWith none (r .rounds) (r .core) s
 
-      go : (a b : Ran) → Agree metRan a b → closeWith (a .core .met) (a .rounds) (a .core) s ≡ elevenAt (not (isNone (b .core .met))) (free b) s
+      go : (a b : RanRounds) → Agree metRan a b → closeWith (a .core .met) (a .rounds) (a .core) s ≡ elevenAt (not (isNone (b .core .met))) (free b) s
       go a b (inl h) =
           let m : b .core .met ≡ none = sym (ap metRan (h .0)) ∙ h .1 in
           ap (λ (o : Option ℕ). closeWith o (a .rounds) (a .core) s) (h .1)
@@ -368,11 +380,11 @@ module _ (g : Sig) (s : Structure) where
           ∙ sym (ap (λ (o : Option ℕ). elevenAt (not (isNone o)) (free b) s) (h .1))
 
   -- The theorem: the close is the one without a limit, refused with 11 if that one would at some moment hold more than `maxFacts` facts.
-  pub eleven-exactly : close g s ≡ judged fuel g s
+  pub eleven-exactly : close g s ≡ closeOrEleven fuel g s
   eleven-exactly = is-close g s ∙ limited-exactly fuel
 
   -- of a valid structure the close without a limit may run for any number of rounds more
-  pub eleven-valid : Valid g s → (j : ℕ) → close g s ≡ judged (fuel + j) g s
+  pub eleven-valid : Valid g s → (j : ℕ) → close g s ≡ closeOrEleven (fuel + j) g s
   eleven-valid v j = is-close-at g s (fuel + j) (close-fuel g s v j) ∙ limited-exactly (fuel + j)
 
   -- The same in three parts.
@@ -401,28 +413,28 @@ module _ (g : Sig) (s : Structure) where
 -- At no moment of a close are more than `maxFacts` facts held, where that many are held at its start: after each round, and after each fact that
 -- is imposed.
 
-abbrev Held : Core → Type 0
-Held w = length (w .facts) ≤ maxFacts
+abbrev WithinLimit : Core → Type 0
+WithinLimit w = length (w .facts) ≤ maxFacts
 
-held-through : (w v : Core) → Kept w v → Held w → Held v
+held-through : (w v : Core) → Kept w v → WithinLimit w → WithinLimit v
 held-through w v k h = omega (arith, k .facts)
 
-insert-held : (f : Fact) (w : Core) → Held w → Held (insertFact f w)
+insert-held : (f : Fact) (w : Core) → WithinLimit w → WithinLimit (insertFact f w)
 unfolding insertFact
 insert-held f w h = go (present compareFact f (w .facts)) refl (ltb (length (w .facts)) maxFacts) refl
   where
-    go : (t : Bool) → present compareFact f (w .facts) ≡ t → (u : Bool) → ltb (length (w .facts)) maxFacts ≡ u → Held (limited-by t u f w)
+    go : (t : Bool) → present compareFact f (w .facts) ≡ t → (u : Bool) → ltb (length (w .facts)) maxFacts ≡ u → WithinLimit (limited-by t u f w)
     go true p u q = h
     go false p true q = omega (arith, placed-absent compareFact f (w .facts) p, ltb-true (length (w .facts)) maxFacts q)
     go false p false q = h
 
-pub imposeAll-held : (fs : List Fact) (w : Core) → Held w → Held (imposeAll fs w)
-imposeAll-held fs w h = subst Held (is-imposeAll fs w) (imposeAll-holds insertFact Held held-through insert-held fs w h)
+pub imposeAll-held : (fs : List Fact) (w : Core) → WithinLimit w → WithinLimit (imposeAll fs w)
+imposeAll-held fs w h = subst WithinLimit (is-imposeAll fs w) (imposeAll-holds insertFact WithinLimit held-through insert-held fs w h)
 
-pub round-held : (g : Sig) (preds : List PredApp) (apps : List FuncApp) (w : Core) → Held w → Held (round g preds apps w .core)
+pub round-held : (g : Sig) (preds : List PredApp) (apps : List FuncApp) (w : Core) → WithinLimit w → WithinLimit (round g preds apps w .core)
 round-held g preds apps w h =
-    subst (λ (t : Turn). Held (t .core)) (is-round g preds apps w) (round-holds insertFact Held held-through insert-held g preds apps w h)
+    subst (λ (t : Turn). WithinLimit (t .core)) (is-round g preds apps w) (round-holds insertFact WithinLimit held-through insert-held g preds apps w h)
 
-pub rounds-held : (n : ℕ) (g : Sig) (preds : List PredApp) (t : Turn) → Held (t .core) → Held (roundsFrom n g preds t .core)
+pub rounds-held : (n : ℕ) (g : Sig) (preds : List PredApp) (t : Turn) → WithinLimit (t .core) → WithinLimit (roundsFrom n g preds t .core)
 rounds-held n g preds t h =
-    subst (λ (r : Rounds). Held (r .core)) (is-rounds n g preds t) (rounds-hold insertFact Held held-through insert-held worksUnmet n g preds t h)
+    subst (λ (r : Rounds). WithinLimit (r .core)) (is-rounds n g preds t) (rounds-hold insertFact WithinLimit held-through insert-held worksUnmet n g preds t h)

@@ -1,5 +1,5 @@
--- The limit of number 11 is `maxFacts` and no other number: with one less the close refuses where there is no such moment, and with one more it
--- accepts where there is one. Each breaks the equation of `eleven-exactly`.
+-- With a limit of one less than `maxFacts` the close refuses where there is no such moment, and with one more it accepts where there is one: each
+-- breaks the equation of `eleven-exactly`. The structures that show it are given directly and made by no calls.
 use mathlib.Core.Path.{_≡_, refl, sym, ap, _∙_}
 use mathlib.Core.Bool.{true, false}
 use mathlib.Core.List.{List, [], _∷_}
@@ -15,7 +15,7 @@ use Rattle.semantics.specs.Types.{Core, with-added, with-met}
 use Rattle.semantics.specs.Close.{fuel, Closed}
 use Rattle.semantics.proofs.Computes.{everything}
 use Rattle.validity.specs.Unlimited.{imposeBy, imposeAllBy, typingBy, roundBy, roundsFromBy, roundsBy, ranBy, limited}
-use Rattle.validity.specs.Unlimited.{noted, insertAlways, unlimited, moment, elevenAt, judged}
+use Rattle.validity.specs.Unlimited.{notedIfOver, insertAlways, unlimited, moment, elevenAt, closeOrEleven}
 
 -- `insertFact` with the limit n
 unfoldable pub insertWithin : ℕ → Fact → Core → Core
@@ -45,13 +45,13 @@ differ p q e =
     omega arith
 
 -- "fact 1,024": it is inserted
-pub one-less : limited (insertWithin (maxFacts - 1)) fuel noTypes (crowded (maxFacts - 1)) ≡ judged fuel noTypes (crowded (maxFacts - 1)) → ⊥
-unfolding everything imposeBy imposeAllBy typingBy roundBy roundsFromBy roundsBy ranBy limited noted insertAlways unlimited moment elevenAt insertWithin
+pub one-less : limited (insertWithin (maxFacts - 1)) fuel noTypes (crowded (maxFacts - 1)) ≡ closeOrEleven fuel noTypes (crowded (maxFacts - 1)) → ⊥
+unfolding everything imposeBy imposeAllBy typingBy roundBy roundsFromBy roundsBy ranBy limited notedIfOver insertAlways unlimited moment elevenAt insertWithin
     copies crowded
 one-less = differ refl refl
 
 -- "and 1,025": it is not
-pub one-more : limited (insertWithin (maxFacts + 1)) fuel noTypes (crowded maxFacts) ≡ judged fuel noTypes (crowded maxFacts) → ⊥
-unfolding everything imposeBy imposeAllBy typingBy roundBy roundsFromBy roundsBy ranBy limited noted insertAlways unlimited moment elevenAt insertWithin
+pub one-more : limited (insertWithin (maxFacts + 1)) fuel noTypes (crowded maxFacts) ≡ closeOrEleven fuel noTypes (crowded maxFacts) → ⊥
+unfolding everything imposeBy imposeAllBy typingBy roundBy roundsFromBy roundsBy ranBy limited notedIfOver insertAlways unlimited moment elevenAt insertWithin
     copies crowded
 one-more e = differ refl refl (sym e)

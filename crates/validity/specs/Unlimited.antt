@@ -1,6 +1,6 @@
 -- The close over any insertion, and the close without the limit of number 11 (01: "the close would at some moment hold 1,025 facts").
 -- The layers above the insertion are those of `Types` and `Close`, said again with the insertion, the test for one more round and the most
--- rounds as parameters: the proofs of the code hang on the definitions there. With the parameters of the close they are the close, which
+-- rounds as parameters: the proofs of the code are about the definitions there. With the parameters of the close they are the close, which
 -- proofs/Limit.antt shows (`is-close`).
 use Prim.Native.Nat.{ℕ, zero, suc}
 use mathlib.Core.Bool.{Bool, true, false, not, _&&_}
@@ -17,7 +17,7 @@ use Rattle.semantics.specs.Close.{Turn, Pass, drainPass, functionalityPass, typ
 use Rattle.semantics.specs.Close.{Closed, coreOf, closeWith}
 
 -- what a close leaves before it answers: its rounds, and the core after the impositions
-pub record Ran : Type 0 where
+pub record RanRounds : Type 0 where
   pub rounds : Rounds
   pub core : Core
 
@@ -51,7 +51,7 @@ module _ (insert : Fact → Core → Core) where
     unfoldable pub roundsBy : ℕ → Sig → Structure → Rounds
     roundsBy n g s = roundsFromBy n g (s .pred-apps) (roundBy g (s .pred-apps) (s .func-apps) (coreOf s))
 
-    unfoldable pub ranBy : ℕ → Sig → Structure → Ran
+    unfoldable pub ranBy : ℕ → Sig → Structure → RanRounds
     ranBy n g s = record { rounds = roundsBy n g s; core = imposeAllBy (s .impositions) (roundsBy n g s .core) }
 
 -- The close with a limit, by its insertion: a number that is met ends the rounds, and refuses.
@@ -64,26 +64,26 @@ limited insert n g s =
     let r = ranBy insert worksUnmet n g s in
     closeWith (r .core .met) (r .rounds) (r .core) s
 
--- The close without a limit: every fact that is not stored is inserted, rounds repeat until one in which none reports work, and nothing is
--- refused. That more than `maxFacts` facts are held is only noted, as the number met. The note is taken where a fact is inserted, since nothing
+-- The close without a limit: every fact that is not stored is inserted, rounds repeat until one in which none reports work, at most n after the
+-- first (of a valid structure any number from `fuel` on gives the same, `eleven-valid`), and nothing is refused. That more than `maxFacts` facts are held is only noted, as the number met. The note is taken where a fact is inserted, since nothing
 -- else makes more of them (`Kept` of proofs/Limit.antt).
 
-unfoldable pub noted : Core → Core
-noted w = elim (ltb maxFacts (length (w .facts))) [ true ↦ with-met tooManyFacts w | false ↦ w ]
+unfoldable pub notedIfOver : Core → Core
+notedIfOver w = elim (ltb maxFacts (length (w .facts))) [ true ↦ with-met tooManyFacts w | false ↦ w ]
 
 unfoldable pub insertAlways : Fact → Core → Core
-insertAlways f w = elim (present compareFact f (w .facts)) [ true ↦ w | false ↦ noted (with-added (placed compareFact f (w .facts)) w) ]
+insertAlways f w = elim (present compareFact f (w .facts)) [ true ↦ w | false ↦ notedIfOver (with-added (placed compareFact f (w .facts)) w) ]
 
 abbrev pub works : Turn → Bool
 works t = t .worked
 
-abbrev pub ranFree : ℕ → Sig → Structure → Ran
+abbrev pub ranFree : ℕ → Sig → Structure → RanRounds
 ranFree = ranBy insertAlways works
 
 unfoldable pub unlimited : ℕ → Sig → Structure → Outcome Closed Structure
 unlimited n g s = closeWith none (ranFree n g s .rounds) (ranFree n g s .core) s
 
--- "would at some moment hold 1,025 facts": an insertion left more than `maxFacts`, the first such one exactly one more (of a structure that begins
+-- "would at some moment hold 1,025 facts": an insertion left more than `maxFacts`, the first such one exactly one more (`first-over`; of a structure that begins
 -- with more than `maxFacts`, as no call leaves one, it is the first insertion)
 unfoldable pub moment : ℕ → Sig → Structure → Bool
 moment n g s = not (isNone (ranFree n g s .core .met))
@@ -93,5 +93,5 @@ unfoldable pub elevenAt : Bool → Outcome Closed Structure → Structure → Ou
 elevenAt true r s = record { answer = refused tooManyFacts; left = s }
 elevenAt false r s = r
 
-abbrev pub judged : ℕ → Sig → Structure → Outcome Closed Structure
-judged n g s = elevenAt (moment n g s) (unlimited n g s) s
+abbrev pub closeOrEleven : ℕ → Sig → Structure → Outcome Closed Structure
+closeOrEleven n g s = elevenAt (moment n g s) (unlimited n g s) s

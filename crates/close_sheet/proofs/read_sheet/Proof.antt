@@ -29,14 +29,14 @@ loop-less : tie.Need-loop-less Inv-loop μ-loop
 loop-less c =
     let done = c .before .before .before in
     let l = done .before .before .loop in
-    let more = grows (l .at) _ (subst (Gave (l .at)) (c .before .reading .given .1) (done .read-on .ensures)) in
+    let more = grows (l .at) _ (subst (Gave (l .at)) (c .before .reading .given .1) (done .read-on .ensures .0)) in
     omega (arith, more .0, more .1)
 
 loop-again : tie.Need-loop-again Inv-loop μ-loop
 loop-again c =
     let done = c .before .before .before in
     let l = done .before .before .loop in
-    λ r h. l .inv r (next (subst (Gave (l .at)) (c .before .reading .given .1) (done .read-on .ensures)) h)
+    λ r h. l .inv r (next (subst (Gave (l .at)) (c .before .reading .given .1) (done .read-on .ensures .0)) h)
 
 enum-known-reading-2 : tie.Need-enum-known-reading-2 Inv-loop μ-loop
 enum-known-reading-2 c = search needs
@@ -46,7 +46,7 @@ unfolding readingOf
 returns c =
     let done = c .before .before .before in
     let l = done .before .before .loop in
-    l .inv _ (last (subst (Gave (l .at)) (c .before .reading2 .given .1) (done .read-on .ensures)))
+    l .inv _ (last (subst (Gave (l .at)) (c .before .reading2 .given .1) (done .read-on .ensures .0)))
 
 enum-told : tie.Need-enum-told Inv-loop μ-loop
 enum-told c = search needs
@@ -56,7 +56,7 @@ unfolding readingOf
 returns-2 c =
     let done = c .before .before in
     let l = done .before .before .loop in
-    l .inv _ (last (subst (Gave (l .at)) (c .enum-told .given .1) (done .read-on .ensures)))
+    l .inv _ (last (subst (Gave (l .at)) (c .enum-told .given .1) (done .read-on .ensures .0)))
 
 pub read-sheet-spec : {M : Type 1} → statement M
 read-sheet-spec =

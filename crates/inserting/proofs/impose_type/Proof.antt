@@ -21,9 +21,8 @@ use Rattle.ids.proofs.Tests.{told, holds, fails, and-then, chosen, unchosen}
 use Rattle.semantics.specs.Structure as model
 use Rattle.semantics.specs.Structure.{maxImpositions, canonicalFact, with-impositions}
 use Rattle.semantics.specs.Calls.{isEl, areEls, isImposed, imposeType}
-use Rattle.facts.specs.View.{factOf, impositionsOf}
+use Rattle.facts.specs.View.{factOf, givenFact, impositionsOf}
 use Rattle.structure.specs.View.{structureOf}
-use Rattle.inserting.specs.View.{givenFact}
 use Rattle.structure.proofs.Laws.{accepts}
 use borrow.Author.Needs.{needs}
 use Rattle.inserting.proofs.impose_type.Statement.{statement}
