@@ -12,7 +12,7 @@ use Rattle.unification.specs.Roots.{linksOf}
 use Rattle.semantics.specs.Close.{Closed}
 use Rattle.semantics.specs.Calls as calls
 use Rattle.semantics.specs.Calls.{Call, Answer, number, says, done, closed, conflicting, found, typed, els, leading, answerOf, Machine, Step}
-use Rattle.semantics.specs.Calls.{step, onStructure}
+use Rattle.semantics.specs.Calls.{start, step, onStructure}
 use Rattle.semantics.specs.Sheet.{recordAt, carryOut}
 use Rattle.carrying.specs.View.{machineOf}
 use Rattle.carrying.specs.declared.Answer.the-variants as answer
@@ -23,10 +23,11 @@ use Rattle.close.proofs.close.Reads as close-fn
 use Rattle.history.specs.Book.{History, history, someMark, Conserved, Conservation, next, noted}
 use Rattle.history.proofs.Histories.{history-next}
 use Rattle.history.proofs.Conservation.{conservation}
-use Rattle.driver.specs.Calls.{runList, callOf, wholeRecords, listed, callsBefore, callsIn, lastAnswer, listBefore}
+use Rattle.driver.specs.Calls.{callOf, wholeRecords, listed, callsBefore, callsIn, lastAnswer, listBefore}
 use Rattle.driver.specs.View.{responseOf, stepOf, RespondedM}
 use Rattle.driver.specs.declared.Response.the-variants as response
 use Rattle.driver.specs.declared.Responded.{Responded}
+use Rattle.driver.proofs.Laws.{answers, after-history}
 use Rattle.driver.proofs.run.Reads as run-fn
 
 -- Only a close answers as a close does.
@@ -88,33 +89,37 @@ pub record Ends (ks : List Call) (c : Closed) : Type 0 where
   pub answers : step calls.close (history before .machine) .answer ≡ closed c
 
 -- where the last record answers as an accepted close does, the list ends in one
-pub ends-closed : (bytes : List ℕ) (n : ℕ) (c : Closed) → lastAnswer bytes n ≡ closed c → Ends (callsBefore bytes n) c
+pub ends-closed : (bytes : List ℕ) (n : ℕ) (c : Closed) → lastAnswer start bytes n ≡ closed c → Ends (callsBefore bytes n) c
 unfolding lastAnswer callsBefore carryOut listed
 ends-closed bytes zero c e = let z : _≡_ {A = ℕ} 0 1 = cc in absurd (omega arith)
-ends-closed bytes (suc n) c e = go (callOf (recordAt bytes n)) e where
-  go : (o : Option Call) → carryOut o (history (callsBefore bytes n) .machine) .answer ≡ closed c → Ends (callsBefore bytes n ++ listed o) c
-  go none e = let z : _≡_ {A = ℕ} 0 1 = cc in absurd (omega arith)
-  go (some k) e =
-      let is-close : k ≡ calls.close = closed-call k (history (callsBefore bytes n) .machine) c e in
-      record {
-        before = callsBefore bytes n;
-        is = ap (λ (x : Call). callsBefore bytes n ++ (x ∷ [])) is-close;
-        answers = subst (λ (x : Call). step x (history (callsBefore bytes n) .machine) .answer ≡ closed c) is-close e;
-      }
+ends-closed bytes (suc n) c e =
+    go (callOf (recordAt bytes n)) (subst (λ (m : Machine). carryOut (callOf (recordAt bytes n)) m .answer ≡ closed c) (after-history (callsBefore bytes n)) e) where
+      go : (o : Option Call) → carryOut o (history (callsBefore bytes n) .machine) .answer ≡ closed c → Ends (callsBefore bytes n ++ listed o) c
+      go none e = let z : _≡_ {A = ℕ} 0 1 = cc in absurd (omega arith)
+      go (some k) e =
+          let is-close : k ≡ calls.close = closed-call k (history (callsBefore bytes n) .machine) c e in
+          record {
+            before = callsBefore bytes n;
+            is = ap (λ (x : Call). callsBefore bytes n ++ (x ∷ [])) is-close;
+            answers = subst (λ (x : Call). step x (history (callsBefore bytes n) .machine) .answer ≡ closed c) is-close e;
+          }
 
 -- `run` asks nothing of the bytes
 pub run-asked : (κs : Lfts 1) (bytes : _) → run-fn.Asked κs (bytes, tt)
 run-asked κs bytes = tt
 
 module _ (κs : Lfts 1) (bytes : _) (r : Responded) (ran : run-fn.Learnt κs (bytes, tt) r (bytes, tt)) where
-  stepped : stepOf r ≡ runList (now bytes)
-  stepped = ap (λ (x : RespondedM). x .step) ran
+  stepped : stepOf r ≡ answers (lastAnswer start (now bytes) (wholeRecords (now bytes))) (history (callsIn (now bytes)) .machine)
+  unfolding listBefore
+  stepped =
+      ap (λ (x : RespondedM). x .step) ran
+      ∙ ap (answers (lastAnswer start (now bytes) (wholeRecords (now bytes)))) (after-history (callsIn (now bytes)))
 
   -- For every slice of bytes whose calls end in a close that is accepted, with no element marked up to then:
   -- what `Conserved` says of the book of these calls and of the links of the machine that `run` hands back.
   pub run-conserves : (c : Closed) → Ends (callsIn (now bytes)) c → someMark (history (callsIn (now bytes)) .book .marks) ≡ false
       → Conserved (history (callsIn (now bytes)) .book) (linksOf (r .machine .structure .unification)) c
-  unfolding Conservation listBefore
+  unfolding Conservation
   run-conserves c e unmarked =
       let ks = callsIn (now bytes) in
       let whole : Conserved (history ks .book) (history ks .machine .structure .links) c =
@@ -126,7 +131,6 @@ module _ (κs : Lfts 1) (bytes : _) (r : Responded) (ran : run-fn.Learnt κs (by
   pub run-closed-conserves : (c : code.Closed) → r .response ≡ response.Answered (answer.Closed c)
       → someMark (history (callsIn (now bytes)) .book .marks) ≡ false
       → Conserved (history (callsIn (now bytes)) .book) (linksOf (r .machine .structure .unification)) (closedOf c)
-  unfolding listBefore
   run-closed-conserves c e unmarked =
       run-conserves (closedOf c) (ends-closed (now bytes) (wholeRecords (now bytes)) (closedOf c)
       (ap (λ (s : Step). s .answer) (sym stepped) ∙ ap (responseOf _ _) e)) unmarked
@@ -137,7 +141,7 @@ module _ (κs : Lfts 1) (bytes : _) (r : Responded) (ran : run-fn.Learnt κs (by
       → closingOf z .answer ≡ accepted c
       → someMark (history (callsIn (now bytes) ++ (calls.close ∷ [])) .book .marks) ≡ false
       → Conserved (history (callsIn (now bytes) ++ (calls.close ∷ [])) .book) (linksOf (z .structure .unification)) c
-  unfolding Conservation listBefore step answerOf next noted
+  unfolding Conservation step answerOf next noted
   run-then-close-conserves z c did ok unmarked =
       let ks = callsIn (now bytes) in
       let on : step calls.close (machineOf (r .machine)) ≡ step calls.close (history ks .machine) = ap (λ (s : Step). step calls.close (s .after)) stepped in

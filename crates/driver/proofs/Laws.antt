@@ -15,7 +15,7 @@ use Rattle.ids.proofs.Lists.{given-length}
 use Rattle.signature.specs.declared.Typed.{Typed}
 use Rattle.signature.specs.declared.Typed.the-variants.{At}
 use Rattle.signature.specs.Calls.{typedOf}
-use Rattle.semantics.specs.Calls.{Call, Answer, done, typed, leading, Machine, Step, start, onNeither}
+use Rattle.semantics.specs.Calls.{Call, Answer, done, typed, leading, Machine, Step, start, step, onNeither}
 use Rattle.semantics.specs.Sheet as sheet
 use Rattle.semantics.specs.Sheet.{Record, recordAt, carryOut}
 use Rattle.records.specs.View.{recordWithin}
@@ -27,9 +27,8 @@ use Rattle.carrying.specs.View.{answerOf}
 use Rattle.carrying.proofs.Laws as carried
 use Rattle.carrying.proofs.Laws.{slotsOf}
 use Rattle.history.specs.Book.{History, noted, next, run, begin, history}
-use Rattle.history.proofs.Histories.{history-goes-on}
 use Rattle.driver.specs.Calls.{rootKind, rootConstKind, lookupTypeKind, ambientParentsKind, callAt, callOf, wholeRecords, listed}
-use Rattle.driver.specs.Calls.{callsBefore, lastAnswer, listBefore}
+use Rattle.driver.specs.Calls.{callsBefore, afterCalls, lastAnswer, listBefore}
 use Rattle.driver.specs.View.{elsIn}
 
 -- the four slots as they are given to a call
@@ -85,28 +84,42 @@ module _ (r : Record) (m : Machine) where
 
 -- Lists.
 
+pub after-append : (ks js : List Call) (m : Machine) → afterCalls (ks ++ js) m ≡ afterCalls js (afterCalls ks m)
+unfolding afterCalls
+after-append [] js m = refl
+after-append (k ∷ ks) js m = after-append ks js (step k m .after)
+
+-- what a history notes beside the machine does not change what the calls leave
+after-run : (ks : List Call) (h : History) → afterCalls ks (h .machine) ≡ run ks h .machine
+unfolding afterCalls run next noted
+after-run [] h = refl
+after-run (k ∷ ks) h = after-run ks (next k h)
+
+pub after-history : (ks : List Call) → afterCalls ks start ≡ history ks .machine
+unfolding history begin
+after-history ks = after-run ks begin
+
 -- before the first record
-pub begins : (bytes : List ℕ) {m : Machine} → m ≡ start → answers done m ≡ listBefore bytes 0
-unfolding listBefore lastAnswer callsBefore history run begin
+pub begins : (bytes : List ℕ) {m n : Machine} → m ≡ n → answers done m ≡ listBefore n bytes 0
+unfolding listBefore lastAnswer callsBefore afterCalls
 begins bytes e = ap (answers done) e
 
 -- what a record leaves is what its call does
-record-leaves : (o : Option Call) (h : History) → carryOut o (h .machine) .after ≡ run (listed o) h .machine
-unfolding carryOut listed run next noted
-record-leaves none h = refl
-record-leaves (some k) h = refl
+record-leaves : (o : Option Call) (m : Machine) → carryOut o m .after ≡ afterCalls (listed o) m
+unfolding carryOut listed afterCalls
+record-leaves none m = refl
+record-leaves (some k) m = refl
 
 -- one record more
-pub goes-on : (bytes : List ℕ) (i : ℕ) {s : Step} {r : Record} → i < wholeRecords bytes → s ≡ listBefore bytes i → r ≡ recordWithin bytes i
-    → carryOut (callOf r) (s .after) ≡ listBefore bytes (i + 1)
+pub goes-on : (m : Machine) (bytes : List ℕ) (i : ℕ) {s : Step} {r : Record} → i < wholeRecords bytes → s ≡ listBefore m bytes i → r ≡ recordWithin bytes i
+    → carryOut (callOf r) (s .after) ≡ listBefore m bytes (i + 1)
 unfolding listBefore lastAnswer callsBefore
-goes-on bytes i {s} {r} within e f =
+goes-on m bytes i {s} {r} within e f =
     let ks = callsBefore bytes i in
     let o = callOf (recordAt bytes i) in
     let more : suc i ≡ i + 1 = omega arith in
     let same : r ≡ recordAt bytes i = f ∙ record-within bytes i within in
-    let left : carryOut o (history ks .machine) .after ≡ history (ks ++ listed o) .machine =
-    record-leaves o (history ks) ∙ ap (λ (h : History). h .machine) (sym (history-goes-on ks (listed o))) in
-    subst (λ (n : ℕ). carryOut (callOf r) (s .after) ≡ listBefore bytes n) more (ap (λ (x : Record). carryOut (callOf x) (s .after)) same
+    let left : carryOut o (afterCalls ks m) .after ≡ afterCalls (ks ++ listed o) m = record-leaves o (afterCalls ks m) ∙ sym (after-append ks (listed o) m) in
+    subst (λ (n : ℕ). carryOut (callOf r) (s .after) ≡ listBefore m bytes n) more (ap (λ (x : Record). carryOut (callOf x) (s .after)) same
     ∙ ap (λ (x : Step). carryOut o (x .after)) e
-    ∙ ap (answers (carryOut o (history ks .machine) .answer)) left)
+    ∙ ap (answers (carryOut o (afterCalls ks m) .answer)) left)

@@ -1,3 +1,4 @@
 pub mod Conserved
+pub mod Joined
 pub mod Laws
 pub mod Worked

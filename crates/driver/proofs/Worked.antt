@@ -12,7 +12,7 @@ use Rattle.semantics.specs.Calls.{push-el, equate-els, root, close, closed}
 use Rattle.semantics.proofs.Computes.{everything}
 use Rattle.history.specs.Book as book
 use Rattle.history.specs.Book.{history, someMark, Conserved}
-use Rattle.driver.specs.Calls.{rootKind, callAt, listed, callsBefore, callsIn, lastAnswer, listBefore, runList}
+use Rattle.driver.specs.Calls.{rootKind, callAt, listed, callsBefore, callsIn, afterCalls, lastAnswer, listBefore, runList}
 use Rattle.driver.specs.declared.Responded.{Responded}
 use Rattle.driver.proofs.run.Reads as run-fn
 use Rattle.driver.proofs.Conserved.{Ends, run-conserves}
@@ -38,7 +38,7 @@ worked =
 
 -- the definitions that a list of bytes computes with
 computed : ℕ
-unfolding everything worked zeros callAt listed callsBefore lastAnswer listBefore padded book.blank book.taken book.fed book.isAccepted book.mergesOf book.noted book.next book.run book.begin book.history book.someMark
+unfolding everything worked zeros callAt listed callsBefore afterCalls lastAnswer listBefore padded book.blank book.taken book.fed book.isAccepted book.mergesOf book.noted book.next book.run book.begin book.history book.someMark
 computed = 0
 
 -- the calls that it is

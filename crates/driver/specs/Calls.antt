@@ -6,10 +6,9 @@ use mathlib.Core.Option.{Option, none, some}
 use lib.ListN.{length}
 use lib.Dec.{eqb}
 use Rattle.ids.specs.Ids.{givenOf}
-use Rattle.semantics.specs.Calls.{Call, root, root-const, lookup-type, ambient-parents, Answer, done, Step}
+use Rattle.semantics.specs.Calls.{Call, root, root-const, lookup-type, ambient-parents, Answer, done, Machine, Step, start, step}
 use Rattle.semantics.specs.Sheet as sheet
 use Rattle.semantics.specs.Sheet.{Record, recordAt, recordBytes, carryOut}
-use Rattle.history.specs.Book.{history}
 
 -- The kinds of the calls that no record of a sheet makes; no sheet has a kind as high.
 
@@ -57,15 +56,24 @@ callsBefore bytes (suc n) = callsBefore bytes n ++ listed (callOf (recordAt byte
 abbrev pub callsIn : List ℕ → List Call
 callsIn bytes = callsBefore bytes (wholeRecords bytes)
 
+-- what some calls leave of a machine, one after the other
+unfoldable pub afterCalls : List Call → Machine → Machine
+afterCalls [] m = m
+afterCalls (k ∷ ks) m = afterCalls ks (step k m .after)
+
 -- what the last of the first n records answers, after the calls before it; a list of no records is done
-unfoldable pub lastAnswer : List ℕ → ℕ → Answer
-lastAnswer bytes zero = done
-lastAnswer bytes (suc n) = carryOut (callOf (recordAt bytes n)) (history (callsBefore bytes n) .machine) .answer
+unfoldable pub lastAnswer : Machine → List ℕ → ℕ → Answer
+lastAnswer m bytes zero = done
+lastAnswer m bytes (suc n) = carryOut (callOf (recordAt bytes n)) (afterCalls (callsBefore bytes n) m) .answer
 
 -- after the first n records: the last one's answer, and what the calls leave
-unfoldable pub listBefore : List ℕ → ℕ → Step
-listBefore bytes n = record { answer = lastAnswer bytes n; after = history (callsBefore bytes n) .machine }
+unfoldable pub listBefore : Machine → List ℕ → ℕ → Step
+listBefore m bytes n = record { answer = lastAnswer m bytes n; after = afterCalls (callsBefore bytes n) m }
+
+-- a list from a given machine on
+abbrev pub runFrom : Machine → List ℕ → Step
+runFrom m bytes = listBefore m bytes (wholeRecords bytes)
 
 -- a list from its beginning
 abbrev pub runList : List ℕ → Step
-runList bytes = listBefore bytes (wholeRecords bytes)
+runList bytes = runFrom start bytes

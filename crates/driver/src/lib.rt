@@ -23,7 +23,7 @@ ghost use Rattle.semantics.specs.Sheet.{carryOut};
 ghost use Rattle.semantics.specs.Sheet as sheet;
 ghost use Rattle.records.specs.View.{recordView};
 ghost use Rattle.carrying.specs.View.{machineOf};
-ghost use Rattle.driver.specs.Calls.{callOf, runList};
+ghost use Rattle.driver.specs.Calls.{callOf, runFrom, runList};
 ghost use Rattle.driver.specs.View.{responseOf, respondedOf, responded};
 
 // The kinds of the calls that no record of a sheet makes.
@@ -206,7 +206,7 @@ fn carry_out_as_sheet(machine: Machine, given: Record) -> Responded
 }
 
 // A record is carried out by the call of its kind; one that does not fit is refused, and the machine is as it was.
-pub fn carry_out(machine: Machine, given: Record) -> Responded
+fn carry_out(machine: Machine, given: Record) -> Responded
     ensures { λ r. ⌜ respondedOf r ≡ responded (carryOut (callOf (recordView given)) (machineOf machine)) ⌝ }
 {
     let kind = given.kind;
@@ -225,16 +225,23 @@ pub fn carry_out(machine: Machine, given: Record) -> Responded
     }
 }
 
-// The records of a list from fresh values on, whatever each answers: the last one's answer, and what all of them leave.
+// The records of a list from a given machine on, whatever each answers: the last one's answer, and what all of them leave.
 // Bytes after the last whole record are not looked at; a list of no records is done.
+pub fn run_from(machine: Machine, bytes: &[u8]) -> Responded
+    ensures { λ r. ⌜ respondedOf r ≡ responded (runFrom (machineOf machine) (now (bytes .entry))) ⌝ }
+{
+    let count = bytes.len() / Record::BYTES;
+    let mut last = respond(machine, Response::Answered(Answer::Done));
+    for i in 0..count {
+        let left = last.machine;
+        last = carry_out(left, records::record_in(bytes, i));
+    }
+    last
+}
+
+// The same from fresh values on.
 pub fn run(bytes: &[u8]) -> Responded
     ensures { λ r. ⌜ respondedOf r ≡ responded (runList (now (bytes .entry))) ⌝ }
 {
-    let count = bytes.len() / Record::BYTES;
-    let mut last = respond(Machine::new(), Response::Answered(Answer::Done));
-    for i in 0..count {
-        let machine = last.machine;
-        last = carry_out(machine, records::record_in(bytes, i));
-    }
-    last
+    run_from(Machine::new(), bytes)
 }

@@ -323,9 +323,10 @@ fn response_line(response: Response, els: ElIds, listed: u16) -> Line {
     }
 }
 
-// A record of a list, carried out by the function that `driver::run` carries each of its records out by.
-fn respond(text: &mut [u8; MAX_TEXT], n: usize, machine: Machine, given: Record) -> Printed {
-    let responded = driver::carry_out(machine, given);
+// The record at the start of the bytes, run as a list of one.
+fn respond(text: &mut [u8; MAX_TEXT], n: usize, machine: Machine, bytes: &[u8]) -> Printed {
+    let m = io::count(Record::BYTES as isize, bytes);
+    let responded = driver::run_from(machine, &bytes[..m]);
     let response = responded.response;
     let els = responded.els;
     let conflicts = responded.conflicts;
@@ -415,7 +416,7 @@ fn run_sheet(
     at
 }
 
-// The record at the start of the bytes, as one of a list.
+// The same, and the structure after it where the stream asks for it.
 fn run_record(
     bytes: &[u8; Record::MAX_BYTES],
     text: &mut [u8; MAX_TEXT],
@@ -423,7 +424,7 @@ fn run_record(
     machine: Machine,
     dumps: bool,
 ) -> Printed {
-    let printed = respond(text, n, machine, records::record_at(bytes, 0));
+    let printed = respond(text, n, machine, bytes);
     let left = printed.machine;
     Printed {
         n: put_dump(text, printed.n, left, dumps),
