@@ -1,13 +1,13 @@
--- A list that is run in parts: two lists joined at the end of a record are run one after the other, so a list is run a record at a time.
-use Prim.Native.Nat.{ℕ, zero, suc, _+_, _*_, _<_, _≤_}
-use mathlib.Core.Path.{_≡_, refl, sym, ap, _∙_, subst}
-use mathlib.Core.List.{List, [], _∷_, _++_, append-assoc, append-nil}
+-- To run two lists that are joined at the end of a record is to run one after the other; so a list can be run a record at a time.
+use Prim.Native.Nat.{ℕ, zero, suc, _+_, _*_, _≤_, _<_}
+use mathlib.Core.Path.{_≡_, refl, sym, ap, _∙_}
+use mathlib.Core.List.{List, _++_, append-assoc, append-nil}
 use native.Mathlib.Omega.{arith}
 use lib.ListN.{length, length-append, length-drop, take, drop}
 use lib.Seq.{drop-append-le, drop-append-add, take-append-le}
-use Rattle.semantics.specs.Calls.{Call, Machine, Step}
-use Rattle.semantics.specs.Sheet.{Record, recordAt, recordOf, recordBytes, words, carryOut}
-use Rattle.driver.specs.Calls.{callOf, wholeRecords, listed, callsBefore, callsIn, afterCalls, lastAnswer, listBefore, runFrom}
+use Rattle.semantics.specs.Calls.{Call, Machine}
+use Rattle.semantics.specs.Sheet.{recordAt, recordOf, recordBytes, words, carryOut}
+use Rattle.driver.specs.Calls.{callOf, wholeRecords, listed, callsBefore, afterCalls, lastAnswer, listBefore, runFrom}
 use Rattle.driver.proofs.Laws.{answers, after-append}
 
 module _ (xs ys : List ℕ) where

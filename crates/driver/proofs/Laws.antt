@@ -1,4 +1,4 @@
--- Laws of the lists that a record gives, of a record's call and its answer, and of one record more.
+-- Laws of the lists that a record gives, of a record's call and its answer, of calls one after the other, and of one record more.
 use Prim.Native.Nat.{ℕ, zero, suc, _+_, _≤_, _<_}
 use mathlib.Core.Path.{_≡_, refl, sym, ap, _∙_, subst}
 use mathlib.Core.List.{List, [], _∷_, _++_}

@@ -1,5 +1,5 @@
 -- `run` meets its contract.
-use mathlib.Core.Path.{_∙_, ap}
+use mathlib.Core.Path.{_∙_}
 use denote.Ref.{now}
 use Rattle.driver.specs.Calls.{runFrom}
 use Rattle.driver.specs.View.{responded}

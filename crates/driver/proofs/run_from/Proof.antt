@@ -11,7 +11,7 @@ use borrow.Author.Needs.{needs}
 use Rattle.driver.proofs.run_from.Statement.{statement}
 use Rattle.driver.proofs.run_from.Tie as tie
 
--- the machine is the one that the first of the values has
+-- the given machine is moved before the loop: the one beside the first answer is as it was
 abbrev Inv-loop : tie.InvT-loop
 Inv-loop bytes count last₀ i₀ last i = (i ≤ count) × (respondedOf last ≡ responded (listBefore (machineOf (last₀ .machine)) bytes i))
 
