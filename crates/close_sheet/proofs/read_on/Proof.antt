@@ -33,8 +33,8 @@ same-length c = search needs
 returns-2 : tie.Need-returns-2
 returns-2 c =
     let done = c .before .before in
-    let else1 = done .before .before .before in
-    let a = else1 .before .args in
+    let else1 = done .before .before in
+    let a = else1 .before .before .args in
     (done .read-into2 .ensures, kept-before (a .at) (now (a .bytes)) _ (omega (arith, else1 .if1 .left)))
 
 pub read-on-spec : {M : Type 1} → statement M
