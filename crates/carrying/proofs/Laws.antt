@@ -39,12 +39,12 @@ slots-given xs n len long h =
 
 -- A call's answer, as the code's enum, came out as x.
 module _ {A B : Type 0} (f : A → Answer) (m : Machine) (view : B → Answered A) where
-  pub on-sig : (g : Sig) {x y : B} → y ≡ x → onSig f m (record { answer = view x; left = g }) ≡ onSig f m (record { answer = view y; left = g })
-  on-sig g e = ap (λ (x : B). onSig f m (record { answer = view x; left = g })) (sym e)
+  pub on-sig : (g : Sig) {x y : B} → y ≡ x → onSig f m (record { answer = view x; after = g }) ≡ onSig f m (record { answer = view y; after = g })
+  on-sig g e = ap (λ (x : B). onSig f m (record { answer = view x; after = g })) (sym e)
 
   pub on-structure : (s : Structure) {x y : B} → y ≡ x
-      → onStructure f m (record { answer = view x; left = s }) ≡ onStructure f m (record { answer = view y; left = s })
-  on-structure s e = ap (λ (x : B). onStructure f m (record { answer = view x; left = s })) (sym e)
+      → onStructure f m (record { answer = view x; after = s }) ≡ onStructure f m (record { answer = view y; after = s })
+  on-structure s e = ap (λ (x : B). onStructure f m (record { answer = view x; after = s })) (sym e)
 
 -- the step of a record that is carried out, with the conflicts as they are held
 pub carried-step : (r : Carried) {s : Step} → carriedOf r ≡ carried s → stepOf r ≡ s

@@ -208,7 +208,7 @@ module _ (g : Sig) (s : model.Structure) (r : closing.Rounds) (core : Core) (m a
 
   -- a number is met
   pub refuses : (core .met ≡ 0 → ⊥)
-      → _≡_ {A = Outcome closing.Closed model.Structure} (record { answer = refused (core .met); left = s }) (closing.close g s)
+      → _≡_ {A = Outcome closing.Closed model.Structure} (record { answer = refused (core .met); after = s }) (closing.close g s)
   unfolding closeWith
   refuses h = sym (ap (λ (o : Option ℕ). closeWith o r (coreOf core m a) s) (met-some (core .met) h)) ∙ closes
 
@@ -217,10 +217,10 @@ module _ (g : Sig) (s : model.Structure) (r : closing.Rounds) (core : Core) (m a
       → {left : model.Structure}
       → left ≡ accept (not changed) (canonicaliseRefs (linksOf (core .unification)) (withCore (coreOf core 0 0) (r .apps) s))
       → _≡_ {A = Outcome closing.Closed model.Structure}
-      (record { answer = accepted (record { changed = changed; merges = merges; rounds = r .count }); left = left }) (closing.close g s)
+      (record { answer = accepted (record { changed = changed; merges = merges; rounds = r .count }); after = left }) (closing.close g s)
   unfolding closeWith answerOf leftBy withCore
   accepts h p q e =
-      (λ i. record { answer = accepted (record { changed = p i; merges = q i; rounds = r .count }); left = e i })
+      (λ i. record { answer = accepted (record { changed = p i; merges = q i; rounds = r .count }); after = e i })
       ∙ (λ i. record {
         answer = accepted (record { changed = ltb 1 (r .count) || grew (r .core) (coreOf core m a); merges = m; rounds = r .count });
         left = accept (not (p i)) (canonicaliseRefs (linksOf (core .unification)) (withCore (coreOf core 0 0) (r .apps) s));

@@ -53,4 +53,4 @@ answerOf (answers.Closed c) = accepted (closedOf c)
 answerOf (answers.Refused n) = refused n
 
 abbrev pub closingOf : Closing → Outcome closing.Closed model.Structure
-closingOf r = record { answer = answerOf (r .answer); left = structureOf (r .structure) }
+closingOf r = record { answer = answerOf (r .answer); after = structureOf (r .structure) }

@@ -46,11 +46,11 @@ conflictsIn ls fs = typeConflicts (with-links ls (with-facts fs empty))
 
 -- the answer with the conflicts as they are given
 abbrev pub conflictingOf : Conflicting → Outcome (List Conflict) model.Structure
-conflictingOf r = record { answer = accepted (givenConflicts (r .conflicts)); left = structureOf (r .structure) }
+conflictingOf r = record { answer = accepted (givenConflicts (r .conflicts)); after = structureOf (r .structure) }
 
 -- as they are held
 abbrev pub heldConflicting : Conflicting → Outcome (List Conflict) model.Structure
-heldConflicting r = record { answer = accepted (conflictsOf (r .conflicts)); left = structureOf (r .structure) }
+heldConflicting r = record { answer = accepted (conflictsOf (r .conflicts)); after = structureOf (r .structure) }
 
 -- both
 abbrev pub handedConflicting : Conflicting → Handed (Outcome (List Conflict) model.Structure)

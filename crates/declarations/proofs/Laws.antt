@@ -130,7 +130,7 @@ answer-is {S} (c ∷ cs) before after v = go (c .applies) (answer-is cs before a
   where
     go : (b : Bool) → answerOf cs v ≡ outcome cs before v after .answer
         → elim b [ true ↦ refused (c .number) | false ↦ answerOf cs v ]
-        ≡ answerIn {S = S} (elim b [ true ↦ record { answer = refused (c .number); left = before } | false ↦ outcome cs before v after ])
+        ≡ answerIn {S = S} (elim b [ true ↦ record { answer = refused (c .number); after = before } | false ↦ outcome cs before v after ])
     go true e = refl
     go false e = e
 
@@ -140,23 +140,23 @@ module _ {S : Type 0} {o : Outcome ℕ S} {cs : List Cause} {before after : S} {
   answer = so .is ∙ answer-is cs before after v
 
   -- refused, it leaves all as it was
-  pub refuses : {m : ℕ} → a ≡ refused m → record { answer = a; left = before } ≡ o
+  pub refuses : {m : ℕ} → a ≡ refused m → record { answer = a; after = before } ≡ o
   refuses {m} e =
       let same = refused-left before after v cs m (sym answer ∙ e) in
-      (λ k. record { answer = answer k; left = sym same k }) ∙ sym (judged .is)
+      (λ k. record { answer = answer k; after = sym same k }) ∙ sym (judged .is)
 
   -- accepted, no cause applied
-  accepts : {m : ℕ} {left : S} → a ≡ accepted m → (None (length cs) cs → left ≡ after) → record { answer = a; left = left } ≡ o
+  accepts : {m : ℕ} {left : S} → a ≡ accepted m → (None (length cs) cs → left ≡ after) → record { answer = a; after = left } ≡ o
   accepts {m} {left} e is =
       let none = none-apply v m cs (sym (so .is) ∙ e) in
       let done = accepted-left before after v cs m (sym answer ∙ e) .1 in
-      (λ k. record { answer = answer k; left = (is none ∙ sym done) k }) ∙ sym (judged .is)
+      (λ k. record { answer = answer k; after = (is none ∙ sym done) k }) ∙ sym (judged .is)
 
 -- A call that pushes x to a table of at most `limit` entries, ys, where the entry y is to be appended.
 module _ {B S : Type 0} (limit : ℕ) (ys : List B) (y : B) (put : List B → S) {o : Outcome ℕ S} {cs : List Cause} {before : S}
     (judged : Judged o cs before (put (ys ++ (y ∷ []))) (length ys)) {a : Answered ℕ} (so : SoFar a cs (length ys)) where
   pub appends : {m : ℕ} {zs : List B} {x : B} → a ≡ accepted m
-      → (None (length cs) cs → (leb limit (length ys) ≡ false) × (x ≡ y)) → zs ≡ pushOf limit ys x → record { answer = a; left = put zs } ≡ o
+      → (None (length cs) cs → (leb limit (length ys) ≡ false) × (x ≡ y)) → zs ≡ pushOf limit ys x → record { answer = a; after = put zs } ≡ o
   appends e fits h =
       accepts judged so e
       (λ none.

@@ -30,7 +30,7 @@ module _ (started : Bool) (g : Sig) (t : TypeM) (n : ℕ) where
       (e .0, λ k. e .1 k .types, λ k. e .1 k .preds, λ k. e .1 k .funcs, λ k. e .1 k .models, λ k. e .1 k .mor-apps)
 
 module _ (started : Bool) (g : Sig) (p : PredM) (n : ℕ) where
-  pub pred-refused : pushPred started g p .answer ≡ refused n → pushPred started g p .left ≡ g
+  pub pred-refused : pushPred started g p .answer ≡ refused n → pushPred started g p .lhs ≡ g
   unfolding pushPred
   pred-refused h = refused-left _ _ _ _ n h
 
@@ -38,7 +38,7 @@ module _ (started : Bool) (g : Sig) (p : PredM) (n : ℕ) where
   unfolding pushPred
   pred-number h = refused-number _ _ _ _ n h
 
-  pub pred-accepted : pushPred started g p .answer ≡ accepted n → let left = pushPred started g p .left in
+  pub pred-accepted : pushPred started g p .answer ≡ accepted n → let left = pushPred started g p .lhs in
       (n ≡ length (g .preds)) × (left .preds ≡ g .preds ++ (p ∷ []))
       × (left .types ≡ g .types) × (left .funcs ≡ g .funcs) × (left .models ≡ g .models) × (left .mor-apps ≡ g .mor-apps)
   unfolding pushPred with-preds

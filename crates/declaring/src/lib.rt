@@ -9,35 +9,36 @@ use signature::Type;
 use structure::Structure;
 ghost use mathlib.Core.Path.{_≡_};
 ghost use Rattle.signature.specs.Model.{sigOf, givenType, givenPred, givenFunc, modelOf, morAppOf};
-ghost use Rattle.signature.specs.Calls.{pushType, pushPred, pushFunc, pushModel, pushMorApp, declared};
+ghost use Rattle.semantics.specs.Calls.{push-type, push-pred, push-func, push-model, push-mor-app, machine, step};
 ghost use Rattle.structure.specs.View.{structureOf};
+ghost use Rattle.declaring.specs.View.{declaringOf};
 
 pub fn push_type(structure: Structure, signature: Signature, t: Type) -> Declaring
-    ensures { λ r. ⌜ declared r ≡ pushType (structureOf structure .started) (sigOf signature) (givenType t) ⌝ }
+    ensures { λ r. ⌜ declaringOf (structureOf structure) r ≡ step (push-type (givenType t)) (machine (sigOf signature) (structureOf structure)) ⌝ }
 {
     declarations::push_type(signature, structure.started, t)
 }
 
 pub fn push_pred(structure: Structure, signature: Signature, p: Pred) -> Declaring
-    ensures { λ r. ⌜ declared r ≡ pushPred (structureOf structure .started) (sigOf signature) (givenPred p) ⌝ }
+    ensures { λ r. ⌜ declaringOf (structureOf structure) r ≡ step (push-pred (givenPred p)) (machine (sigOf signature) (structureOf structure)) ⌝ }
 {
     declarations::push_pred(signature, structure.started, p)
 }
 
 pub fn push_func(structure: Structure, signature: Signature, f: Func) -> Declaring
-    ensures { λ r. ⌜ declared r ≡ pushFunc (structureOf structure .started) (sigOf signature) (givenFunc f) ⌝ }
+    ensures { λ r. ⌜ declaringOf (structureOf structure) r ≡ step (push-func (givenFunc f)) (machine (sigOf signature) (structureOf structure)) ⌝ }
 {
     declarations::push_func(signature, structure.started, f)
 }
 
 pub fn push_model(structure: Structure, signature: Signature, ids: ModelIds) -> Declaring
-    ensures { λ r. ⌜ declared r ≡ pushModel (structureOf structure .started) (sigOf signature) (modelOf ids) ⌝ }
+    ensures { λ r. ⌜ declaringOf (structureOf structure) r ≡ step (push-model (modelOf ids)) (machine (sigOf signature) (structureOf structure)) ⌝ }
 {
     declarations::push_model(signature, structure.started, ids)
 }
 
 pub fn push_mor_app_func(structure: Structure, signature: Signature, m: MorAppFunc) -> Declaring
-    ensures { λ r. ⌜ declared r ≡ pushMorApp (structureOf structure .started) (sigOf signature) (morAppOf m) ⌝ }
+    ensures { λ r. ⌜ declaringOf (structureOf structure) r ≡ step (push-mor-app (morAppOf m)) (machine (sigOf signature) (structureOf structure)) ⌝ }
 {
     declarations::push_mor_app_func(signature, structure.started, m)
 }

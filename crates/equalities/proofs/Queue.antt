@@ -55,7 +55,7 @@ module _ (t : Pairs) (p : Pair) {n : ℕ} (sized : Sized (pairsOf t) maxPairs n)
 
 -- both finds, one after the other, and the pair
 pub equated : (ls : List ℕ) (ps qs : List model.Pair) (a b : ℕ) {f s : ShortM} → f ≡ shortenedOf ls a → s ≡ shortenedOf (f .links) b
-    → qs ≡ queuedOf ps (record { left = a; right = b })
+    → qs ≡ queuedOf ps (record { lhs = a; rhs = b })
     → _≡_ {A = calls.Equated} (record { links = s .links; pairs = qs; differ = not (eqb (f .find .root) (s .find .root)) }) (equateIn ls ps a b)
 unfolding equateIn calls.equate shortenedOf findOf
 equated ls ps qs a b {f} {s} first second queued =

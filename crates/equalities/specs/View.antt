@@ -13,7 +13,7 @@ use Rattle.equalities.specs.declared.Pairs.{Pairs}
 use Rattle.equalities.specs.declared.Equated.{Equated}
 
 abbrev pub pairOf : Pair → model.Pair
-pairOf p = record { left = p .left .0; right = p .right .0 }
+pairOf p = record { lhs = p .lhs .0; rhs = p .rhs .0 }
 
 -- the pairs of a queue: that which was queued last stands first
 abbrev pub pairsOf : Pairs → List model.Pair
@@ -27,7 +27,7 @@ queuedOf ps p = elim (ltb (length ps) maxPairs) [ true ↦ p ∷ ps | false ↦ 
 unfoldable pub equateIn : List ℕ → List model.Pair → ℕ → ℕ → calls.Equated
 equateIn ls ps a b = record {
   links = calls.equate ls ps a b .links;
-  pairs = queuedOf ps (record { left = a; right = b });
+  pairs = queuedOf ps (record { lhs = a; rhs = b });
   differ = calls.equate ls ps a b .differ;
 }
 

@@ -97,9 +97,9 @@ module _ (b b′ : Book) (w : Core) (xs : List FuncApp) (x y : ℕ) (g : Tied b 
     (many : elements b′ ≡ elements b) (merged : b′ .merges ≡ b .merges)
     (tells : (R : ℕ → ℕ → Type 0) (S : FuncApp → Type 0) → Equivalence R → Respects R S → Told R S b′ → Told R S b × R x y)
     (told : (R : ℕ → ℕ → Type 0) (S : FuncApp → Type 0) → Equivalence R → Respects R S → Fair R S w xs → Told R S b → R x y → Told R S b′) where
-  queued : Tied b′ (altered (shortOf (shortOf (w .links) x) y) (record { left = x; right = y } ∷ w .pairs) w) xs
+  queued : Tied b′ (altered (shortOf (shortOf (w .links) x) y) (record { lhs = x; rhs = y } ∷ w .pairs) w) xs
   queued =
-      let v = altered (shortOf (shortOf (w .links) x) y) (record { left = x; right = y } ∷ w .pairs) w in
+      let v = altered (shortOf (shortOf (w .links) x) y) (record { lhs = x; rhs = y } ∷ w .pairs) w in
       let w₁ = altered (shortOf (w .links) x) (w .pairs) w in
       let g₁ = relinked b w xs x g hx in
       let g₂ = relinked b w₁ xs y g₁ hy in
@@ -123,7 +123,7 @@ module _ (b b′ : Book) (w : Core) (xs : List FuncApp) (x y : ℕ) (g : Tied b 
 
 -- Kind 7.
 equality-tied : (b : Book) (w : Core) (xs : List FuncApp) (x y : ℕ) → Tied b w xs → x < elements b → y < elements b
-    → Tied (taken (equate-els x y) 0 b) (altered (shortOf (shortOf (w .links) x) y) (record { left = x; right = y } ∷ w .pairs) w) xs
+    → Tied (taken (equate-els x y) 0 b) (altered (shortOf (shortOf (w .links) x) y) (record { lhs = x; rhs = y } ∷ w .pairs) w) xs
 unfolding taken
 equality-tied b w xs x y g hx hy =
     queued b (taken (equate-els x y) 0 b) w xs x y g hx hy refl refl (λ R S q law f. ((f .0 .1, f .1), f .0 .0))
@@ -236,7 +236,7 @@ module _ (b : Book) (w : Core) (xs : List FuncApp) (x : FuncApp) (g : Tied b w x
   }
 
   result-other : (z : FuncApp) → lookupOf compareFuncApp y xs ≡ some z
-      → Tied b′ (altered (shortOf (shortOf (w .links) (z .result)) (y .result)) (record { left = z .result; right = y .result } ∷ w .pairs) w) xs
+      → Tied b′ (altered (shortOf (shortOf (w .links) (z .result)) (y .result)) (record { lhs = z .result; rhs = y .result } ∷ w .pairs) w) xs
   unfolding taken
   result-other z e =
       queued b b′ w xs (z .result) (y .result) g
@@ -307,11 +307,11 @@ close-tied b m g c e =
 
 -- a call is refused and leaves what was there, or no cause applied
 outcome-cases {ℓ} : {A S : Type 0} (P : Outcome A S → Type ℓ) (causes : List Cause) (before : S) (value : A) (after : S)
-    → ((n : ℕ) → P (record { answer = refused n; left = before })) → (NoneApplies causes → P (record { answer = accepted value; left = after }))
+    → ((n : ℕ) → P (record { answer = refused n; after = before })) → (NoneApplies causes → P (record { answer = accepted value; after = after }))
     → P (outcome causes before value after)
 unfolding outcome
 outcome-cases P causes before value after refuses accepts =
-    decided-by P causes (λ n. record { answer = refused n; left = before }) (record { answer = accepted value; left = after }) refuses accepts
+    decided-by P causes (λ n. record { answer = refused n; after = before }) (record { answer = accepted value; after = after }) refuses accepts
 
 someMark-last : (l : List Bool) (m : Bool) → someMark (l ++ (m ∷ [])) ≡ false → (someMark l ≡ false) × (m ≡ false)
 unfolding someMark
@@ -343,7 +343,7 @@ module _ (m : Machine) (b : Book) (v : ValidMachine m) (g : HeldTo b (m .structu
 
   -- a call of the structure: a refusal leaves all, and the rest is to be shown
   judged : {A : Type 0} (k : Call) (f : A → Answer) (causes : List Cause) (value : A) (after : Structure)
-      → (NoneApplies causes → Next k (onStructure f m (record { answer = accepted value; left = after })))
+      → (NoneApplies causes → Next k (onStructure f m (record { answer = accepted value; after = after })))
       → Next k (onStructure f m (outcome causes (m .structure) value after))
   unfolding answerOf
   judged k f causes value after accepts =
@@ -399,7 +399,7 @@ module _ (m : Machine) (b : Book) (v : ValidMachine m) (g : HeldTo b (m .structu
       let hy = declared y (and-second p q a) in
       record {
         long = short-length (shortOf ls x) y ∙ short-length ls x ∙ g .long;
-        named = record { equalities = (record { left = hx; right = hy }, g .named .equalities); apps = g .named .apps };
+        named = record { equalities = (record { lhs = hx; rhs = hy }, g .named .equalities); apps = g .named .apps };
         tied = λ e. equality-tied b (coreOf (m .structure)) (m .structure .func-apps) x y (g .tied e) hx hy;
       })
 

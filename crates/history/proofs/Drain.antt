@@ -39,7 +39,7 @@ counted-then w v u a b = record {
 
 join-counted : (p : Pair) (w : Core) → Counted w (join p w)
 unfolding join joinRoots merge
-join-counted p w = go (rootOf (w .links) (p .left)) (rootOf (w .links) (p .right)) (eqb (rootOf (w .links) (p .left)) (rootOf (w .links) (p .right)))
+join-counted p w = go (rootOf (w .links) (p .lhs)) (rootOf (w .links) (p .rhs)) (eqb (rootOf (w .links) (p .lhs)) (rootOf (w .links) (p .rhs)))
   where
     go : (a b : ℕ) (t : Bool) → Counted w (elim t [ true ↦ w | false ↦ merge (min a b) (max a b) w ])
     go a b true = counted-none w
@@ -61,7 +61,7 @@ drain-none w q = ap (λ ps. drainPairs ps (with-pairs [] w)) q
 -- the number first met is as it was
 join-met : (p : Pair) (w : Core) → join p w .met ≡ w .met
 unfolding join joinRoots merge
-join-met p w = go (rootOf (w .links) (p .left)) (rootOf (w .links) (p .right)) (eqb (rootOf (w .links) (p .left)) (rootOf (w .links) (p .right)))
+join-met p w = go (rootOf (w .links) (p .lhs)) (rootOf (w .links) (p .rhs)) (eqb (rootOf (w .links) (p .lhs)) (rootOf (w .links) (p .rhs)))
   where
     go : (a b : ℕ) (t : Bool) → (elim t as (λ _. Core) [ true ↦ w | false ↦ merge (min a b) (max a b) w ]) .met ≡ w .met
     go a b true = refl
@@ -78,11 +78,11 @@ drain-met w = drainPairs-met (w .pairs) (with-pairs [] w)
 
 -- the two elements of a pair have two roots
 abbrev pub Apart : List ℕ → Pair → Type 0
-Apart ls p = rootOf ls (p .left) ≢ rootOf ls (p .right)
+Apart ls p = rootOf ls (p .lhs) ≢ rootOf ls (p .rhs)
 
 join-grows : (p : Pair) (w : Core) → Apart (w .links) p → w .merges < join p w .merges
 unfolding join joinRoots merge
-join-grows p w h = rw (join, joinRoots, ne-eqb (rootOf (w .links) (p .left)) (rootOf (w .links) (p .right)) h) (omega arith)
+join-grows p w h = rw (join, joinRoots, ne-eqb (rootOf (w .links) (p .lhs)) (rootOf (w .links) (p .rhs)) h) (omega arith)
 
 -- a queue whose last pair has two roots merges
 pub drain-grows : (w : Core) (p : Pair) (ps : List Pair) → w .pairs ≡ p ∷ ps → Apart (w .links) p → w .merges < drain w .merges
@@ -100,11 +100,11 @@ pub record Kept (n total : ℕ) (w : Core) : Type 0 where
 
 -- a partition puts the two elements of a pair together
 abbrev pub Even : (ℕ → ℕ → Type 0) → Pair → Type 0
-Even R p = R (p .left) (p .right)
+Even R p = R (p .lhs) (p .rhs)
 
 -- both are elements
 abbrev pub Inside : ℕ → Pair → Type 0
-Inside n p = (p .left < n) × (p .right < n)
+Inside n p = (p .lhs < n) × (p .rhs < n)
 
 abbrev pub Unmarked : List Bool → Type 0
 Unmarked l = (e : ℕ) → marked l e ≡ false
@@ -179,29 +179,29 @@ module _ (n total : ℕ) (w : Core) (k : Kept n total w) where
   join-law p h = go (eqb a b) refl
     where
       a : ℕ
-      a = rootOf (w .links) (p .left)
+      a = rootOf (w .links) (p .lhs)
 
       b : ℕ
-      b = rootOf (w .links) (p .right)
+      b = rootOf (w .links) (p .rhs)
 
       go : (t : Bool) → eqb a b ≡ t → Joined n total w (elim t [ true ↦ w | false ↦ merge (min a b) (max a b) w ]) (λ R. Even R p)
       go true e = record {
         kept = k;
         on = λ R v r q. r;
-        back = λ R v r. (r, v .trans (v .flip (subst (λ x. R x (p .left)) (eqb-true a b e) (r (p .left)))) (r (p .right)));
+        back = λ R v r. (r, v .trans (v .flip (subst (λ x. R x (p .lhs)) (eqb-true a b e) (r (p .lhs)))) (r (p .rhs)));
         plain = λ u. u;
       }
       go false e =
           ⊎-elim (λ (o : (min a b ≡ a) × (max a b ≡ b) × (a < b)).
           rw (o .0, o .1)
-          (merge-joined n total w k a b (two (p .left) (p .right) (o .2) (h .1)) (λ R. Even R p)
-          (λ R v r q. v .trans (r (p .left)) (v .trans q (v .flip (r (p .right)))))
-          (λ R v r q. v .trans (v .flip (r (p .left))) (v .trans q (r (p .right))))))
+          (merge-joined n total w k a b (two (p .lhs) (p .rhs) (o .2) (h .1)) (λ R. Even R p)
+          (λ R v r q. v .trans (r (p .lhs)) (v .trans q (v .flip (r (p .rhs)))))
+          (λ R v r q. v .trans (v .flip (r (p .lhs))) (v .trans q (r (p .rhs))))))
           (λ (o : (min a b ≡ b) × (max a b ≡ a) × (b < a)).
           rw (o .0, o .1)
-          (merge-joined n total w k b a (two (p .right) (p .left) (o .2) (h .0)) (λ R. Even R p)
-          (λ R v r q. v .trans (r (p .right)) (v .trans (v .flip q) (v .flip (r (p .left)))))
-          (λ R v r q. v .trans (v .flip (r (p .left))) (v .trans (v .flip q) (r (p .right))))))
+          (merge-joined n total w k b a (two (p .rhs) (p .lhs) (o .2) (h .0)) (λ R. Even R p)
+          (λ R v r q. v .trans (r (p .rhs)) (v .trans (v .flip q) (v .flip (r (p .lhs)))))
+          (λ R v r q. v .trans (v .flip (r (p .lhs))) (v .trans (v .flip q) (r (p .rhs))))))
           (ordered a b (eqb-false a b e))
 
 pub drainPairs-law : (n total : ℕ) (ps : List Pair) (w : Core) → Kept n total w → All (Inside n) ps

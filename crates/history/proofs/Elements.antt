@@ -12,8 +12,8 @@ use Rattle.history.proofs.Relation.{Equivalence}
 
 -- an equality of elements, where there are n
 pub record PairNamed (n : ℕ) (p : Pair) : Type 0 where
-  pub left : p .left < n
-  pub right : p .right < n
+  pub lhs : p .lhs < n
+  pub rhs : p .rhs < n
 
 -- an application to elements, where there are n
 pub record AppNamed (n : ℕ) (x : FuncApp) : Type 0 where
@@ -28,7 +28,7 @@ pub record Named (b : Book) : Type 0 where
 
 -- names of elements stay such where there are more
 pub pair-more : (n k : ℕ) → n ≤ k → (p : Pair) → PairNamed n p → PairNamed k p
-pair-more n k h p i = record { left = omega (arith, i .left); right = omega (arith, i .right) }
+pair-more n k h p i = record { lhs = omega (arith, i .lhs); rhs = omega (arith, i .rhs) }
 
 pub app-more : (n k : ℕ) → n ≤ k → (x : FuncApp) → AppNamed n x → AppNamed k x
 app-more n k h x i = record {
@@ -82,7 +82,7 @@ shared-among-all b g x y h = (
   where
     fits : (R : ℕ → ℕ → Type 0) → Partition (elements b) R → Fits b R → Fits b (Extended (elements b) R)
     fits R q f = record {
-      equal = λ p m. let i = all-at (PairNamed (elements b)) (b .equalities) (g .equalities) p m in inr (i .left, i .right, f .equal p m);
+      equal = λ p m. let i = all-at (PairNamed (elements b)) (b .equalities) (g .equalities) p m in inr (i .lhs, i .rhs, f .equal p m);
       functional = λ v w m o t.
           let i = all-at (AppNamed (elements b)) (b .apps) (g .apps) v m in
           let j = all-at (AppNamed (elements b)) (b .apps) (g .apps) w o in

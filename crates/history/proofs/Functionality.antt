@@ -41,7 +41,7 @@ enter-cases {ℓ} : (P : Rewritten → Type ℓ) (x : FuncApp) (t : Rewritten)
     → (lookupOf compareFuncApp x (t .apps) ≡ none → P (record { apps = placed compareFuncApp x (t .apps); pairs = t .pairs; queued = t .queued }))
     → ((y : FuncApp) → lookupOf compareFuncApp x (t .apps) ≡ some y → y .result ≡ x .result → P t)
     → ((y : FuncApp) → lookupOf compareFuncApp x (t .apps) ≡ some y → y .result ≢ x .result
-    → P (record { apps = t .apps; pairs = record { left = y .result; right = x .result } ∷ t .pairs; queued = true }))
+    → P (record { apps = t .apps; pairs = record { lhs = y .result; rhs = x .result } ∷ t .pairs; queued = true }))
     → P (enter x t)
 unfolding enter enterAt
 enter-cases P x t new same other = go (lookupOf compareFuncApp x (t .apps)) refl
@@ -49,7 +49,7 @@ enter-cases P x t new same other = go (lookupOf compareFuncApp x (t .apps)) refl
     by : (y : FuncApp) → lookupOf compareFuncApp x (t .apps) ≡ some y → (b : Bool) → eqb (y .result) (x .result) ≡ b
         → P (elim b [
           | true ↦ t
-          | false ↦ record { apps = t .apps; pairs = record { left = y .result; right = x .result } ∷ t .pairs; queued = true }
+          | false ↦ record { apps = t .apps; pairs = record { lhs = y .result; rhs = x .result } ∷ t .pairs; queued = true }
         ])
     by y e true h = same y e (eqb-true (y .result) (x .result) h)
     by y e false h = other y e (eqb-false (y .result) (x .result) h)
@@ -116,7 +116,7 @@ enterAll-sorted ls (x ∷ xs) t s =
     (λ e. placed-sorted func-app-ordered (canonicalFuncApp ls x) (t .apps) s) (λ y e r. s) (λ y e n. s))
 
 -- a pair that is queued is of two results that differ, both of them roots
-pub enterAll-pairs : (P : ℕ → Type 0) (Q : Pair → Type 0) → ((p : Pair) → P (p .left) → P (p .right) → p .left ≢ p .right → Q p)
+pub enterAll-pairs : (P : ℕ → Type 0) (Q : Pair → Type 0) → ((p : Pair) → P (p .lhs) → P (p .rhs) → p .lhs ≢ p .rhs → Q p)
     → (ls : List ℕ) (xs : List FuncApp) (t : Rewritten) → All (λ x. P (rootOf ls (x .result))) xs → All (λ y. P (y .result)) (t .apps)
     → All Q (t .pairs) → All Q (enterAll ls xs t .pairs)
 unfolding enterAll canonicalFuncApp
@@ -125,7 +125,7 @@ enterAll-pairs P Q f ls (x ∷ xs) t h a b =
     enterAll-pairs P Q f ls xs (enter (canonicalFuncApp ls x) t) (h .1) (enter-all (λ y. P (y .result)) (canonicalFuncApp ls x) t (h .0) a)
     (enter-cases (λ u. All Q (u .pairs)) (canonicalFuncApp ls x) t (λ e. b) (λ y e r. b)
     (λ y e n. (
-      f (record { left = y .result; right = rootOf ls (x .result) })
+      f (record { lhs = y .result; rhs = rootOf ls (x .result) })
           (all-at (λ z. P (z .result)) (t .apps) a y (lookup-sound compareFuncApp (canonicalFuncApp ls x) (t .apps) e .0)) (h .0) n,
       b,
     )))

@@ -34,7 +34,7 @@ module _ (w : Core) (p q : ℕ) where
       let n : rootOf ls p ≢ rootOf ls q =
       eqb-false (rootOf ls p) (rootOf ls q) (not-true (eqb (rootOf ls p) (rootOf ls q)) (and-first _ _ e)) in
       rw (refine, refineRoots, e)
-      (drain-grows (with-pairs (record { left = rootOf ls p; right = rootOf ls q } ∷ w .pairs) w) (record { left = rootOf ls p; right = rootOf ls q })
+      (drain-grows (with-pairs (record { lhs = rootOf ls p; rhs = rootOf ls q } ∷ w .pairs) w) (record { lhs = rootOf ls p; rhs = rootOf ls q })
       (w .pairs) refl (λ z. n (sym (root-root ls p) ∙ z ∙ root-root ls q)))
 
   pub refine-none : joins (w .links) (w .marks) p q ≡ false → refine p q w ≡ w

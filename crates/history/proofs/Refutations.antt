@@ -55,7 +55,7 @@ abbrev plainBook : List Pair → List FuncApp → ℕ → Book
 plainBook es xs n = record { marks = false ∷ false ∷ []; equalities = es; apps = xs; merges = n }
 
 abbrev zeroOne : Pair
-zeroOne = record { left = 0; right = 1 }
+zeroOne = record { lhs = 0; rhs = 1 }
 
 abbrev application : ℕ → List ℕ → List ℕ → ℕ → FuncApp
 application f ps xs r = record { func = f; parents = ps; args = xs; result = r }

@@ -38,7 +38,7 @@ abbrev pub Meets : Type 1
 Meets = (ℕ → ℕ → Type 0) → FuncApp → FuncApp → Type 0
 
 pub record FitsBy (M : Meets) (b : Book) (R : ℕ → ℕ → Type 0) : Type 0 where
-  pub equal : (p : Pair) → List·Memᴰ p (b .equalities) → R (p .left) (p .right)
+  pub equal : (p : Pair) → List·Memᴰ p (b .equalities) → R (p .lhs) (p .rhs)
   pub functional : (x y : FuncApp) → List·Memᴰ x (b .apps) → List·Memᴰ y (b .apps) → M R x y → R (x .result) (y .result)
 
 -- which elements share a class

@@ -59,7 +59,7 @@ four : elements (after .book) ≡ 4
 unfolding computed worked after
 four = refl
 
-one-equality : after .book .equalities ≡ record { left = 0; right = 1 } ∷ []
+one-equality : after .book .equalities ≡ record { lhs = 0; rhs = 1 } ∷ []
 unfolding computed worked after
 one-equality = refl
 

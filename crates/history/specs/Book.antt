@@ -44,7 +44,7 @@ taken (push-model x) n b = b
 taken (push-mor-app x) n b = b
 taken (push-el mark) n b = record { marks = b .marks ++ (mark ∷ []); equalities = b .equalities; apps = b .apps; merges = b .merges }
 taken (equate-els x y) n b =
-    record { marks = b .marks; equalities = record { left = x; right = y } ∷ b .equalities; apps = b .apps; merges = b .merges }
+    record { marks = b .marks; equalities = record { lhs = x; rhs = y } ∷ b .equalities; apps = b .apps; merges = b .merges }
 taken (impose-type f) n b = b
 taken (apply-func x) n b = record { marks = b .marks; equalities = b .equalities; apps = x ∷ b .apps; merges = b .merges }
 taken (apply-pred x) n b = b
@@ -134,7 +134,7 @@ pub record Meet (R : ℕ → ℕ → Type 0) (x y : FuncApp) : Type 0 where
 
 -- "fits when it puts together the two elements of each equality, and the results of any two applications .."
 pub record Fits (b : Book) (R : ℕ → ℕ → Type 0) : Type 0 where
-  pub equal : (p : Pair) → List·Memᴰ p (b .equalities) → R (p .left) (p .right)
+  pub equal : (p : Pair) → List·Memᴰ p (b .equalities) → R (p .lhs) (p .rhs)
   pub functional : (x y : FuncApp) → List·Memᴰ x (b .apps) → List·Memᴰ y (b .apps) → Meet R x y → R (x .result) (y .result)
 
 -- "two elements share a class exactly when every fitting partition puts them together"

@@ -2,38 +2,25 @@
 use mathlib.Core.Path.{_≡_, refl}
 use mathlib.Core.Bool.{Bool, true, false, not, _&&_, _||_}
 use mathlib.Core.List.{List, [], _∷_}
+use mathlib.Core.Option.{none, some}
 use Prim.Native.Nat.{ℕ}
-use Rattle.ids.specs.Answers.{Cause, decided, accepted, refused, outcome, _if_}
+use Rattle.ids.specs.Answers.{Cause, firstOf, _if_}
 
-module _ {R : Type 0} (refuse : ℕ → R) (done : R) (n : ℕ) (b : Bool) (cs : List Cause) where
-  -- a cause that applies refuses
-  pub refuses : b ≡ true → decided (n if b ∷ cs) refuse done ≡ refuse n
-  unfolding decided
-  refuses h = rw (h, decided)
+module _ (n : ℕ) (b : Bool) (cs : List Cause) where
+  -- a cause that applies gives its number
+  pub first-applies : b ≡ true → firstOf (n if b ∷ cs) ≡ some n
+  unfolding firstOf
+  first-applies h = rw (h, firstOf)
 
   -- one that does not leaves the rest to be judged
-  pub passes : b ≡ false → decided (n if b ∷ cs) refuse done ≡ decided cs refuse done
-  unfolding decided
-  passes h = rw (h, decided)
-
-module _ {A S : Type 0} (before after : S) (value : A) (n : ℕ) (b : Bool) (cs : List Cause) where
-  pub outcome-refuses : b ≡ true → outcome (n if b ∷ cs) before value after ≡ record { answer = refused n; left = before }
-  unfolding outcome
-  outcome-refuses h = refuses _ _ n b cs h
-
-  pub outcome-passes : b ≡ false → outcome (n if b ∷ cs) before value after ≡ outcome cs before value after
-  unfolding outcome
-  outcome-passes h = passes _ _ n b cs h
+  pub first-passes : b ≡ false → firstOf (n if b ∷ cs) ≡ firstOf cs
+  unfolding firstOf
+  first-passes h = rw (h, firstOf)
 
 -- no cause is left
-
-pub none-left : {R : Type 0} (refuse : ℕ → R) (done : R) → decided [] refuse done ≡ done
-unfolding decided
-none-left refuse done = refl
-
-pub outcome-done : {A S : Type 0} (before after : S) (value : A) → outcome [] before value after ≡ record { answer = accepted value; left = after }
-unfolding outcome
-outcome-done before after value = none-left _ _
+pub first-none : firstOf [] ≡ none
+unfolding firstOf
+first-none = refl
 
 -- A test that joins several: what decides it.
 

@@ -1,108 +1,139 @@
--- Laws of calls that judge their causes one after the other, and of what their answers tell.
-use mathlib.Core.Path.{_≡_, refl, sym, ap, _∙_}
-use mathlib.Core.Bool.{Bool, true, false, not, _&&_, _||_}
-use mathlib.Core.List.{List, [], _∷_, map, List·Memᴰ, List·Memᴰ·head, List·Memᴰ·tail, Memᴰ·cast}
-use Prim.Native.Nat.{ℕ, zero, suc}
+-- Laws of verdicts: what the code judges cause by cause is the first cause of a list, and what a verdict tells of a call.
+use mathlib.Core.Path.{_≡_, refl, sym, ap, subst, _∙_}
+use mathlib.Core.Bool.{Bool, true, false}
+use mathlib.Core.List.{List, [], _∷_, _++_, map, List·Memᴰ, List·Memᴰ·head, List·Memᴰ·tail}
+use mathlib.Core.Option.{Option, none, some}
+use Prim.Native.Nat.{ℕ}
 use native.Mathlib.Omega.{arith}
-use Rattle.ids.specs.Answers.{Cause, decided, accepted, refused, Outcome, outcome, _if_}
-use Rattle.ids.proofs.Answers.{outcome-refuses, outcome-passes, outcome-done}
+use Rattle.ids.specs.Answers.{Answered, accepted, refused, Cause, firstOf, decided, Outcome, outcome, refusing, accepting, _if_}
+use Rattle.ids.specs.Judge.{orIf}
+use Rattle.ids.specs.Ids.{tooLong}
+use Rattle.ids.specs.Sorted.{All}
 
--- How a call's causes come out, one after the other: the first applies, or it is passed, or none is left.
-pub data Verdict {A S : Type 0} (before after : S) (value : A) (o : Outcome A S) : List Cause → Type 0 where
-  stops : {n : ℕ} {b : Bool} {cs : List Cause} → b ≡ true → o ≡ record { answer = refused n; left = before }
-      → Verdict before after value o (n if b ∷ cs)
-  on : {n : ℕ} {b : Bool} {cs : List Cause} → b ≡ false → Verdict before after value o cs → Verdict before after value o (n if b ∷ cs)
-  ends : o ≡ record { answer = accepted value; left = after } → Verdict before after value o []
-
-pub judged : {A S : Type 0} {before after : S} {value : A} {o : Outcome A S} {cs : List Cause} → Verdict before after value o cs
-    → o ≡ outcome cs before value after
-judged {before = s} {after = t} {value = v} (stops {n} {b} {cs} h e) = e ∙ sym (outcome-refuses s t v n b cs h)
-judged {before = s} {after = t} {value = v} (on {n} {b} {cs} h r) = judged r ∙ sym (outcome-passes s t v n b cs h)
-judged {before = s} {after = t} {value = v} (ends e) = e ∙ sym (outcome-done s t v)
-
--- the first k of some causes do not apply
-abbrev pub None : ℕ → List Cause → Type 0
-None zero cs = Unit
-None (suc k) [] = Unit
-None (suc k) (c ∷ cs) = (c .applies ≡ false) × None k cs
-
--- a call that judges causes
-pub record Judged {A S : Type 0} (o : Outcome A S) (cs : List Cause) (before after : S) (value : A) : Type 0 where
-  pub is : o ≡ outcome cs before value after
-
--- Causes that are judged alike: one that joins two tests is judged as two of one number.
-pub record Alike {A S : Type 0} (before after : S) (value : A) (cs ds : List Cause) : Type 0 where
-  pub is : outcome cs before value after ≡ outcome ds before value after
-
-module _ {A S : Type 0} {before after : S} {value : A} where
-  pub alike : {cs : List Cause} → Alike before after value cs cs
-  alike = record { is = refl }
-
-  pub under : {c : Cause} {cs ds : List Cause} → Alike before after value cs ds → Alike before after value (c ∷ cs) (c ∷ ds)
-  unfolding outcome decided
-  under {c} e = record {
-    is = ap (λ (o : Outcome A S). elim (c .applies) [ true ↦ record { answer = refused (c .number); left = before } | false ↦ o ]) (e .is);
-  }
-
-  pub judges : {cs ds : List Cause} → Alike before after value cs ds → Judged (outcome cs before value after) ds before after value
-  judges e = record { is = e .is }
-
-  split-or : (n : ℕ) (a b : Bool) (cs : List Cause) → Alike before after value (n if (a || b) ∷ cs) (n if a ∷ n if b ∷ cs)
-  unfolding outcome decided
-  split-or n true b cs = record { is = refl }
-  split-or n false b cs = record { is = refl }
-
-  split-and : (n : ℕ) (a b : Bool) (cs : List Cause) → Alike before after value (n if not (a && b) ∷ cs) (n if not a ∷ n if not b ∷ cs)
-  unfolding outcome decided
-  split-and n true b cs = record { is = refl }
-  split-and n false b cs = record { is = refl }
-
-  pub one-of : {n : ℕ} {a b : Bool} {cs ds : List Cause}
-      → Alike before after value (n if b ∷ cs) ds → Alike before after value (n if (a || b) ∷ cs) (n if a ∷ ds)
-  one-of {n} {a} {b} {cs} e = record { is = split-or n a b cs .is ∙ under e .is }
-
-  pub not-both : {n : ℕ} (a b : Bool) {cs ds : List Cause}
-      → Alike before after value (n if not b ∷ cs) ds → Alike before after value (n if not (a && b) ∷ cs) (n if not a ∷ ds)
-  not-both {n} a b {cs} e = record { is = split-and n a b cs .is ∙ under e .is }
-
--- What an answer tells of the call.
-
-either : {R : Type 0} (P : R → Type 0) (b : Bool) (x y : R) → P x → P y → P (elim b [ true ↦ x | false ↦ y ])
-either P true x y p q = p
-either P false x y p q = q
-
-not-refused : {A : Type 0} (v : A) (n : ℕ) → accepted v ≡ refused n → ⊥
-not-refused v n e = let z : _≡_ {A = ℕ} 0 1 = cc in omega arith
+-- no cause applies
+abbrev pub NoneApplies : List Cause → Type 0
+NoneApplies cs = All (λ c. c .applies ≡ false) cs
 
 -- the numbers of the causes
 abbrev pub numbers : List Cause → List ℕ
 numbers cs = map (λ (c : Cause). c .number) cs
 
-module _ {A S : Type 0} (before after : S) (value : A) where
-  -- what holds of the refusal by each cause and of the acceptance holds of the outcome
-  pub outcome-all : (P : Outcome A S → Type 0) (cs : List Cause)
-      → ((n : ℕ) → List·Memᴰ n (numbers cs) → P (record { answer = refused n; left = before }))
-      → P (record { answer = accepted value; left = after }) → P (outcome cs before value after)
-  unfolding outcome decided
-  outcome-all P [] f p = p
-  outcome-all P (c ∷ cs) f p =
-      either P (c .applies) _ (outcome cs before value after) (f (c .number) (List·Memᴰ·head refl))
-      (outcome-all P cs (λ n m. f n (List·Memᴰ·tail m)) p)
+not-none : (n : ℕ) → _≡_ {A = Option ℕ} (some n) none → ⊥
+not-none n e = let z : _≡_ {A = ℕ} 0 1 = cc in omega arith
 
-  module _ (cs : List Cause) where
-    -- a refused call leaves all as it was
-    pub refused-left : (n : ℕ) → outcome cs before value after .answer ≡ refused n → outcome cs before value after .left ≡ before
-    refused-left n =
-        outcome-all (λ o. o .answer ≡ refused n → o .left ≡ before) cs (λ m q e. refl) (λ e. absurd (not-refused value n e))
+-- A verdict as far as these causes decide it.
+pub record SoFar (v : Option ℕ) (cs : List Cause) : Type 0 where
+  pub is : v ≡ firstOf cs
 
-    -- the number is that of a cause
-    pub refused-number : (n : ℕ) → outcome cs before value after .answer ≡ refused n → List·Memᴰ n (numbers cs)
-    refused-number n =
-        outcome-all (λ o. o .answer ≡ refused n → List·Memᴰ n (numbers cs)) cs (λ m q e. Memᴰ·cast (cc) q)
-        (λ e. absurd (not-refused value n e))
+pub begin : SoFar none []
+unfolding firstOf
+begin = record { is = refl }
 
-    -- an accepted call answers and leaves what the call is to do
-    pub accepted-left : (v : A) → outcome cs before value after .answer ≡ accepted v → (v ≡ value) × (outcome cs before value after .left ≡ after)
-    accepted-left v =
-        outcome-all (λ o. o .answer ≡ accepted v → (v ≡ value) × (o .left ≡ after)) cs (λ m q e. absurd (not-refused v m (sym e)))
-        (λ e. (cc, refl))
+first-more : (cs : List Cause) (c : Cause) → orIf (firstOf cs) c ≡ firstOf (cs ++ (c ∷ []))
+unfolding firstOf orIf
+first-more [] c = refl
+first-more (d ∷ cs) c = go (d .applies) (first-more cs c)
+  where
+    go : (b : Bool) → orIf (firstOf cs) c ≡ firstOf (cs ++ (c ∷ []))
+        → orIf (elim b [ true ↦ some (d .number) | false ↦ firstOf cs ]) c ≡ elim b [ true ↦ some (d .number) | false ↦ firstOf (cs ++ (c ∷ [])) ]
+    go true e = refl
+    go false e = e
+
+-- one more cause judged, whose test is what the code computed
+pub judge : (n : ℕ) {v r : Option ℕ} {cs : List Cause} {b t : Bool} → SoFar v cs → r ≡ orIf v (n if b) → b ≡ t → SoFar r (cs ++ (n if t ∷ []))
+judge n {v} {r} {cs} {b} {t} s e h = record {
+  is = e ∙ ap (λ (x : Bool). orIf v (n if x)) h ∙ ap (λ (x : Option ℕ). orIf x (n if t)) (s .is) ∙ first-more cs (n if t);
+}
+
+-- What one more cause does to a verdict.
+module _ (v : Option ℕ) (n : ℕ) (b : Bool) where
+  pub stays-refused : (m : ℕ) → v ≡ some m → v ≡ orIf v (n if b)
+  unfolding orIf
+  stays-refused m e = e ∙ sym (ap (λ (x : Option ℕ). orIf x (n if b)) e)
+
+  pub is-refused : v ≡ none → b ≡ true → some n ≡ orIf v (n if b)
+  unfolding orIf
+  is-refused e h = sym (ap (λ (x : Option ℕ). orIf x (n if b)) e ∙ ap (λ (x : Bool). orIf none (n if x)) h)
+
+  pub stays-accepted : v ≡ none → b ≡ false → v ≡ orIf v (n if b)
+  unfolding orIf
+  stays-accepted e h = e ∙ sym (ap (λ (x : Option ℕ). orIf x (n if b)) e ∙ ap (λ (x : Bool). orIf none (n if x)) h)
+
+-- A list that is held as it was given unless it is too long: behind the cause that says so, either may stand.
+module _ (n : ℕ) (given held : List ℕ) (rest : List ℕ → List Cause) (same : tooLong given ≡ false → given ≡ held) where
+  past : (b : Bool) → tooLong given ≡ b → firstOf (n if b ∷ rest held) ≡ firstOf (n if b ∷ rest given)
+  unfolding firstOf
+  past true e = refl
+  past false e = ap (λ (l : List ℕ). firstOf (rest l)) (sym (same e))
+
+  pub as-given : firstOf (n if tooLong given ∷ rest held) ≡ firstOf (n if tooLong given ∷ rest given)
+  as-given = past _ refl
+
+-- What a verdict tells of the call that it is of.
+
+pub none-apply : (cs : List Cause) → firstOf cs ≡ none → NoneApplies cs
+unfolding firstOf
+none-apply [] e = tt
+none-apply (c ∷ cs) e = go (c .applies) refl e (none-apply cs)
+  where
+    go : (b : Bool) → c .applies ≡ b → _≡_ {A = Option ℕ} (elim b [ true ↦ some (c .number) | false ↦ firstOf cs ]) none
+        → (firstOf cs ≡ none → NoneApplies cs) → (c .applies ≡ false) × NoneApplies cs
+    go true h e f = absurd (not-none (c .number) e)
+    go false h e f = (h, f e)
+
+pub first-number : (cs : List Cause) (n : ℕ) → firstOf cs ≡ some n → List·Memᴰ n (numbers cs)
+unfolding firstOf
+first-number [] n e = absurd (not-none n (sym e))
+first-number (c ∷ cs) n e = go (c .applies) e (first-number cs n)
+  where
+    go : (b : Bool) → _≡_ {A = Option ℕ} (elim b [ true ↦ some (c .number) | false ↦ firstOf cs ]) (some n)
+        → (firstOf cs ≡ some n → List·Memᴰ n (numbers cs)) → List·Memᴰ n (c .number ∷ numbers cs)
+    go true e f = let same : n ≡ c .number = cc in List·Memᴰ·head same
+    go false e f = List·Memᴰ·tail (f e)
+
+module _ {R : Type 0} (refuse : ℕ → R) (done : R) where
+  pub decided-refuses : {o : Option ℕ} {n : ℕ} → o ≡ some n → decided o refuse done ≡ refuse n
+  unfolding decided
+  decided-refuses e = ap (λ (x : Option ℕ). decided x refuse done) e
+
+  pub decided-accepts : {o : Option ℕ} → o ≡ none → decided o refuse done ≡ done
+  unfolding decided
+  decided-accepts e = ap (λ (x : Option ℕ). decided x refuse done) e
+
+  module _ {v : Option ℕ} {cs : List Cause} (so : SoFar v cs) where
+    -- the verdict refuses
+    pub refused-by : (n : ℕ) → v ≡ some n → refuse n ≡ decided (firstOf cs) refuse done
+    refused-by n e = sym (decided-refuses (sym (so .is) ∙ e))
+
+    -- the verdict accepts, and no cause applies
+    pub accepted-by : v ≡ none → {r : R} → (NoneApplies cs → r ≡ done) → r ≡ decided (firstOf cs) refuse done
+    accepted-by e f = let z = sym (so .is) ∙ e in f (none-apply cs z) ∙ sym (decided-accepts z)
+
+-- what holds of each refusal and, where no cause applies, of the acceptance
+pub decided-by {ℓ} : {R : Type 0} (P : R → Type ℓ) (cs : List Cause) (refuse : ℕ → R) (done : R)
+    → ((n : ℕ) → List·Memᴰ n (numbers cs) → P (refuse n)) → (NoneApplies cs → P done) → P (decided (firstOf cs) refuse done)
+decided-by P cs refuse done f h = go (firstOf cs) refl
+  where
+    go : (o : Option ℕ) → firstOf cs ≡ o → P (decided o refuse done)
+    go none e = unfold decided in h (none-apply cs e)
+    go (some n) e = unfold decided in f n (first-number cs n e)
+
+-- An outcome that causes decide.
+
+not-refused : {A : Type 0} (v : A) (n : ℕ) → accepted v ≡ refused n → ⊥
+not-refused v n e = let z : _≡_ {A = ℕ} 0 1 = cc in omega arith
+
+module _ {A S : Type 0} (before after : S) (value : A) (cs : List Cause) where
+  -- a refused call leaves all as it was
+  pub refused-after : (n : ℕ) → outcome cs before value after .answer ≡ refused n → outcome cs before value after .after ≡ before
+  unfolding outcome
+  refused-after n =
+      decided-by (λ (o : Outcome A S). o .answer ≡ refused n → o .after ≡ before) cs (refusing before) (accepting value after) (λ m q e. refl)
+      (λ none e. absurd (not-refused value n e))
+
+  -- an accepted call answers and leaves what the call is to do
+  pub accepted-after : (v : A) → outcome cs before value after .answer ≡ accepted v → (v ≡ value) × (outcome cs before value after .after ≡ after)
+  unfolding outcome
+  accepted-after v =
+      decided-by (λ (o : Outcome A S). o .answer ≡ accepted v → (v ≡ value) × (o .after ≡ after)) cs (refusing before) (accepting value after)
+      (λ m q e. absurd (not-refused v m (sym e))) (λ none e. (cc, refl))

@@ -2,6 +2,7 @@
 use Prim.Native.Nat.{ℕ}
 use mathlib.Core.Bool.{Bool, true, false}
 use mathlib.Core.List.{List, [], _∷_}
+use mathlib.Core.Option.{Option, none, some}
 
 -- The numbers of the table of refusals, each by its cause.
 
@@ -63,17 +64,27 @@ infixl 70 _if_
 abbrev pub _if_ : ℕ → Bool → Cause
 n if b = record { number = n; applies = b }
 
--- "The lowest number that applies is given": the causes are listed in that order, and the first that applies refuses
-unfoldable pub decided : {R : Type 0} → List Cause → (ℕ → R) → R → R
-decided [] refuse done = done
-decided (c ∷ cs) refuse done = elim (c .applies) [ true ↦ refuse (c .number) | false ↦ decided cs refuse done ]
+-- "The lowest number that applies is given": the causes are listed in that order, and the number of the first that applies is given
+unfoldable pub firstOf : List Cause → Option ℕ
+firstOf [] = none
+firstOf (c ∷ cs) = elim (c .applies) [ true ↦ some (c .number) | false ↦ firstOf cs ]
 
--- "left as it was": an answer, and what the call leaves
+-- refused by a number, or done
+unfoldable pub decided : {R : Type 0} → Option ℕ → (ℕ → R) → R → R
+decided (some n) refuse done = refuse n
+decided none refuse done = done
+
+-- an answer, and what the call leaves
 pub record Outcome (A S : Type 0) : Type 0 where
   pub answer : Answered A
-  pub left : S
+  pub after : S
 
--- a refused call leaves everything as it was
+abbrev pub refusing : {A S : Type 0} → S → ℕ → Outcome A S
+refusing s n = record { answer = refused n; after = s }
+
+abbrev pub accepting : {A S : Type 0} → A → S → Outcome A S
+accepting a s = record { answer = accepted a; after = s }
+
+-- "left as it was": a refused call leaves everything as it was
 unfoldable pub outcome : {A S : Type 0} → List Cause → S → A → S → Outcome A S
-outcome causes before value after =
-    decided causes (λ n. record { answer = refused n; left = before }) (record { answer = accepted value; left = after })
+outcome causes before value after = decided (firstOf causes) (refusing before) (accepting value after)

@@ -1,5 +1,6 @@
 pub mod Limits
 pub mod Answers
+pub mod Judge
 pub mod Order
 pub mod Table
 pub mod Sorted

@@ -1,7 +1,10 @@
 // The numbers of elements, types, predicates and functions, and lists of at most four of them.
 ghost use mathlib.Core.Path.{_≡_};
+ghost use mathlib.Core.Bool.{_&&_, _||_};
 ghost use mathlib.Core.List.{[]};
 ghost use Prim.Native.Nat.{_-_};
+ghost use Rattle.ids.specs.Answers.{_if_};
+ghost use Rattle.ids.specs.Judge.{verdictOf, orIf};
 ghost use Rattle.ids.specs.Limits.{maxList};
 ghost use Rattle.ids.specs.Table.{Sized};
 ghost use Rattle.ids.specs.Order.{orderOf, lexOf};
@@ -42,6 +45,12 @@ impl Refusal {
     pub const TOO_MANY_FACTS: u16 = 11;
 }
 
+// Whether a call is refused, and with which number.
+pub enum Verdict {
+    Accepted,
+    Refused(u16),
+}
+
 // A list of elements: the first `len` of its ids.
 pub struct ElIds {
     pub ids: [ElId; ElIds::MAX_LEN],
@@ -64,6 +73,41 @@ pub enum Ordering {
 pub enum Place {
     Before(usize),
     At(usize),
+}
+
+pub fn and(a: bool, b: bool) -> bool
+    ensures { λ r. ⌜ r ≡ (a && b) ⌝ }
+{
+    if a {
+        return b;
+    }
+    false
+}
+
+pub fn or(a: bool, b: bool) -> bool
+    ensures { λ r. ⌜ r ≡ (a || b) ⌝ }
+{
+    if a {
+        return true;
+    }
+    b
+}
+
+impl Verdict {
+    // One more cause judged: a verdict that refuses stays.
+    pub fn refuse_if(self, number: u16, applies: bool) -> Verdict
+        ensures { λ r. ⌜ verdictOf r ≡ orIf (verdictOf self) (number if applies) ⌝ }
+    {
+        match self {
+            Verdict::Refused(_) => self,
+            Verdict::Accepted => {
+                if applies {
+                    return Verdict::Refused(number);
+                }
+                self
+            }
+        }
+    }
 }
 
 pub fn compare_numbers(a: u16, b: u16) -> Ordering

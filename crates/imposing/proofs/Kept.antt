@@ -41,7 +41,7 @@ tells-then false b f w v l h = omega (arith, not-fewer (b v) v (f v) (h v))
 
 join-not-fewer : (p : Pair) (w : Core) → w .merges ≤ join p w .merges
 unfolding join joinRoots merge
-join-not-fewer p w = go (eqb (rootOf (w .links) (p .left)) (rootOf (w .links) (p .right))) _ _
+join-not-fewer p w = go (eqb (rootOf (w .links) (p .lhs)) (rootOf (w .links) (p .rhs))) _ _
   where
     go : (t : Bool) (a b : ℕ) → w .merges ≤ (elim t as (λ _. Core) [ true ↦ w | false ↦ merge (min a b) (max a b) w ]) .merges
     go true a b = omega arith
@@ -54,7 +54,7 @@ drained-not-fewer (p ∷ ps) w = omega (arith, join-not-fewer p w, drained-not-f
 
 -- two roots, joined by roots
 join-more : (a b : ℕ) (w : Core) → rootOf (w .links) a ≡ a → rootOf (w .links) b ≡ b → eqb a b ≡ false
-    → w .merges < join (record { left = a; right = b }) w .merges
+    → w .merges < join (record { lhs = a; rhs = b }) w .merges
 unfolding join joinRoots merge
 join-more a b w p q e = rw (p, q, e, joinRoots) (omega arith)
 
@@ -69,11 +69,11 @@ pair-tells p q w = go (eqb a b) refl (marked (w .marks) a || marked (w .marks) b
     b = rootOf (w .links) q
 
     go : (t : Bool) → eqb a b ≡ t → (m : Bool)
-        → Tells (t || not m) w (elim (not t && m) [ true ↦ drain (with-pairs (record { left = a; right = b } ∷ w .pairs) w) | false ↦ w ])
+        → Tells (t || not m) w (elim (not t && m) [ true ↦ drain (with-pairs (record { lhs = a; rhs = b } ∷ w .pairs) w) | false ↦ w ])
     go true e m = refl
     go false e true =
         let start = with-pairs [] w in
-        let x : Pair = record { left = a; right = b } in
+        let x : Pair = record { lhs = a; rhs = b } in
         omega (arith, join-more a b start (root-root (w .links) p) (root-root (w .links) q) e, drained-not-fewer (w .pairs) (join x start))
     go false e false = refl
 

@@ -52,7 +52,7 @@ module _ (p q : ℕ) (w : types.Core) {x y : FindM} (left : x ≡ findOf (w .lin
 
   -- the new pair is drained, then the queue
   pub refine-merged : (x .root ≡ y .root → ⊥) → (marked (w .marks) (x .root) || marked (w .marks) (y .root)) ≡ true
-      → drainPairs (w .pairs) (join (record { left = x .root; right = y .root }) (with-pairs [] w)) ≡ refine p q w
+      → drainPairs (w .pairs) (join (record { lhs = x .root; rhs = y .root }) (with-pairs [] w)) ≡ refine p q w
   unfolding refineRoots drain drainPairs
   refine-merged d t = sym (rw (ne-eqb (x .root) (y .root) d, t, refineRoots)) ∙ refine-roots
 

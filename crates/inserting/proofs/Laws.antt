@@ -45,7 +45,7 @@ module _ (s : Structure) (r : applying.Applied) (x : model.FuncApp)
 
     -- where there is
     pub applies : {t : model.Structure} → met .full ≡ false → t ≡ accept (s .settled) left
-        → _≡_ {A = Outcome Bool model.Structure} (record { answer = accepted (r .yes); left = t }) (record {
+        → _≡_ {A = Outcome Bool model.Structure} (record { answer = accepted (r .yes); after = t }) (record {
           answer = accepted (met .yes);
           left = accepting (with-links (met .links) (with-pairs (met .pairs) (with-func-apps (met .apps) (structureOf s))));
         })

@@ -5,80 +5,64 @@ use facts::Fact;
 use ids::FuncId;
 use ids::PredId;
 use ids::Refusal;
+use ids::Verdict;
 use signature::Models;
 use signature::Signature;
-use structure::Said;
-use structure::Saying;
+use structure::Answer;
+use structure::Stepped;
 use structure::Structure;
 ghost use mathlib.Core.Path.{_≡_};
 ghost use Rattle.signature.specs.Model.{sigOf, viewModels};
-ghost use Rattle.semantics.specs.Calls.{isPred, isIdOrComp, isReserved, imposeType, applyFunc, applyPred};
-ghost use Rattle.apps.specs.View.{funcAppOf};
-ghost use Rattle.structure.specs.View.{structureOf, sayingOf};
-ghost use Rattle.facts.specs.View.{givenFact};
-ghost use Rattle.inserting.specs.View.{givenFuncApp, givenPredApp, appDeclared};
+ghost use Rattle.semantics.specs.Calls.{isPred, isIdOrComp, isReserved, impose-type, apply-func, apply-pred, machine, step};
+ghost use Rattle.apps.specs.View.{funcAppOf, predAppOf};
+ghost use Rattle.structure.specs.View.{structureOf, stepOf};
+ghost use Rattle.facts.specs.View.{factOf, givenFact};
+ghost use Rattle.inserting.specs.View.{givenFuncApp, givenPredApp, factDeclared, appDeclared, predAppDeclared};
 
 // Kind 8: a fact is queued, as roots, to be imposed.
-pub fn impose_type(structure: Structure, signature: Signature, fact: Fact) -> Saying
-    ensures { λ r. ⌜ sayingOf r ≡ imposeType (sigOf signature) (structureOf structure) (givenFact fact) ⌝ }
+pub fn impose_type(structure: Structure, signature: Signature, fact: Fact) -> Stepped
+    ensures { λ r. ⌜ stepOf (sigOf signature) r ≡ step (impose-type (givenFact fact)) (machine (sigOf signature) (structureOf structure)) ⌝ }
 {
     let parents = fact.ct.parents;
-    if parents.is_too_long() {
-        return structure::refuse_answer(structure, Refusal::MALFORMED);
-    }
-    if !structure.is_el(fact.el) {
-        return structure::refuse_answer(structure, Refusal::UNDECLARED);
-    }
-    if !signature.is_type(fact.ct.typ) {
-        return structure::refuse_answer(structure, Refusal::UNDECLARED);
-    }
-    if !structure.are_els(parents) {
-        return structure::refuse_answer(structure, Refusal::UNDECLARED);
-    }
-    let settled = structure.settled;
     let queue = structure.pending_type_impositions;
     let entry = canonical::canonical_fact(structure.unification, fact);
-    if queue.contains(entry) {
-        return Saying {
-            answer: Said::Answer(false),
-            structure: structure.accept(settled),
-        };
+    let queued = queue.contains(entry);
+    let full = Structure::MAX_IMPOSITIONS <= queue.size();
+    let declared = fact_is_declared(structure, signature, fact);
+    let verdict = Verdict::Accepted;
+    let verdict = verdict.refuse_if(Refusal::MALFORMED, parents.is_too_long());
+    let verdict = verdict.refuse_if(Refusal::UNDECLARED, !declared);
+    let verdict = verdict.refuse_if(Refusal::NO_ROOM, ids::and(!queued, full));
+    if let Verdict::Refused(number) = verdict {
+        return structure.refuse(number);
     }
-    if Structure::MAX_IMPOSITIONS <= queue.size() {
-        return structure::refuse_answer(structure, Refusal::NO_ROOM);
+    if queued {
+        return structure.accept(Answer::Says(false));
     }
     let mut next = structure;
     next.pending_type_impositions = queue.push(entry);
-    Saying {
-        answer: Said::Answer(true),
-        structure: next.accept(settled),
-    }
+    next.accept(Answer::Says(true))
 }
 
 // Kind 9: a function application, or the equality of its result with the one that is stored.
-pub fn insert_func_app_or_equate(structure: Structure, signature: Signature, app: FuncApp) -> Saying
-    ensures { λ r. ⌜ sayingOf r ≡ applyFunc (sigOf signature) (structureOf structure) (givenFuncApp app) ⌝ }
+pub fn insert_func_app_or_equate(structure: Structure, signature: Signature, app: FuncApp) -> Stepped
+    ensures { λ r. ⌜ stepOf (sigOf signature) r ≡ step (apply-func (givenFuncApp app)) (machine (sigOf signature) (structureOf structure)) ⌝ }
 {
     let parents = app.parents;
     let args = app.args;
-    if parents.is_too_long() {
-        return structure::refuse_answer(structure, Refusal::MALFORMED);
-    }
-    if args.is_too_long() {
-        return structure::refuse_answer(structure, Refusal::MALFORMED);
-    }
-    if !app_is_declared(structure, signature, app) {
-        return structure::refuse_answer(structure, Refusal::UNDECLARED);
-    }
-    if is_reserved(signature, app.func) {
-        return structure::refuse_answer(structure, Refusal::RESERVED);
-    }
     let u = structure.unification;
     let pairs = structure.pending_equalities;
     let table = structure.func_apps;
     let applied = applying::insert_func_app_or_equate(u, pairs, table, app);
-    if applied.full {
-        return structure::refuse_answer(structure, Refusal::NO_ROOM);
+    let long = ids::or(parents.is_too_long(), args.is_too_long());
+    let declared = app_is_declared(structure, signature, app);
+    let verdict = Verdict::Accepted;
+    let verdict = verdict.refuse_if(Refusal::MALFORMED, long);
+    let verdict = verdict.refuse_if(Refusal::UNDECLARED, !declared);
+    let verdict = verdict.refuse_if(Refusal::RESERVED, is_reserved(signature, app.func));
+    let verdict = verdict.refuse_if(Refusal::NO_ROOM, applied.full);
+    if let Verdict::Refused(number) = verdict {
+        return structure.refuse(number);
     }
     let unification = applied.unification;
     let queued = applied.pairs;
@@ -87,47 +71,59 @@ pub fn insert_func_app_or_equate(structure: Structure, signature: Signature, app
     next.unification = unification;
     next.pending_equalities = queued;
     next.func_apps = func_apps;
-    let settled = structure.settled;
-    Saying {
-        answer: Said::Answer(applied.yes),
-        structure: next.accept(settled),
-    }
+    next.accept(Answer::Says(applied.yes))
 }
 
 // Kind 10: a predicate application, as given.
-pub fn insert_pred_app(structure: Structure, signature: Signature, app: PredApp) -> Saying
-    ensures { λ r. ⌜ sayingOf r ≡ applyPred (sigOf signature) (structureOf structure) (givenPredApp app) ⌝ }
+pub fn insert_pred_app(structure: Structure, signature: Signature, app: PredApp) -> Stepped
+    ensures { λ r. ⌜ stepOf (sigOf signature) r ≡ step (apply-pred (givenPredApp app)) (machine (sigOf signature) (structureOf structure)) ⌝ }
 {
     let parents = app.parents;
     let args = app.args;
-    if parents.is_too_long() {
-        return structure::refuse_answer(structure, Refusal::MALFORMED);
-    }
-    if args.is_too_long() {
-        return structure::refuse_answer(structure, Refusal::MALFORMED);
-    }
-    if !is_pred(signature, app.pred) {
-        return structure::refuse_answer(structure, Refusal::UNDECLARED);
-    }
-    if !structure.are_els(parents) {
-        return structure::refuse_answer(structure, Refusal::UNDECLARED);
-    }
-    if !structure.are_els(args) {
-        return structure::refuse_answer(structure, Refusal::UNDECLARED);
-    }
     let table = structure.pred_apps;
     let inserted = table.insert(app);
-    if inserted.full {
-        return structure::refuse_answer(structure, Refusal::NO_ROOM);
+    let long = ids::or(parents.is_too_long(), args.is_too_long());
+    let declared = pred_app_is_declared(structure, signature, app);
+    let verdict = Verdict::Accepted;
+    let verdict = verdict.refuse_if(Refusal::MALFORMED, long);
+    let verdict = verdict.refuse_if(Refusal::UNDECLARED, !declared);
+    let verdict = verdict.refuse_if(Refusal::NO_ROOM, inserted.full);
+    if let Verdict::Refused(number) = verdict {
+        return structure.refuse(number);
     }
     let pred_apps = inserted.pred_apps;
     let mut next = structure;
     next.pred_apps = pred_apps;
-    let settled = structure.settled;
-    Saying {
-        answer: Said::Answer(inserted.grew),
-        structure: next.accept(settled),
+    next.accept(Answer::Says(inserted.grew))
+}
+
+// Whether a fact can be made of what is declared.
+fn fact_is_declared(structure: Structure, signature: Signature, fact: Fact) -> bool
+    ensures { λ r. ⌜ r ≡ factDeclared (sigOf signature) (structureOf structure) (factOf fact) ⌝ }
+{
+    let parents = fact.ct.parents;
+    if !structure.is_el(fact.el) {
+        return false;
     }
+    if !signature.is_type(fact.ct.typ) {
+        return false;
+    }
+    structure.are_els(parents)
+}
+
+// Whether a predicate application can be made of what is declared.
+fn pred_app_is_declared(structure: Structure, signature: Signature, app: PredApp) -> bool
+    ensures { λ r. ⌜ r ≡ predAppDeclared (sigOf signature) (structureOf structure) (predAppOf app) ⌝ }
+{
+    let parents = app.parents;
+    let args = app.args;
+    if !is_pred(signature, app.pred) {
+        return false;
+    }
+    if !structure.are_els(parents) {
+        return false;
+    }
+    structure.are_els(args)
 }
 
 // Whether an application can be made of what is declared.

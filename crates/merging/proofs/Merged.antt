@@ -129,8 +129,8 @@ module _ {a b : ℕ} (w : types.Core) where
   join-same h g = let e : a ≡ b = omega arith in sym (rw (eq-eqb a b e, joinRoots))
 
 -- the roots found are those of the definition
-pub join-found : (c : Core) (p : Pair) {l r : FindM} → l ≡ findOf (linksOf (c .unification)) (p .left .0)
-    → r ≡ findOf (linksOf (c .unification)) (p .right .0) → (m a : ℕ)
+pub join-found : (c : Core) (p : Pair) {l r : FindM} → l ≡ findOf (linksOf (c .unification)) (p .lhs .0)
+    → r ≡ findOf (linksOf (c .unification)) (p .rhs .0) → (m a : ℕ)
     → joinRoots (l .root) (r .root) (coreOf c m a) ≡ join (pairOf p) (coreOf c m a)
 unfolding join findOf
 join-found c p e f m a = λ i. joinRoots (e i .root) (f i .root) (coreOf c m a)

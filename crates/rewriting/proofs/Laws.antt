@@ -38,7 +38,7 @@ module _ (z : FuncApp) (t : Rewritten) where
 
   -- its result is queued
   abbrev queues : ℕ → Rewritten
-  queues e = record { apps = t .apps; pairs = record { left = e; right = z .result } ∷ t .pairs; queued = true }
+  queues e = record { apps = t .apps; pairs = record { lhs = e; rhs = z .result } ∷ t .pairs; queued = true }
 
   enter-new : none ≡ resultOf (lookupOf compareFuncApp z (t .apps)) → stored ≡ enter z t
   unfolding enter enterAt
@@ -117,12 +117,12 @@ module _ {ls : List ℕ} (apps : FuncApps) {size i : ℕ} {t : Rewritten} (sized
       rest = on (enter-same z t e found same);
     }
 
-    pub entered-other : (e : ℕ) {ps : List Pair} → ps ≡ queuedOf (t .pairs) (record { left = e; right = z .result })
+    pub entered-other : (e : ℕ) {ps : List Pair} → ps ≡ queuedOf (t .pairs) (record { lhs = e; rhs = z .result })
         → some e ≡ resultOf (lookupOf compareFuncApp z (t .apps)) → (e ≡ z .result → ⊥)
         → Entered ls (funcAppsOf apps) (i + 1) (record { apps = t .apps; pairs = ps; queued = true })
     entered-other e {ps} made found differ =
         let room : length (t .pairs) < maxPairs = omega (arith, now .short, sized .most) in
-        let put : ps ≡ record { left = e; right = z .result } ∷ t .pairs = made ∙ queue-room (t .pairs) (record { left = e; right = z .result }) room in record {
+        let put : ps ≡ record { lhs = e; rhs = z .result } ∷ t .pairs = made ∙ queue-room (t .pairs) (record { lhs = e; rhs = z .result }) room in record {
           few = omega (arith, now .few);
           sorted = now .sorted;
           short = omega (arith, now .short, ap (length {A = Pair}) put);

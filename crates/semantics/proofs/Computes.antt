@@ -14,14 +14,15 @@ use Rattle.semantics.specs.Calls as calls
 use Rattle.semantics.specs.Sheet as sheet
 
 unfoldable pub everything : ℕ
-unfolding answers.decided answers.outcome
+unfolding answers.firstOf answers.decided answers.outcome
     ids.allBelow
     table.present table.lookupOf table.placed table.pushOf table.rewriteInto
-    roots.follow roots.rootOf roots.depthOf roots.shortOf roots.mergedOf roots.addedOf roots.findOf roots.rootConst roots.root
+    roots.follow roots.rootOf roots.depthOf roots.shortOf roots.mergedOf roots.addedOf roots.findOf roots.findCauses roots.rootConst roots.root
     model.empty model.with-types model.with-preds model.with-funcs model.with-models model.with-mor-apps
     signature.isModel signature.isMor signature.isMorOf signature.member signature.modelGiven signature.inModels signature.inMorApps
-    signature.functionGiven signature.anyGiven signature.repeats signature.pairGiven signature.pushType signature.pushPred signature.pushFunc
-    signature.modelIdsDeclared signature.pushModel signature.pushMorApp signature.concreteTypeAt signature.lookupType
+    signature.functionGiven signature.anyGiven signature.repeats signature.pairGiven signature.typeCauses signature.withType signature.predCauses
+    signature.withPred signature.funcCauses signature.withFunc signature.modelIdsDeclared signature.modelCauses signature.withModel
+    signature.morAppCauses signature.withMorApp signature.concreteTypeAt signature.lookupTypeCauses
     structure.compareFact structure.compareFuncApp structure.comparePredApp structure.compareVar structure.compareAmbient
     structure.canonicalFact structure.canonicalFuncApp structure.canonicalPredApp structure.canonicalVar structure.empty
     types.mergedMarks types.movedFacts types.merge types.joinRoots types.join types.drainPairs types.drain types.factsAt types.concreteTypesOf
@@ -30,12 +31,14 @@ unfolding answers.decided answers.outcome
     close.enterAt close.enter close.enterAll close.demanded close.demandedAt close.demandedArgs close.funcArgs close.predArgs close.funcResults
     close.demands close.drained close.drainPass close.rewrote close.functionalityPass close.typed close.typingPass close.passes close.runPasses
     close.round close.isNone close.lastRound close.oneMore close.roundsFrom close.fuel close.rounds close.coreOf close.canonicaliseRefs
-    close.withCore close.answerOf close.leftBy close.closeWith close.closeImposed close.closeAfter close.close
+    close.withCore close.imposedAfter close.closeRun close.reportOf close.afterClose close.closeCauses close.closeBy close.close
     conflicts.parentsMatch conflicts.disagree conflicts.firstConflict conflicts.conflictAmong conflicts.conflictAt conflicts.conflictsBelow
     conflicts.typeConflicts
-    calls.pushEl calls.equate calls.equateEls calls.isImposed calls.imposeType calls.isIdOrComp calls.isReserved calls.appliedEqual
-    calls.applyAt calls.insertFuncAppOrEquate calls.applyWith calls.applyFunc calls.applyPred calls.bindVar calls.bindAmbient calls.conflicts
-    calls.ambientOf calls.haveAmbients calls.ambientEls calls.ambientParents calls.start calls.answerOf calls.leading calls.step
+    calls.elCauses calls.withEl calls.equate calls.equalityCauses calls.withEquality calls.isImposed calls.impositionCauses calls.withImposition
+    calls.isIdOrComp calls.isReserved calls.appliedEqual calls.applyAt calls.insertFuncAppOrEquate calls.applicationCauses calls.withApplied
+    calls.predicationCauses calls.withPredApp calls.variableCauses calls.withVar calls.ambientCauses calls.withAmbient calls.ambientOf
+    calls.haveAmbients calls.ambientEls calls.ambientParentsCauses calls.leading calls.start calls.equalityRule calls.impositionRule calls.applicationRule calls.closeRule calls.rule calls.settledBy calls.leaves
+    calls.acceptance calls.stepBy calls.step calls.afterCalls
     sheet.words sheet.recordOf sheet.recordAt sheet.allZero sheet.countFits sheet.listFits sheet.kindOf sheet.typeForm sheet.predForm
     sheet.funcForm sheet.modelForm sheet.morAppForm sheet.elForm sheet.equalityForm sheet.impositionForm sheet.funcAppForm sheet.predAppForm
     sheet.varForm sheet.ambientForm sheet.closeForm sheet.conflictsForm sheet.forms sheet.formOf sheet.fits sheet.callIn sheet.callOf

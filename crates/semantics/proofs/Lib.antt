@@ -3,9 +3,8 @@ pub mod Equating
 pub mod Cases
 pub mod Counts
 pub mod Links
-pub mod Outcomes
+pub mod Judged
 pub mod Imposed
-pub mod Finds
 pub mod Queues
 pub mod Parts
 pub mod Pairs

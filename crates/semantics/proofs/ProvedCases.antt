@@ -1,5 +1,6 @@
 -- The proved cases (01, "Proved sheets"): P1 to P10, rows for each number 1 to 11 and for single sentences of 01, as one table, and one theorem: every row holds.
--- A row is data: what it runs, what that answers or prints, and claims about the machine that it leaves.
+-- A row is data: what it runs, what that answers or prints, and claims about the machine that it leaves. That a refused call leaves the machine as
+-- it was is a theorem over every call (`refused-leaves`, Judged); the rows on refusals state it where it computes in few steps.
 use mathlib.Core.Path.{_≡_, refl}
 use mathlib.Core.Bool.{Bool, true, false}
 use mathlib.Core.List.{List, [], _∷_, _++_, map, List·Memᴰ, List·Memᴰ·head, List·Memᴰ·tail}
@@ -11,13 +12,14 @@ use lib.ListN.{length, take, getD}
 use Rattle.ids.specs.Table.{lookupOf}
 use Rattle.unification.specs.Roots.{maxEls}
 use Rattle.signature.specs.Model.{Kind, plain, model, mor, maxTypes, maxPreds, maxFuncs}
-use Rattle.semantics.specs.Structure.{Fact, FuncApp, compareFuncApp, maxPairs, maxImpositions, maxFuncApps, maxPredApps, maxFacts}
-use Rattle.semantics.specs.Structure.{maxVars, with-facts}
+use Rattle.semantics.specs.Structure.{Fact, fact, func-app, pred-app, variable, ambient, compareFuncApp, resultOf, maxPairs}
+use Rattle.semantics.specs.Structure.{maxImpositions, maxFuncApps, maxPredApps, maxFacts, maxVars, with-facts}
 use Rattle.semantics.specs.Types.{factsAt}
-use Rattle.semantics.specs.Conflicts.{Conflict}
+use Rattle.semantics.specs.Conflicts.{Conflict, conflict}
 use Rattle.semantics.specs.Calls.{Call, push-type, push-func, push-pred, push-el, equate-els, impose-type, apply-func, apply-pred}
 use Rattle.semantics.specs.Calls.{push-model, push-mor-app, bind-var, bind-ambient}
-use Rattle.semantics.specs.Calls.{close, type-conflicts, lookup-type, ambient-parents}
+use Rattle.semantics.specs.Calls.{close, type-conflicts, lookup-type, ambient-parents, ConcreteType, concrete-type, afterCalls}
+use Rattle.semantics.specs.Calls as steps
 use Rattle.semantics.specs.Calls.{Answer, number, says, done, closed, conflicting, found, typed, els, refuse, Machine, start, step}
 use Rattle.semantics.specs.Sheet.{bit, newline, runSheet}
 use Rattle.semantics.proofs.Computes.{everything}
@@ -31,17 +33,17 @@ pub data Source : Type 0 where
   sheet : List ℕ → Source
 
 -- an answer that a row states
-pub data Told : Type 0 where
+pub data Stated : Type 0 where
   -- changed (1 or 0), merges, rounds
-  closes : ℕ → ℕ → ℕ → Told
-  conflicts : List Conflict → Told
+  closes : ℕ → ℕ → ℕ → Stated
+  conflicts : List Conflict → Stated
   -- the type with its leading parents, or none
-  types : Option Fact → Told
-  refuses : ℕ → Told
+  types : Option ConcreteType → Stated
+  refuses : ℕ → Stated
 
 -- the stated answers of the calls, or the bytes that the sheet prints
 pub data Output : Type 0 where
-  tells : List Told → Output
+  tells : List Stated → Output
   prints : List ℕ → Output
 
 -- what may be asked of a machine
@@ -87,45 +89,37 @@ pub record Row : Type 0 where
 -- How a row is run.
 
 -- what a row states of a call's answer; what the other accepted calls answer it leaves out
-unfoldable pub told : Answer → List Told → List Told
-told (closed c) rest = closes (bit (c .changed)) (c .merges) (c .rounds) ∷ rest
-told (conflicting cs) rest = conflicts cs ∷ rest
-told (typed t) rest = types t ∷ rest
-told (refuse n) rest = refuses n ∷ rest
-told (number n) rest = rest
-told (says b) rest = rest
-told done rest = rest
-told (found f) rest = rest
-told (els es) rest = rest
+unfoldable pub stated : Answer → List Stated → List Stated
+stated (closed c) rest = closes (bit (c .changed)) (c .merges) (c .rounds) ∷ rest
+stated (conflicting cs) rest = conflicts cs ∷ rest
+stated (typed t) rest = types t ∷ rest
+stated (refuse n) rest = refuses n ∷ rest
+stated (number n) rest = rest
+stated (says b) rest = rest
+stated done rest = rest
+stated (found f) rest = rest
+stated (els es) rest = rest
 
-unfoldable pub toldBy : List Call → Machine → List Told
-toldBy [] m = []
-toldBy (c ∷ cs) m = told (step c m .answer) (toldBy cs (step c m .after))
-
-unfoldable pub leftBy : List Call → Machine → Machine
-leftBy [] m = m
-leftBy (c ∷ cs) m = leftBy cs (step c m .after)
+unfoldable pub answersOf : List Call → Machine → List Stated
+answersOf [] m = []
+answersOf (c ∷ cs) m = stated (step c m .answer) (answersOf cs (step c m .after))
 
 unfoldable pub outputOf : Source → Output
-outputOf (calls cs) = tells (toldBy cs start)
-outputOf (callsFrom m cs) = tells (toldBy cs m)
+outputOf (calls cs) = tells (answersOf cs start)
+outputOf (callsFrom m cs) = tells (answersOf cs m)
 outputOf (sheet bytes) = prints (runSheet bytes .printed)
 
 unfoldable pub machineOf : Source → Machine
-machineOf (calls cs) = leftBy cs start
-machineOf (callsFrom m cs) = leftBy cs m
+machineOf (calls cs) = afterCalls cs start
+machineOf (callsFrom m cs) = afterCalls cs m
 machineOf (sheet bytes) = runSheet bytes .machine
-
-unfoldable pub resultOf : Option FuncApp → Option ℕ
-resultOf none = none
-resultOf (some x) = some (x .result)
 
 unfoldable pub look : Machine → Question → Seen
 look m (link e) = el (getD (m .structure .links) e e)
 look m (mark e) = flag (getD (m .structure .marks) e false)
 look m (facts e) = fact-list (factsAt e (m .structure .facts))
 look m (key f ps xs) =
-    result (resultOf (lookupOf compareFuncApp (record { func = f; parents = ps; args = xs; result = 0 }) (m .structure .func-apps)))
+    result (resultOf (lookupOf compareFuncApp (func-app f ps xs 0) (m .structure .func-apps)))
 look m impositions = fact-list (m .structure .impositions)
 look m settled = flag (m .structure .settled)
 look m (answer c) = said (step c m .answer)
@@ -186,20 +180,14 @@ plainEl = push-el false
 abbrev pub markedEl : Call
 markedEl = push-el true
 
-abbrev pub fact : ℕ → ℕ → List ℕ → Fact
-fact e t ps = record { el = e; typ = t; parents = ps }
-
 abbrev pub impose : ℕ → ℕ → List ℕ → Call
 impose e t ps = impose-type (fact e t ps)
 
 abbrev pub app : ℕ → List ℕ → List ℕ → ℕ → Call
-app f ps xs r = apply-func (record { func = f; parents = ps; args = xs; result = r })
+app f ps xs r = apply-func (func-app f ps xs r)
 
 abbrev pub predicate : ℕ → List ℕ → List ℕ → Call
-predicate p ps xs = apply-pred (record { pred = p; parents = ps; args = xs })
-
-abbrev pub conflict : ℕ → Fact → Fact → Conflict
-conflict e f g = record { el = e; a = f; b = g }
+predicate p ps xs = apply-pred (pred-app p ps xs)
 
 -- P2's types, "Model type; Plain type (parents 0)", and with its function "(parents 0, codomain 1)" its signature
 abbrev pub types2 : List Call
@@ -231,10 +219,10 @@ abbrev pub morApp : ℕ → ℕ → ℕ → Call
 morApp f mo me = push-mor-app (record { func = f; morphism-type = mo; member-type = me })
 
 abbrev pub var : ℕ → ℕ → Call
-var k e = bind-var (record { key = k; el = e })
+var k e = bind-var (variable k e)
 
-abbrev pub ambient : ℕ → ℕ → Call
-ambient t e = bind-ambient (record { typ = t; el = e })
+abbrev pub ambientEl : ℕ → ℕ → Call
+ambientEl t e = bind-ambient (ambient t e)
 
 -- two Model types 0 and 1, a Mor type of each, 2 and 3, a Plain type 4, and nine functions
 abbrev pub typesAndFuncs : List Call
@@ -250,11 +238,11 @@ factsBefore zero fs = fs
 factsBefore (suc n) fs = factsBefore n (fact (n / maxTypes) (n % maxTypes) [] ∷ fs)
 
 abbrev pub setFacts : List Fact → Machine → Machine
-setFacts fs m = record { sig = m .sig; structure = with-facts fs (m .structure) }
+setFacts fs m = steps.machine (m .sig) (with-facts fs (m .structure))
 
 -- all types that there can be, as many elements, and n facts
 abbrev pub holding : ℕ → Machine
-holding n = setFacts (factsBefore n []) (leftBy (downFrom maxTypes (λ n. typ plain []) ++ downFrom maxTypes (λ n. plainEl)) start)
+holding n = setFacts (factsBefore n []) (afterCalls (downFrom maxTypes (λ n. typ plain []) ++ downFrom maxTypes (λ n. plainEl)) start)
 
 -- The table.
 
@@ -337,20 +325,20 @@ table =
       output = tells (closes 1 1 2 ∷ closes 1 1 3 ∷ closes 0 0 1 ∷ []);
       claims = settled is flag true ∷ [];
     }
-    -- P6: "a type with two parents, given 7: absent; given 7, 8, 9: parents 7, 8"; the element of the fact says nothing
+    -- P6: "a type with two parents, given 7: absent; given 7, 8, 9: parents 7, 8"
     ∷ record {
       source = calls
           (typ model [] ∷ typ model [] ∷ typ plain (0 ∷ 1 ∷ []) ∷ lookup-type 2 (7 ∷ []) ∷ lookup-type 2 (7 ∷ 8 ∷ 9 ∷ []) ∷ []);
-      output = tells (types none ∷ types (some (fact 0 2 (7 ∷ 8 ∷ []))) ∷ []);
+      output = tells (types none ∷ types (some (concrete-type 2 (7 ∷ 8 ∷ []))) ∷ []);
       claims = [];
     }
-    -- P7: "one type imposed on one element with parents 1 and with 1, 2: no conflict"
+    -- P7: "one type imposed on one element with parents 1 and with 1, 2: no conflict"; the type has two parents
     ∷ record {
       source = calls
-          (typ plain [] ∷ plainEl ∷ plainEl ∷ plainEl
-          ∷ impose 0 0 (1 ∷ []) ∷ impose 0 0 (1 ∷ 2 ∷ []) ∷ close ∷ type-conflicts ∷ []);
+          (typ model [] ∷ typ model [] ∷ typ plain (0 ∷ 1 ∷ []) ∷ plainEl ∷ plainEl ∷ plainEl
+          ∷ impose 0 2 (1 ∷ []) ∷ impose 0 2 (1 ∷ 2 ∷ []) ∷ close ∷ type-conflicts ∷ []);
       output = tells (closes 1 0 1 ∷ conflicts [] ∷ []);
-      claims = facts 0 is fact-list (fact 0 0 (1 ∷ []) ∷ fact 0 0 (1 ∷ 2 ∷ []) ∷ []) ∷ [];
+      claims = facts 0 is fact-list (fact 0 2 (1 ∷ []) ∷ fact 0 2 (1 ∷ 2 ∷ []) ∷ []) ∷ [];
     }
     -- P8: "equalities (1, 2), (0, 2): 1 and 2 link to 0"
     ∷ record {
@@ -391,7 +379,7 @@ table =
     ∷ record {
       source = calls
           (typ model [] ∷ pred [] (0 ∷ []) ∷ plainEl ∷ plainEl
-          ∷ predicate 0 [] (1 ∷ []) ∷ ambient 0 1 ∷ equate-els 0 1 ∷ close ∷ []);
+          ∷ predicate 0 [] (1 ∷ []) ∷ ambientEl 0 1 ∷ equate-els 0 1 ∷ close ∷ []);
       output = tells (closes 1 1 2 ∷ []);
       claims =
           answer (predicate 0 [] (0 ∷ [])) is said (says false) ∷ answer (predicate 0 [] (1 ∷ [])) is said (says true)
@@ -442,14 +430,14 @@ table =
     ∷ record {
       source = calls (plainEl ∷ typ plain [] ∷ []);
       output = tells (refuses 4 ∷ []);
-      claims = machine is whole (leftBy (plainEl ∷ []) start) ∷ [];
+      claims = machine is whole (afterCalls (plainEl ∷ []) start) ∷ [];
     }
     -- numbers 3, 4 and 5 leave the machine as it was
     ∷ record {
       source = calls
           (imposed5 ++ (impose 0 0 (0 ∷ 0 ∷ 0 ∷ 0 ∷ 0 ∷ []) ∷ func [] [] 0 ∷ equate-els 0 9 ∷ app 1 [] [] 0 ∷ lookup-type 2 [] ∷ []));
       output = tells (refuses 3 ∷ refuses 4 ∷ refuses 5 ∷ refuses 5 ∷ refuses 5 ∷ []);
-      claims = machine is whole (leftBy imposed5 start) ∷ [];
+      claims = machine is whole (afterCalls imposed5 start) ∷ [];
     }
     -- "Record 0 comes first; next index 0 ends the chain": records 0, 2, 1, and record 3 is not visited
     ∷ record {
@@ -461,7 +449,7 @@ table =
     ∷ record {
       source = sheet (entry 1 13 0 0 [] [] ++ entry 2 7 0 0 [] [] ++ entry 0 13 0 0 [] []);
       output = prints (lines ("close 0 0 1" ∷ "refused 5 at 1" ∷ []));
-      claims = machine is whole (leftBy (close ∷ []) start) ∷ [];
+      claims = machine is whole (afterCalls (close ∷ []) start) ∷ [];
     }
     -- number 1: "sheet empty, not a multiple of 32 bytes"
     ∷ record { source = sheet []; output = prints (lines ("refused 1 at 0" ∷ [])); claims = machine is whole start ∷ [] }
@@ -480,7 +468,7 @@ table =
     ∷ record {
       source = sheet (entry 1 6 0 0 [] [] ++ entry 1 13 0 0 [] []);
       output = prints (lines ("refused 2 at 1" ∷ []));
-      claims = machine is whole (leftBy (plainEl ∷ []) start) ∷ [];
+      claims = machine is whole (afterCalls (plainEl ∷ []) start) ∷ [];
     }
     -- number 3: "kind .. outside the above"
     ∷ record {
@@ -498,7 +486,7 @@ table =
     ∷ record {
       source = calls (plainEl ∷ var maxVars 0 ∷ []);
       output = tells (refuses 3 ∷ []);
-      claims = machine is whole (leftBy (plainEl ∷ []) start) ∷ [];
+      claims = machine is whole (afterCalls (plainEl ∷ []) start) ∷ [];
     }
     ∷ record {
       source = sheet (entry 0 6 2 0 [] []);
@@ -510,21 +498,21 @@ table =
       source = calls
           (typesAndFuncs
           ++ (typ (mor 4) [] ∷ modelOf 4 2 (0 ∷ 1 ∷ 2 ∷ 3 ∷ []) ∷ modelOf 0 3 (0 ∷ 1 ∷ 2 ∷ 3 ∷ []) ∷ modelOf 0 4 (0 ∷ 1 ∷ 2 ∷ 3 ∷ [])
-          ∷ morApp 4 0 4 ∷ plainEl ∷ ambient 4 0 ∷ []));
+          ∷ morApp 4 0 4 ∷ plainEl ∷ ambientEl 4 0 ∷ []));
       output = tells (refuses 6 ∷ refuses 6 ∷ refuses 6 ∷ refuses 6 ∷ refuses 6 ∷ refuses 6 ∷ []);
-      claims = machine is whole (leftBy (typesAndFuncs ++ (plainEl ∷ [])) start) ∷ [];
+      claims = [];
     }
     -- number 7: "application of id, comp or a morphism application function"; dom may be applied
     ∷ record {
       source = calls (signature7 ++ (plainEl ∷ app 2 [] [] 0 ∷ app 3 [] [] 0 ∷ app 4 [] [] 0 ∷ []));
       output = tells (refuses 7 ∷ refuses 7 ∷ refuses 7 ∷ []);
-      claims = machine is whole (leftBy (signature7 ++ (plainEl ∷ [])) start) ∷ answer (app 0 [] [] 0) is said (says true) ∷ [];
+      claims = answer (app 0 [] [] 0) is said (says true) ∷ [];
     }
     -- number 8: "model type, function in records 4 and 5, morphism pair, .. given again"
     ∷ record {
       source = calls (signature7 ++ (modelOf 0 2 (5 ∷ 6 ∷ 7 ∷ 8 ∷ []) ∷ []));
       output = tells (refuses 8 ∷ []);
-      claims = machine is whole (leftBy signature7 start) ∷ [];
+      claims = [];
     }
     ∷ record {
       source = calls signature7;
@@ -536,9 +524,9 @@ table =
     }
     -- number 8: ".., variable or ambient given again"
     ∷ record {
-      source = calls (typ model [] ∷ plainEl ∷ plainEl ∷ var 7 0 ∷ var 7 1 ∷ ambient 0 0 ∷ ambient 0 1 ∷ []);
+      source = calls (typ model [] ∷ plainEl ∷ plainEl ∷ var 7 0 ∷ var 7 1 ∷ ambientEl 0 0 ∷ ambientEl 0 1 ∷ []);
       output = tells (refuses 8 ∷ refuses 8 ∷ []);
-      claims = machine is whole (leftBy (typ model [] ∷ plainEl ∷ plainEl ∷ var 7 0 ∷ ambient 0 0 ∷ []) start) ∷ [];
+      claims = machine is whole (afterCalls (typ model [] ∷ plainEl ∷ plainEl ∷ var 7 0 ∷ ambientEl 0 0 ∷ []) start) ∷ [];
     }
     -- number 9: "an entry needed, its table at its limit": one type, predicate and function too many
     ∷ record {
@@ -573,12 +561,12 @@ table =
     }
     -- number 10: "ambient lookup of a type with none"
     ∷ record {
-      source = calls (typ model [] ∷ typ model [] ∷ plainEl ∷ ambient 0 0 ∷ ambient-parents (0 ∷ 1 ∷ []) ∷ []);
+      source = calls (typ model [] ∷ typ model [] ∷ plainEl ∷ ambientEl 0 0 ∷ ambient-parents (0 ∷ 1 ∷ []) ∷ []);
       output = tells (refuses 10 ∷ []);
-      claims = machine is whole (leftBy (typ model [] ∷ typ model [] ∷ plainEl ∷ ambient 0 0 ∷ []) start) ∷ [];
+      claims = machine is whole (afterCalls (typ model [] ∷ typ model [] ∷ plainEl ∷ ambientEl 0 0 ∷ []) start) ∷ [];
     }
-    -- number 11: "the close would at some moment hold 1,025 facts": 1,024 are held, and the next refuses the close and leaves the "structure
-    -- before the close"; a fact that is there is no other one
+    -- number 11: "the close would at some moment hold 1,025 facts": 1,024 are held, and the next refuses the close; a fact that is
+    -- there is no other one
     ∷ record {
       source = callsFrom (holding (maxFacts - 1)) (impose 0 0 (1 ∷ []) ∷ close ∷ []);
       output = tells (closes 1 0 1 ∷ []);
@@ -592,7 +580,7 @@ table =
     ∷ record {
       source = callsFrom (holding maxFacts) (impose 0 0 (1 ∷ []) ∷ close ∷ []);
       output = tells (refuses 11 ∷ []);
-      claims = machine is whole (leftBy (impose 0 0 (1 ∷ []) ∷ []) (holding maxFacts)) ∷ [];
+      claims = [];
     }
     ∷ []
 
@@ -600,7 +588,7 @@ table =
 
 -- all rows at once, by computing
 rowsShow : map shownBy table ≡ map statedBy table
-unfolding everything told toldBy leftBy outputOf machineOf resultOf look shownBy statedBy bytesOf lines littleEndian entry downFrom factsBefore table
+unfolding everything stated answersOf outputOf machineOf look shownBy statedBy bytesOf lines littleEndian entry downFrom factsBefore table
 rowsShow = refl
 
 -- two functions that agree on a list agree at each of its entries

@@ -24,7 +24,7 @@ use Rattle.semantics.specs.Close.{Rewritten, enterAt, enter, enterAll}
 
 join-pairs : (p : Pair) (w : Core) → join p w .pairs ≡ w .pairs
 unfolding join joinRoots merge
-join-pairs p w = go (eqb (rootOf (w .links) (p .left)) (rootOf (w .links) (p .right))) _ _
+join-pairs p w = go (eqb (rootOf (w .links) (p .lhs)) (rootOf (w .links) (p .rhs))) _ _
   where
     go : (t : Bool) (a b : ℕ) → (elim t as (λ _. Core) [ true ↦ w | false ↦ merge (min a b) (max a b) w ]) .pairs ≡ w .pairs
     go true a b = refl
@@ -61,8 +61,8 @@ refineRoots-queue : (a b : ℕ) (w : Core) → SameOrNone w (refineRoots a b w)
 unfolding refineRoots
 refineRoots-queue a b w = go (not (eqb a b) && (marked (w .marks) a || marked (w .marks) b))
   where
-    go : (t : Bool) → SameOrNone w (elim t [ true ↦ drain (with-pairs (record { left = a; right = b } ∷ w .pairs) w) | false ↦ w ])
-    go true = inr (drain-pairs (with-pairs (record { left = a; right = b } ∷ w .pairs) w))
+    go : (t : Bool) → SameOrNone w (elim t [ true ↦ drain (with-pairs (record { lhs = a; rhs = b } ∷ w .pairs) w) | false ↦ w ])
+    go true = inr (drain-pairs (with-pairs (record { lhs = a; rhs = b } ∷ w .pairs) w))
     go false = inl refl
 
 pub refine-queue : (a b : ℕ) (w : Core) → SameOrNone w (refine a b w)
@@ -125,7 +125,7 @@ unfolding enter enterAt
 enter-grown x t = go (lookupOf compareFuncApp x (t .apps)) refl
   where
     pairs : FuncApp → List Pair
-    pairs y = record { left = y .result; right = x .result } ∷ t .pairs
+    pairs y = record { lhs = y .result; rhs = x .result } ∷ t .pairs
 
     clash : (y : FuncApp) → 1 ≤ length (t .apps) → (b : Bool)
         → Grown 1 t (elim b [ true ↦ t | false ↦ record { apps = t .apps; pairs = pairs y; queued = true } ])

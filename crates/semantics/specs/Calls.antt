@@ -1,28 +1,27 @@
 -- The calls of the conservation rule (01): kinds 1 to 14, both finds, and the type and ambient lookups.
--- Each is refused with the lowest number that applies and then leaves everything as it was, or does its work.
+-- For each call its causes, in order, and its effect stand apart (`rule`), and one `step` carries out every call: the first cause that applies
+-- refuses and leaves everything as it was; where none applies the effect is there, with what every accepted call leaves behind (`leaves`).
 use Prim.Native.Nat.{ℕ}
 use mathlib.Core.Bool.{Bool, true, false, not, _&&_, _||_}
-use mathlib.Core.List.{List, [], _∷_, _++_, map}
+use mathlib.Core.List.{List, [], _∷_, _++_}
 use mathlib.Core.Option.{Option, none, some}
 use lib.ListN.{length, take}
 use lib.Dec.{eqb, leb, ltb}
 use Rattle.ids.specs.declared.Ordering.the-variants.{Less, Equal, Greater}
-use Rattle.ids.specs.Answers.{Answered, accepted, refused, Outcome, outcome, decided, _if_, malformed, undeclared, wrongKind, reserved}
-use Rattle.ids.specs.Answers.{givenAgain, noRoom, noAmbient}
+use Rattle.ids.specs.Answers.{Cause, firstOf, decided, _if_, malformed, undeclared, wrongKind, reserved, givenAgain, noRoom, noAmbient}
 use Rattle.ids.specs.Ids.{tooLong, allBelow}
 use Rattle.ids.specs.Table.{present, placed, lookupOf}
-use Rattle.unification.specs.Roots as roots
-use Rattle.unification.specs.Roots.{maxEls, rootOf, shortOf, addedOf, FindM}
+use Rattle.unification.specs.Roots.{maxEls, rootOf, shortOf, addedOf, FindM, findOf, findCauses}
 use Rattle.signature.specs.Model as signature
 use Rattle.signature.specs.Model.{Sig, TypeM, PredM, FuncM, ModelM, MorAppM}
-use Rattle.signature.specs.Calls.{isType, areTypes, isFunc, isModel, inMorApps, pushType, pushPred, pushFunc, pushModel, pushMorApp}
-use Rattle.signature.specs.Calls.{TypedM, at, absent, lookupType}
-use Rattle.semantics.specs.Structure.{Fact, FuncApp, PredApp, Pair, Var, Ambient, Structure, empty, maxPairs, maxImpositions}
-use Rattle.semantics.specs.Structure.{maxFuncApps, maxPredApps, maxVars, compareFact, compareFuncApp, comparePredApp, compareVar}
-use Rattle.semantics.specs.Structure.{compareAmbient, canonicalFact, canonicalFuncApp, with-links, with-marks, with-func-apps}
-use Rattle.semantics.specs.Structure.{with-pred-apps, with-vars, with-ambients, with-pairs, with-impositions, accept}
-use Rattle.semantics.specs.Close as closing
-use Rattle.semantics.specs.Close.{Closed}
+use Rattle.signature.specs.Calls.{isType, areTypes, isFunc, isModel, inMorApps, TypedM, at, absent, concreteTypeAt, lookupTypeCauses}
+use Rattle.signature.specs.Calls.{typeCauses, withType, predCauses, withPred, funcCauses, withFunc, modelCauses, withModel}
+use Rattle.signature.specs.Calls.{morAppCauses, withMorApp}
+use Rattle.semantics.specs.Structure.{Fact, FuncApp, PredApp, Pair, pair, Var, Ambient, ambient, Structure, empty, maxPairs}
+use Rattle.semantics.specs.Structure.{maxImpositions, maxFuncApps, maxPredApps, maxVars, compareFact, compareFuncApp, comparePredApp}
+use Rattle.semantics.specs.Structure.{compareVar, compareAmbient, canonicalFact, canonicalFuncApp, with-links, with-marks}
+use Rattle.semantics.specs.Structure.{with-func-apps, with-pred-apps, with-vars, with-ambients, with-pairs, with-impositions, with-flags}
+use Rattle.semantics.specs.Close.{Closed, CloseRun, closeRun, closeCauses, reportOf, afterClose}
 use Rattle.semantics.specs.Conflicts.{Conflict, typeConflicts}
 
 -- "Numbers must have been declared earlier."
@@ -36,15 +35,14 @@ areEls s es = allBelow (length (s .links)) es
 abbrev pub isPred : Sig → ℕ → Bool
 isPred g p = ltb p (length (g .preds))
 
--- an accepted call that leaves `settled` as it was
-abbrev pub accepting : Structure → Structure
-accepting s = accept (s .settled) s
+-- The causes and the effect of each kind; those of kinds 1 to 5 and of the type lookup are in crate signature, those of the close in `Close`.
 
 -- Kind 6, "element (A mark, 0 or 1)": "A mark (`inferred_parent_els`) is set when an element is added".
-unfoldable pub pushEl : Structure → Bool → Outcome ℕ Structure
-pushEl s mark =
-    outcome (noRoom if leb maxEls (length (s .links)) ∷ []) s (length (s .links))
-    (accepting (with-links (addedOf (s .links)) (with-marks (s .marks ++ (mark ∷ [])) s)))
+unfoldable pub elCauses : Structure → List Cause
+elCauses s = noRoom if leb maxEls (length (s .links)) ∷ []
+
+unfoldable pub withEl : Bool → Structure → Structure
+withEl mark s = with-links (addedOf (s .links)) (with-marks (s .marks ++ (mark ∷ [])) s)
 
 -- Kind 7, "equality (A, B)". "`equate` finds both roots by `root`, so paths shorten, queues the pair as given even where the roots are equal, and says whether they differ."
 
@@ -53,21 +51,20 @@ pub record Equated : Type 0 where
   pub pairs : List Pair
   pub differ : Bool
 
-unfoldable pub equate : List ℕ → List Pair → ℕ → ℕ → Equated
-equate ls ps a b = record {
-  links = shortOf (shortOf ls a) b;
-  pairs = record { left = a; right = b } ∷ ps;
-  differ = not (eqb (rootOf ls a) (rootOf (shortOf ls a) b));
-}
+abbrev pub equating : List ℕ → List Pair → Bool → Equated
+equating ls ps differ = record { links = ls; pairs = ps; differ = differ }
 
-unfoldable pub equateEls : Structure → ℕ → ℕ → Outcome Bool Structure
-equateEls s a b =
-    outcome
-    (undeclared if not (isEl s a && isEl s b)
+unfoldable pub equate : List ℕ → List Pair → ℕ → ℕ → Equated
+equate ls ps a b = equating (shortOf (shortOf ls a) b) (pair a b ∷ ps) (not (eqb (rootOf ls a) (rootOf (shortOf ls a) b)))
+
+unfoldable pub equalityCauses : Structure → ℕ → ℕ → List Cause
+equalityCauses s a b =
+    undeclared if not (isEl s a && isEl s b)
     ∷ noRoom if leb maxPairs (length (s .pairs))
-    ∷ [])
-    s (equate (s .links) (s .pairs) a b .differ)
-    (accepting (with-links (equate (s .links) (s .pairs) a b .links) (with-pairs (equate (s .links) (s .pairs) a b .pairs) s)))
+    ∷ []
+
+unfoldable pub withEquality : Equated → Structure → Structure
+withEquality e s = with-links (e .links) (with-pairs (e .pairs) s)
 
 -- Kind 8, "imposition (A element, B type, parents)". "`impose_type` takes roots, queues unless that entry is present, and says whether it queued."
 
@@ -76,18 +73,16 @@ unfoldable pub isImposed : Fact → List Fact → Bool
 isImposed f [] = false
 isImposed f (g ∷ gs) = elim (compareFact f g) [ Less ↦ isImposed f gs | Equal ↦ true | Greater ↦ isImposed f gs ]
 
-unfoldable pub imposeType : Sig → Structure → Fact → Outcome Bool Structure
-imposeType g s f =
-    outcome
-    (malformed if tooLong (f .parents)
+unfoldable pub impositionCauses : Sig → Structure → Fact → List Cause
+impositionCauses g s f =
+    malformed if tooLong (f .parents)
     ∷ undeclared if not (isEl s (f .el) && (isType g (f .typ) && areEls s (f .parents)))
     ∷ noRoom if (not (isImposed (canonicalFact (s .links) f) (s .impositions)) && leb maxImpositions (length (s .impositions)))
-    ∷ [])
-    s (not (isImposed (canonicalFact (s .links) f) (s .impositions)))
-    (accepting (elim (isImposed (canonicalFact (s .links) f) (s .impositions)) [
-      | true ↦ s
-      | false ↦ with-impositions (s .impositions ++ (canonicalFact (s .links) f ∷ [])) s
-    ]))
+    ∷ []
+
+-- the entry f, which is queued already or not
+unfoldable pub withImposition : Bool → Fact → Structure → Structure
+withImposition queued f s = elim queued [ true ↦ s | false ↦ with-impositions (s .impositions ++ (f ∷ [])) s ]
 
 -- Kind 9, "function application (A function, B result)", as `insert_func_app_or_equate`.
 
@@ -107,79 +102,76 @@ pub record Applied : Type 0 where
   -- "an entry needed, its table at its limit"
   pub full : Bool
 
+abbrev pub applied : List ℕ → List Pair → List FuncApp → Bool → Bool → Applied
+applied ls ps apps y full = record { links = ls; pairs = ps; apps = apps; yes = y; full = full }
+
 unfoldable pub appliedEqual : Equated → List Pair → List FuncApp → Applied
-appliedEqual e ps apps = record { links = e .links; pairs = e .pairs; apps = apps; yes = e .differ; full = leb maxPairs (length ps) }
+appliedEqual e ps apps = applied (e .links) (e .pairs) apps (e .differ) (leb maxPairs (length ps))
 
 -- the application, already rewritten, meets the entry with its key
 unfoldable pub applyAt : Option FuncApp → FuncApp → List ℕ → List Pair → List FuncApp → Applied
-applyAt none x ls ps apps = record {
-  links = ls;
-  pairs = ps;
-  apps = placed compareFuncApp x apps;
-  yes = true;
-  full = leb maxFuncApps (length apps);
-}
+applyAt none x ls ps apps = applied ls ps (placed compareFuncApp x apps) true (leb maxFuncApps (length apps))
 applyAt (some y) x ls ps apps =
     elim (eqb (y .result) (x .result)) [
-      | true ↦ record { links = ls; pairs = ps; apps = apps; yes = false; full = false }
+      | true ↦ applied ls ps apps false false
       | false ↦ appliedEqual (equate ls ps (y .result) (x .result)) ps apps
     ]
 
 unfoldable pub insertFuncAppOrEquate : FuncApp → List ℕ → List Pair → List FuncApp → Applied
 insertFuncAppOrEquate x ls ps apps = applyAt (lookupOf compareFuncApp (canonicalFuncApp ls x) apps) (canonicalFuncApp ls x) ls ps apps
 
-unfoldable pub applyWith : Applied → Sig → Structure → FuncApp → Outcome Bool Structure
-applyWith a g s x =
-    outcome
-    (malformed if (tooLong (x .parents) || tooLong (x .args))
+-- the application on the structure's own tables
+abbrev pub appliedTo : Structure → FuncApp → Applied
+appliedTo s x = insertFuncAppOrEquate x (s .links) (s .pairs) (s .func-apps)
+
+unfoldable pub applicationCauses : Sig → Structure → FuncApp → List Cause
+applicationCauses g s x =
+    malformed if (tooLong (x .parents) || tooLong (x .args))
     ∷ undeclared if not (isFunc g (x .func) && (areEls s (x .parents) && (areEls s (x .args) && isEl s (x .result))))
     ∷ reserved if isReserved g (x .func)
-    ∷ noRoom if a .full
-    ∷ [])
-    s (a .yes) (accepting (with-links (a .links) (with-pairs (a .pairs) (with-func-apps (a .apps) s))))
+    ∷ noRoom if appliedTo s x .full
+    ∷ []
 
-unfoldable pub applyFunc : Sig → Structure → FuncApp → Outcome Bool Structure
-applyFunc g s x = applyWith (insertFuncAppOrEquate x (s .links) (s .pairs) (s .func-apps)) g s x
+unfoldable pub withApplied : Applied → Structure → Structure
+withApplied a s = with-links (a .links) (with-pairs (a .pairs) (with-func-apps (a .apps) s))
 
 -- Kind 10, "predicate application (A predicate)". "A predicate application is stored as given, once; it says whether it was new."
-unfoldable pub applyPred : Sig → Structure → PredApp → Outcome Bool Structure
-applyPred g s x =
-    outcome
-    (malformed if (tooLong (x .parents) || tooLong (x .args))
+unfoldable pub predicationCauses : Sig → Structure → PredApp → List Cause
+predicationCauses g s x =
+    malformed if (tooLong (x .parents) || tooLong (x .args))
     ∷ undeclared if not (isPred g (x .pred) && (areEls s (x .parents) && areEls s (x .args)))
     ∷ noRoom if (not (present comparePredApp x (s .pred-apps)) && leb maxPredApps (length (s .pred-apps)))
-    ∷ [])
-    s (not (present comparePredApp x (s .pred-apps)))
-    (accepting (with-pred-apps (placed comparePredApp x (s .pred-apps)) s))
+    ∷ []
+
+unfoldable pub withPredApp : PredApp → Structure → Structure
+withPredApp x s = with-pred-apps (placed comparePredApp x (s .pred-apps)) s
 
 -- Kind 11, "variable (A key 0 to 63, B element)".
-unfoldable pub bindVar : Structure → Var → Outcome (Unit {0}) Structure
-bindVar s v =
-    outcome
-    (malformed if leb maxVars (v .key)
+unfoldable pub variableCauses : Structure → Var → List Cause
+variableCauses s v =
+    malformed if leb maxVars (v .key)
     ∷ undeclared if not (isEl s (v .el))
     ∷ givenAgain if present compareVar v (s .vars)
-    ∷ [])
-    s tt (accepting (with-vars (placed compareVar v (s .vars)) s))
+    ∷ []
+
+unfoldable pub withVar : Var → Structure → Structure
+withVar v s = with-vars (placed compareVar v (s .vars)) s
 
 -- Kind 12, "ambient (A type, B element)".
-unfoldable pub bindAmbient : Sig → Structure → Ambient → Outcome (Unit {0}) Structure
-bindAmbient g s a =
-    outcome
-    (undeclared if not (isType g (a .typ) && isEl s (a .el))
+unfoldable pub ambientCauses : Sig → Structure → Ambient → List Cause
+ambientCauses g s a =
+    undeclared if not (isType g (a .typ) && isEl s (a .el))
     ∷ wrongKind if not (isModel g (a .typ))
     ∷ givenAgain if present compareAmbient a (s .ambients)
-    ∷ [])
-    s tt (accepting (with-ambients (placed compareAmbient a (s .ambients)) s))
+    ∷ []
 
--- Kind 14, "conflicts".
-unfoldable pub conflicts : Structure → Outcome (List Conflict) Structure
-conflicts s = outcome [] s (typeConflicts s) (accepting s)
+unfoldable pub withAmbient : Ambient → Structure → Structure
+withAmbient a s = with-ambients (placed compareAmbient a (s .ambients)) s
 
 -- The ambient lookup: "`ambient_parents` gives the stored ambient element for each of at most four types, in the order asked."
 
 unfoldable pub ambientOf : ℕ → List Ambient → Option Ambient
-ambientOf t l = lookupOf compareAmbient (record { typ = t; el = 0 }) l
+ambientOf t l = lookupOf compareAmbient (ambient t 0) l
 
 unfoldable pub haveAmbients : List ℕ → List Ambient → Bool
 haveAmbients [] l = true
@@ -189,18 +181,25 @@ unfoldable pub ambientEls : List ℕ → List Ambient → List ℕ
 ambientEls [] l = []
 ambientEls (t ∷ ts) l = elim (ambientOf t l) [ none ↦ ambientEls ts l | some a ↦ a .el ∷ ambientEls ts l ]
 
-unfoldable pub ambientParents : Sig → Structure → List ℕ → Answered (List ℕ)
-ambientParents g s ts =
-    decided (malformed if tooLong ts ∷ undeclared if not (areTypes g ts) ∷ noAmbient if not (haveAmbients ts (s .ambients)) ∷ [])
-    (λ n. refused n) (accepted (ambientEls ts (s .ambients)))
+unfoldable pub ambientParentsCauses : Sig → Structure → List ℕ → List Cause
+ambientParentsCauses g s ts =
+    malformed if tooLong ts
+    ∷ undeclared if not (areTypes g ts)
+    ∷ noAmbient if not (haveAmbients ts (s .ambients))
+    ∷ []
 
--- The finds, which leave the structure with the links that they leave.
+-- The type lookup: a type and its parents, where there is one.
+pub record ConcreteType : Type 0 where
+  pub typ : ℕ
+  pub parents : List ℕ
 
-unfoldable pub rootOn : Structure → ℕ → Outcome FindM Structure
-rootOn s e = record { answer = roots.root (s .links) e .answer; left = with-links (roots.root (s .links) e .left) s }
+abbrev pub concrete-type : ℕ → List ℕ → ConcreteType
+concrete-type t ps = record { typ = t; parents = ps }
 
-unfoldable pub rootConstOn : Structure → ℕ → Outcome FindM Structure
-rootConstOn s e = record { answer = roots.rootConst (s .links) e .answer; left = with-links (roots.rootConst (s .links) e .left) s }
+-- the type with that many leading parents
+unfoldable pub leading : List ℕ → TypedM → Option ConcreteType
+leading ps (at t n) = some (concrete-type t (take n ps))
+leading ps absent = none
 
 -- The calls as one.
 
@@ -233,63 +232,136 @@ pub data Answer : Type 0 where
   conflicting : List Conflict → Answer
   found : FindM → Answer
   -- the type with its leading parents, or none
-  typed : Option Fact → Answer
+  typed : Option ConcreteType → Answer
   els : List ℕ → Answer
   refuse : ℕ → Answer
+
+-- "whether it was accepted"
+unfoldable pub isAccepted : Answer → Bool
+isAccepted (number n) = true
+isAccepted (says b) = true
+isAccepted done = true
+isAccepted (closed c) = true
+isAccepted (conflicting l) = true
+isAccepted (found f) = true
+isAccepted (typed t) = true
+isAccepted (els l) = true
+isAccepted (refuse n) = false
 
 pub record Machine : Type 0 where
   pub sig : Sig
   pub structure : Structure
 
+abbrev pub machine : Sig → Structure → Machine
+machine g s = record { sig = g; structure = s }
+
 pub record Step : Type 0 where
   pub answer : Answer
   pub after : Machine
 
+abbrev pub answers : Answer → Machine → Step
+answers a m = record { answer = a; after = m }
+
 -- "A list begins at the empty signature and structure"
 unfoldable pub start : Machine
-start = record { sig = signature.empty; structure = empty }
+start = machine signature.empty empty
 
-unfoldable pub answerOf : {A : Type 0} → (A → Answer) → Answered A → Answer
-answerOf f (accepted a) = f a
-answerOf f (refused n) = refuse n
+-- how a call is carried out
+pub record Rule : Type 0 where
+  -- what refuses it, in order
+  pub causes : List Cause
+  -- what it answers and leaves where nothing does
+  pub answer : Answer
+  pub after : Machine
+  -- whether number 4 is given after it
+  pub starts : Bool
 
--- a call that leaves another signature
-abbrev pub onSig : {A : Type 0} → (A → Answer) → Machine → Outcome A Sig → Step
-onSig f m o = record { answer = answerOf f (o .answer); after = record { sig = o .left; structure = m .structure } }
+-- kinds 1 to 5, which leave another signature
+abbrev pub declares : List Cause → ℕ → Sig → Machine → Rule
+declares cs n g m = record { causes = cs; answer = number n; after = machine g (m .structure); starts = false }
 
--- a call that leaves another structure
-abbrev pub onStructure : {A : Type 0} → (A → Answer) → Machine → Outcome A Structure → Step
-onStructure f m o = record { answer = answerOf f (o .answer); after = record { sig = m .sig; structure = o .left } }
+-- kinds 6 to 14, which leave another structure: "kinds 1 to 5 after any accepted of 6 to 14" are refused with 4
+abbrev pub states : List Cause → Answer → Structure → Machine → Rule
+states cs a s m = record { causes = cs; answer = a; after = machine (m .sig) s; starts = true }
 
--- a find, which leaves other links
-abbrev pub onLinks : Machine → Outcome FindM (List ℕ) → Step
-onLinks m o = record { answer = answerOf found (o .answer); after = record { sig = m .sig; structure = with-links (o .left) (m .structure) } }
+-- finds and lookups; a find may leave other links
+abbrev pub asks : List Cause → Answer → Structure → Machine → Rule
+asks cs a s m = record { causes = cs; answer = a; after = machine (m .sig) s; starts = false }
 
--- a lookup, which leaves both as they are
-abbrev pub onNeither : {A : Type 0} → (A → Answer) → Machine → Answered A → Step
-onNeither f m a = record { answer = answerOf f a; after = m }
+-- the rules of calls whose effect has several parts
 
--- the type with that many leading parents
-unfoldable pub leading : List ℕ → TypedM → Option Fact
-leading ps (at t n) = some (record { el = 0; typ = t; parents = take n ps })
-leading ps absent = none
+unfoldable pub equalityRule : Equated → List Cause → Machine → Rule
+equalityRule e cs m = states cs (says (e .differ)) (withEquality e (m .structure)) m
+
+unfoldable pub impositionRule : Bool → Fact → List Cause → Machine → Rule
+impositionRule queued f cs m = states cs (says (not queued)) (withImposition queued f (m .structure)) m
+
+unfoldable pub applicationRule : Applied → List Cause → Machine → Rule
+applicationRule a cs m = states cs (says (a .yes)) (withApplied a (m .structure)) m
+
+unfoldable pub closeRule : CloseRun → Machine → Rule
+closeRule c m = states (closeCauses c) (closed (reportOf c)) (afterClose c (m .structure)) m
+
+unfoldable pub rule : Call → Machine → Rule
+rule (push-type t) m = declares (typeCauses (m .structure .started) (m .sig) t) (length (m .sig .types)) (withType (m .sig) t) m
+rule (push-pred p) m = declares (predCauses (m .structure .started) (m .sig) p) (length (m .sig .preds)) (withPred (m .sig) p) m
+rule (push-func f) m = declares (funcCauses (m .structure .started) (m .sig) f) (length (m .sig .funcs)) (withFunc (m .sig) f) m
+rule (push-model x) m = declares (modelCauses (m .structure .started) (m .sig) x) (length (m .sig .models)) (withModel (m .sig) x) m
+rule (push-mor-app x) m = declares (morAppCauses (m .structure .started) (m .sig) x) (length (m .sig .mor-apps)) (withMorApp (m .sig) x) m
+rule (push-el mark) m = states (elCauses (m .structure)) (number (length (m .structure .links))) (withEl mark (m .structure)) m
+rule (equate-els a b) m = equalityRule (equate (m .structure .links) (m .structure .pairs) a b) (equalityCauses (m .structure) a b) m
+rule (impose-type f) m =
+    impositionRule (isImposed (canonicalFact (m .structure .links) f) (m .structure .impositions)) (canonicalFact (m .structure .links) f)
+    (impositionCauses (m .sig) (m .structure) f) m
+rule (apply-func x) m = applicationRule (appliedTo (m .structure) x) (applicationCauses (m .sig) (m .structure) x) m
+rule (apply-pred x) m =
+    states (predicationCauses (m .sig) (m .structure) x) (says (not (present comparePredApp x (m .structure .pred-apps))))
+    (withPredApp x (m .structure)) m
+rule (bind-var v) m = states (variableCauses (m .structure) v) done (withVar v (m .structure)) m
+rule (bind-ambient a) m = states (ambientCauses (m .sig) (m .structure) a) done (withAmbient a (m .structure)) m
+rule close m = closeRule (closeRun (m .sig) (m .structure)) m
+rule type-conflicts m = states [] (conflicting (typeConflicts (m .structure))) (m .structure) m
+rule (root e) m =
+    asks (findCauses (m .structure .links) e) (found (findOf (m .structure .links) e)) (with-links (shortOf (m .structure .links) e) (m .structure)) m
+rule (root-const e) m = asks (findCauses (m .structure .links) e) (found (findOf (m .structure .links) e)) (m .structure) m
+rule (lookup-type t ps) m =
+    asks (lookupTypeCauses (m .sig) t ps) (typed (leading ps (concreteTypeAt (m .sig .types) t (length ps)))) (m .structure) m
+rule (ambient-parents ts) m =
+    asks (ambientParentsCauses (m .sig) (m .structure) ts) (els (ambientEls ts (m .structure .ambients))) (m .structure) m
+
+-- What an accepted call leaves behind.
+
+-- "a structure counts as settled when its latest accepted close reported no change"
+unfoldable pub settledBy : Answer → Bool → Bool
+settledBy (closed c) was = not (c .changed)
+settledBy (number n) was = was
+settledBy (says b) was = was
+settledBy done was = was
+settledBy (conflicting cs) was = was
+settledBy (found f) was = was
+settledBy (typed t) was = was
+settledBy (els es) was = was
+settledBy (refuse n) was = was
+
+-- the flag for number 4, and settled
+unfoldable pub leaves : Bool → Answer → Structure → Structure
+leaves starts a s = with-flags (starts || s .started) (settledBy a (s .settled)) s
+
+-- an accepted call
+unfoldable pub acceptance : Rule → Step
+acceptance r = answers (r .answer) (machine (r .after .sig) (leaves (r .starts) (r .answer) (r .after .structure)))
+
+-- a refused one: "left as it was"
+abbrev pub refusal : Machine → ℕ → Step
+refusal m n = answers (refuse n) m
+
+unfoldable pub stepBy : Rule → Machine → Step
+stepBy r m = decided (firstOf (r .causes)) (refusal m) (acceptance r)
 
 unfoldable pub step : Call → Machine → Step
-step (push-type t) m = onSig number m (pushType (m .structure .started) (m .sig) t)
-step (push-pred p) m = onSig number m (pushPred (m .structure .started) (m .sig) p)
-step (push-func f) m = onSig number m (pushFunc (m .structure .started) (m .sig) f)
-step (push-model x) m = onSig number m (pushModel (m .structure .started) (m .sig) x)
-step (push-mor-app x) m = onSig number m (pushMorApp (m .structure .started) (m .sig) x)
-step (push-el mark) m = onStructure number m (pushEl (m .structure) mark)
-step (equate-els a b) m = onStructure says m (equateEls (m .structure) a b)
-step (impose-type f) m = onStructure says m (imposeType (m .sig) (m .structure) f)
-step (apply-func x) m = onStructure says m (applyFunc (m .sig) (m .structure) x)
-step (apply-pred x) m = onStructure says m (applyPred (m .sig) (m .structure) x)
-step (bind-var v) m = onStructure (λ u. done) m (bindVar (m .structure) v)
-step (bind-ambient a) m = onStructure (λ u. done) m (bindAmbient (m .sig) (m .structure) a)
-step close m = onStructure closed m (closing.close (m .sig) (m .structure))
-step type-conflicts m = onStructure conflicting m (conflicts (m .structure))
-step (root e) m = onLinks m (roots.root (m .structure .links) e)
-step (root-const e) m = onLinks m (roots.rootConst (m .structure .links) e)
-step (lookup-type t ps) m = onNeither (λ r. typed (leading ps r)) m (lookupType (m .sig) t ps)
-step (ambient-parents ts) m = onNeither els m (ambientParents (m .sig) (m .structure) ts)
+step k m = stepBy (rule k m) m
+
+-- what some calls leave, one after the other
+unfoldable pub afterCalls : List Call → Machine → Machine
+afterCalls [] m = m
+afterCalls (k ∷ ks) m = afterCalls ks (step k m .after)

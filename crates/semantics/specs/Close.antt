@@ -1,21 +1,21 @@
 -- The close (01, "The close line").
 use Prim.Native.Nat.{ℕ, zero, suc, _+_, _*_}
-use mathlib.Core.Bool.{Bool, true, false, not, _&&_, _||_}
+use mathlib.Core.Bool.{Bool, true, false, _&&_, _||_}
 use mathlib.Core.List.{List, [], _∷_, _++_, map}
 use mathlib.Core.Option.{Option, none, some}
 use lib.ListN.{length, take}
 use lib.Dec.{eqb, ltb}
-use Rattle.ids.specs.Answers.{Outcome, accepted, refused}
+use Rattle.ids.specs.Answers.{Cause, Outcome, outcome, _if_}
 use Rattle.ids.specs.Table.{lookupOf, placed, rewriteInto}
 use Rattle.unification.specs.Roots.{maxEls}
 use Rattle.signature.specs.Model.{Sig, predAt, funcAt}
 use Rattle.signature.specs.Calls.{TypedM, at, absent, concreteTypeAt}
-use Rattle.semantics.specs.Structure.{Fact, FuncApp, PredApp, Pair, Structure, maxFacts, compareFact, compareFuncApp}
+use Rattle.semantics.specs.Structure.{Fact, fact, FuncApp, PredApp, Pair, pair, Structure, maxFacts, compareFact, compareFuncApp}
 use Rattle.semantics.specs.Structure.{comparePredApp, canonicalFact, canonicalFuncApp, canonicalPredApp, canonicalVar, with-links}
 use Rattle.semantics.specs.Structure.{with-marks, with-facts, with-func-apps, with-pred-apps, with-vars, with-pairs}
-use Rattle.semantics.specs.Structure.{with-impositions, accept}
+use Rattle.semantics.specs.Structure.{with-impositions}
 use Rattle.semantics.specs.Types as types
-use Rattle.semantics.specs.Types.{Core, drain, impose, imposeAll, grew}
+use Rattle.semantics.specs.Types.{Core, core, drain, imposeAll, grew}
 
 -- `functionality`: "rewrites keys and results in order of function, parents, arguments; the first result stays, a different one is queued".
 
@@ -25,13 +25,16 @@ pub record Rewritten : Type 0 where
   pub pairs : List Pair
   pub queued : Bool
 
+abbrev pub rewriting : List FuncApp → List Pair → Bool → Rewritten
+rewriting apps ps queued = record { apps = apps; pairs = ps; queued = queued }
+
 -- an application, already rewritten, meets the entry with its key
 unfoldable pub enterAt : Option FuncApp → FuncApp → Rewritten → Rewritten
-enterAt none x t = record { apps = placed compareFuncApp x (t .apps); pairs = t .pairs; queued = t .queued }
+enterAt none x t = rewriting (placed compareFuncApp x (t .apps)) (t .pairs) (t .queued)
 enterAt (some y) x t =
     elim (eqb (y .result) (x .result)) [
       | true ↦ t
-      | false ↦ record { apps = t .apps; pairs = record { left = y .result; right = x .result } ∷ t .pairs; queued = true }
+      | false ↦ rewriting (t .apps) (pair (y .result) (x .result) ∷ t .pairs) true
     ]
 
 unfoldable pub enter : FuncApp → Rewritten → Rewritten
@@ -46,7 +49,7 @@ enterAll ls (x ∷ xs) t = enterAll ls xs (enter (canonicalFuncApp ls x) t)
 -- the fact that a type demands at an element, for the parents that are given; "absent" demands none
 unfoldable pub demanded : TypedM → List ℕ → ℕ → List Fact
 demanded absent ps e = []
-demanded (at t n) ps e = record { el = e; typ = t; parents = take n ps } ∷ []
+demanded (at t n) ps e = fact e t (take n ps) ∷ []
 
 unfoldable pub demandedAt : Sig → ℕ → List ℕ → ℕ → List Fact
 demandedAt g t ps e = demanded (concreteTypeAt (g .types) t (length ps)) ps e
@@ -80,8 +83,12 @@ pub record Turn : Type 0 where
   pub apps : List FuncApp
   pub worked : Bool
 
+abbrev pub turn : Core → List FuncApp → Bool → Turn
+turn w apps worked = record { core = w; apps = apps; worked = worked }
+
+-- what a pass leaves, and whether it reports work
 abbrev pub reports : Core → List FuncApp → Bool → Turn → Turn
-reports w apps work t = record { core = w; apps = apps; worked = t .worked || work }
+reports w apps work t = turn w apps (t .worked || work)
 
 -- a drain reports a merge
 unfoldable pub drained : Core → Turn → Turn
@@ -96,7 +103,7 @@ rewrote r t = reports (types.with-pairs (r .pairs) (t .core)) (r .apps) (r .queu
 
 unfoldable pub functionalityPass : Sig → List PredApp → Turn → Turn
 functionalityPass g preds t =
-    rewrote (enterAll (t .core .links) (t .apps) (record { apps = []; pairs = t .core .pairs; queued = false })) t
+    rewrote (enterAll (t .core .links) (t .apps) (rewriting [] (t .core .pairs) false)) t
 
 -- `typing` reports a fact that was answered with yes
 unfoldable pub typed : Core → Turn → Turn
@@ -116,7 +123,7 @@ runPasses [] g preds t = t
 runPasses (p ∷ ps) g preds t = runPasses ps g preds (p g preds t)
 
 unfoldable pub round : Sig → List PredApp → List FuncApp → Core → Turn
-round g preds apps w = runPasses passes g preds (record { core = w; apps = apps; worked = false })
+round g preds apps w = runPasses passes g preds (turn w apps false)
 
 -- "Rounds repeat until one in which none reports work"; a number that is met ends them too.
 
@@ -126,15 +133,18 @@ pub record Rounds : Type 0 where
   pub apps : List FuncApp
   pub count : ℕ
 
+abbrev pub rounds-made : Core → List FuncApp → ℕ → Rounds
+rounds-made w apps n = record { core = w; apps = apps; count = n }
+
 unfoldable pub isNone : Option ℕ → Bool
 isNone none = true
 isNone (some n) = false
 
 unfoldable pub lastRound : Turn → Rounds
-lastRound t = record { core = t .core; apps = t .apps; count = 1 }
+lastRound t = rounds-made (t .core) (t .apps) 1
 
 unfoldable pub oneMore : Rounds → Rounds
-oneMore r = record { core = r .core; apps = r .apps; count = suc (r .count) }
+oneMore r = rounds-made (r .core) (r .apps) (suc (r .count))
 
 -- from a round that left t on, at most so many more
 unfoldable pub roundsFrom : ℕ → Sig → List PredApp → Turn → Rounds
@@ -157,8 +167,11 @@ pub record Closed : Type 0 where
   pub merges : ℕ
   pub rounds : ℕ
 
+abbrev pub report : Bool → ℕ → ℕ → Closed
+report changed merges rounds = record { changed = changed; merges = merges; rounds = rounds }
+
 unfoldable pub coreOf : Structure → Core
-coreOf s = record { links = s .links; marks = s .marks; facts = s .facts; pairs = s .pairs; merges = 0; added = 0; met = none }
+coreOf s = core (s .links) (s .marks) (s .facts) (s .pairs) 0 0 none
 
 -- "`canonicalise_refs` rewrites predicate applications, variables, facts and impositions; function applications and ambient elements it leaves untouched."
 unfoldable pub canonicaliseRefs : List ℕ → Structure → Structure
@@ -172,29 +185,32 @@ canonicaliseRefs ls s =
 unfoldable pub withCore : Core → List FuncApp → Structure → Structure
 withCore w apps s = with-links (w .links) (with-marks (w .marks) (with-facts (w .facts) (with-pairs (w .pairs) (with-func-apps apps s))))
 
+-- what a close comes to: its rounds, and the core that the impositions leave
+pub record CloseRun : Type 0 where
+  pub rounds : Rounds
+  pub core : Core
+
+-- "Then each imposition is imposed in queue order"
+unfoldable pub imposedAfter : Rounds → Structure → CloseRun
+imposedAfter r s = record { rounds = r; core = imposeAll (s .impositions) (r .core) }
+
+unfoldable pub closeRun : Sig → Structure → CloseRun
+closeRun g s = imposedAfter (rounds g (s .pred-apps) (s .func-apps) (coreOf s)) s
+
 -- "changed (the Rust's)": a round before the last worked, or an imposition did
-unfoldable pub answerOf : Rounds → Core → Closed
-answerOf r w = record {
-  changed = ltb 1 (r .count) || grew (r .core) w;
-  merges = w .merges;
-  rounds = r .count;
-}
+unfoldable pub reportOf : CloseRun → Closed
+reportOf c = report (ltb 1 (c .rounds .count) || grew (c .rounds .core) (c .core)) (c .core .merges) (c .rounds .count)
 
--- the structure that an accepted close leaves: "settled when its latest accepted close reported no change"
-unfoldable pub leftBy : Rounds → Core → Structure → Structure
-leftBy r w s = accept (not (answerOf r w .changed)) (canonicaliseRefs (w .links) (withCore w (r .apps) s))
+-- "then `canonicalise_refs`. Impositions stay queued."
+unfoldable pub afterClose : CloseRun → Structure → Structure
+afterClose c s = canonicaliseRefs (c .core .links) (withCore (c .core) (c .rounds .apps) s)
 
--- a number that was met refuses: "structure before the close"
-unfoldable pub closeWith : Option ℕ → Rounds → Core → Structure → Outcome Closed Structure
-closeWith (some n) r w s = record { answer = refused n; left = s }
-closeWith none r w s = record { answer = accepted (answerOf r w); left = leftBy r w s }
+-- the number first met refuses: "structure before the close"
+unfoldable pub closeCauses : CloseRun → List Cause
+closeCauses c = elim (c .core .met) [ none ↦ [] | some n ↦ n if true ∷ [] ]
 
--- "Then each imposition is imposed in queue order, then `canonicalise_refs`. Impositions stay queued."
-unfoldable pub closeImposed : Rounds → Core → Structure → Outcome Closed Structure
-closeImposed r w s = closeWith (w .met) r w s
-
-unfoldable pub closeAfter : Rounds → Structure → Outcome Closed Structure
-closeAfter r s = closeImposed r (imposeAll (s .impositions) (r .core)) s
+unfoldable pub closeBy : CloseRun → Structure → Outcome Closed Structure
+closeBy c s = outcome (closeCauses c) s (reportOf c) (afterClose c s)
 
 unfoldable pub close : Sig → Structure → Outcome Closed Structure
-close g s = closeAfter (rounds g (s .pred-apps) (s .func-apps) (coreOf s)) s
+close g s = closeBy (closeRun g s) s

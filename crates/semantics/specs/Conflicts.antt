@@ -14,6 +14,9 @@ pub record Conflict : Type 0 where
   pub a : Fact
   pub b : Fact
 
+abbrev pub conflict : ℕ → Fact → Fact → Conflict
+conflict e f g = record { el = e; a = f; b = g }
+
 -- "differing roots up to the shorter length"
 unfoldable pub parentsMatch : List ℕ → List ℕ → List ℕ → Bool
 parentsMatch ls [] qs = true
@@ -27,7 +30,7 @@ disagree ls f g = not (eqb (f .typ) (g .typ)) || not (parentsMatch ls (f .parent
 -- "the first later fact that disagrees is reported and the search moves on to the next class"
 unfoldable pub firstConflict : List ℕ → ℕ → Fact → List Fact → List Conflict
 firstConflict ls e f [] = []
-firstConflict ls e f (g ∷ gs) = elim (disagree ls f g) [ true ↦ record { el = e; a = f; b = g } ∷ [] | false ↦ firstConflict ls e f gs ]
+firstConflict ls e f (g ∷ gs) = elim (disagree ls f g) [ true ↦ conflict e f g ∷ [] | false ↦ firstConflict ls e f gs ]
 
 unfoldable pub conflictAmong : List ℕ → ℕ → List Fact → List Conflict
 conflictAmong ls e [] = []

@@ -8,12 +8,12 @@ use lib.Dec.{eqb, leb, ltb}
 use Rattle.ids.specs.Answers.{badSheet, badChain, malformed}
 use Rattle.ids.specs.Limits.{maxList}
 use Rattle.signature.specs.Model.{Kind, plain, model, enum, mor}
-use Rattle.semantics.specs.Structure.{Fact}
+use Rattle.semantics.specs.Structure.{fact, func-app, pred-app, variable, ambient}
 use Rattle.semantics.specs.Close.{Closed}
 use Rattle.semantics.specs.Conflicts.{Conflict}
 use Rattle.semantics.specs.Calls.{Call, push-type, push-pred, push-func, push-model, push-mor-app, push-el, equate-els, impose-type}
 use Rattle.semantics.specs.Calls.{apply-func, apply-pred, bind-var, bind-ambient, close, type-conflicts, Answer, number, says, done}
-use Rattle.semantics.specs.Calls.{closed, conflicting, found, typed, els, refuse, Machine, Step, start, step}
+use Rattle.semantics.specs.Calls.{closed, conflicting, found, typed, els, refuse, Machine, Step, refusal, start, step}
 
 -- "A sheet is 1 to 1,024 records of 32 bytes"
 abbrev pub maxRecords : ℕ
@@ -21,6 +21,10 @@ maxRecords = 1024
 
 abbrev pub recordBytes : ℕ
 recordBytes = 32
+
+-- "over 32,768" bytes a sheet is too long
+abbrev pub maxSheet : ℕ
+maxSheet = recordBytes * maxRecords
 
 -- "each 16 unsigned little-endian 16-bit words"
 unfoldable pub words : List ℕ → List ℕ
@@ -179,7 +183,7 @@ impositionForm = record {
   b = λ a. any;
   parents = listed;
   args = unused;
-  call = λ r. impose-type (record { el = r .a; typ = r .b; parents = parentsOf r });
+  call = λ r. impose-type (fact (r .a) (r .b) (parentsOf r));
 }
 
 -- "9 function application (A function, B result)"
@@ -189,7 +193,7 @@ funcAppForm = record {
   b = λ a. any;
   parents = listed;
   args = listed;
-  call = λ r. apply-func (record { func = r .a; parents = parentsOf r; args = argsOf r; result = r .b });
+  call = λ r. apply-func (func-app (r .a) (parentsOf r) (argsOf r) (r .b));
 }
 
 -- "10 predicate application (A predicate)"
@@ -199,16 +203,16 @@ predAppForm = record {
   b = λ a. zeroOnly;
   parents = listed;
   args = listed;
-  call = λ r. apply-pred (record { pred = r .a; parents = parentsOf r; args = argsOf r });
+  call = λ r. apply-pred (pred-app (r .a) (parentsOf r) (argsOf r));
 }
 
 -- "11 variable (A key 0 to 63, B element)"
 unfoldable pub varForm : Form
-varForm = record { a = any; b = λ a. any; parents = unused; args = unused; call = λ r. bind-var (record { key = r .a; el = r .b }) }
+varForm = record { a = any; b = λ a. any; parents = unused; args = unused; call = λ r. bind-var (variable (r .a) (r .b)) }
 
 -- "12 ambient (A type, B element)"
 unfoldable pub ambientForm : Form
-ambientForm = record { a = any; b = λ a. any; parents = unused; args = unused; call = λ r. bind-ambient (record { typ = r .a; el = r .b }) }
+ambientForm = record { a = any; b = λ a. any; parents = unused; args = unused; call = λ r. bind-ambient (ambient (r .a) (r .b)) }
 
 -- "13 close. 14 conflicts."
 unfoldable pub closeForm : Form
@@ -255,7 +259,7 @@ callOf r = callIn (formOf (r .kind)) r
 
 -- "kind, count, key, A or an unused word outside the above" is number 3, the lowest that a call can meet
 unfoldable pub carryOut : Option Call → Machine → Step
-carryOut none m = record { answer = refuse malformed; after = m }
+carryOut none m = refusal m malformed
 carryOut (some c) m = step c m
 
 -- Printed: "Decimal, single spaces."
@@ -374,19 +378,19 @@ unfoldable pub visit : ℕ → Bool → Record → ℕ → Machine → (Machine 
 visit n last r i m rest =
     elim (chainBroken n last (r .next)) [ true ↦ stops (refusedLine badChain i) m | false ↦ carried i (carryOut (callOf r) m) rest ]
 
--- the records of a sheet of n from the index i on: k are done, and after this one at most `left` may be visited
+-- the records of a sheet of n from the index i on: k are done, and after this one at most `visits` may be visited
 unfoldable pub runRecords : List ℕ → ℕ → ℕ → ℕ → ℕ → Machine → Ran
 runRecords bytes n zero i k m = visit n true (recordAt bytes i) i m (λ after. stops (endLine (suc k)) after)
-runRecords bytes n (suc left) i k m =
+runRecords bytes n (suc visits) i k m =
     visit n false (recordAt bytes i) i m (λ after.
     elim (eqb (recordAt bytes i .next) 0) [
       | true ↦ stops (endLine (suc k)) after
-      | false ↦ runRecords bytes n left (recordAt bytes i .next) (suc k) after
+      | false ↦ runRecords bytes n visits (recordAt bytes i .next) (suc k) after
     ])
 
 -- "sheet empty, not a multiple of 32 bytes, or over 32,768"
 unfoldable pub badLength : ℕ → Bool
-badLength l = eqb l 0 || (not (eqb (l % recordBytes) 0) || ltb (recordBytes * maxRecords) l)
+badLength l = eqb l 0 || (not (eqb (l % recordBytes) 0) || ltb maxSheet l)
 
 -- "Record 0 comes first"
 unfoldable pub runSheet : List ℕ → Ran

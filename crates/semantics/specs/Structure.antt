@@ -1,7 +1,8 @@
 -- What the structure holds (01, "Element types"), its limits and the orders of its tables.
-use Prim.Native.Nat.{ℕ, suc}
-use mathlib.Core.Bool.{Bool, true, false}
-use mathlib.Core.List.{List, [], _∷_, map}
+use Prim.Native.Nat.{ℕ}
+use mathlib.Core.Bool.{Bool, false}
+use mathlib.Core.List.{List, [], map}
+use mathlib.Core.Option.{Option, none, some}
 use Rattle.ids.specs.declared.Ordering.{Ordering}
 use Rattle.ids.specs.Order.{orderOf, thenOf, lexOf}
 use Rattle.unification.specs.Roots.{rootOf}
@@ -27,13 +28,16 @@ maxFacts = 1024
 abbrev pub maxVars : ℕ
 maxVars = 64
 
--- Entries. An order reads an entry's key and nothing else, so that an entry may carry more.
+-- Entries. An order reads an entry's key and nothing else, so that an entry may carry more. Each is built by one function.
 
 -- "A fact is a type and its parents", at the element that has it
 pub record Fact : Type 0 where
   pub el : ℕ
   pub typ : ℕ
   pub parents : List ℕ
+
+abbrev pub fact : ℕ → ℕ → List ℕ → Fact
+fact e t ps = record { el = e; typ = t; parents = ps }
 
 -- a function application: its key is the function, the parents and the arguments
 pub record FuncApp : Type 0 where
@@ -42,23 +46,38 @@ pub record FuncApp : Type 0 where
   pub args : List ℕ
   pub result : ℕ
 
+abbrev pub func-app : ℕ → List ℕ → List ℕ → ℕ → FuncApp
+func-app f ps xs r = record { func = f; parents = ps; args = xs; result = r }
+
 pub record PredApp : Type 0 where
   pub pred : ℕ
   pub parents : List ℕ
   pub args : List ℕ
 
+abbrev pub pred-app : ℕ → List ℕ → List ℕ → PredApp
+pred-app p ps xs = record { pred = p; parents = ps; args = xs }
+
 -- an equality that is queued
 pub record Pair : Type 0 where
-  pub left : ℕ
-  pub right : ℕ
+  pub lhs : ℕ
+  pub rhs : ℕ
+
+abbrev pub pair : ℕ → ℕ → Pair
+pair a b = record { lhs = a; rhs = b }
 
 pub record Var : Type 0 where
   pub key : ℕ
   pub el : ℕ
 
+abbrev pub variable : ℕ → ℕ → Var
+variable k e = record { key = k; el = e }
+
 pub record Ambient : Type 0 where
   pub typ : ℕ
   pub el : ℕ
+
+abbrev pub ambient : ℕ → ℕ → Ambient
+ambient t e = record { typ = t; el = e }
 
 -- "ordered by type, then parents, a shorter list before its extension", element by element
 unfoldable pub compareFact : Fact → Fact → Ordering
@@ -79,26 +98,26 @@ compareAmbient a b = orderOf (a .typ) (b .typ)
 
 -- a fact at another element
 abbrev pub factAt : ℕ → Fact → Fact
-factAt e f = record { el = e; typ = f .typ; parents = f .parents }
+factAt e f = fact e (f .typ) (f .parents)
+
+-- the result of an application, if there is one
+abbrev pub resultOf : Option FuncApp → Option ℕ
+resultOf none = none
+resultOf (some x) = some (x .result)
 
 -- The roots of what an entry names.
 
 unfoldable pub canonicalFact : List ℕ → Fact → Fact
-canonicalFact ls f = record { el = rootOf ls (f .el); typ = f .typ; parents = map (rootOf ls) (f .parents) }
+canonicalFact ls f = fact (rootOf ls (f .el)) (f .typ) (map (rootOf ls) (f .parents))
 
 unfoldable pub canonicalFuncApp : List ℕ → FuncApp → FuncApp
-canonicalFuncApp ls x = record {
-  func = x .func;
-  parents = map (rootOf ls) (x .parents);
-  args = map (rootOf ls) (x .args);
-  result = rootOf ls (x .result);
-}
+canonicalFuncApp ls x = func-app (x .func) (map (rootOf ls) (x .parents)) (map (rootOf ls) (x .args)) (rootOf ls (x .result))
 
 unfoldable pub canonicalPredApp : List ℕ → PredApp → PredApp
-canonicalPredApp ls x = record { pred = x .pred; parents = map (rootOf ls) (x .parents); args = map (rootOf ls) (x .args) }
+canonicalPredApp ls x = pred-app (x .pred) (map (rootOf ls) (x .parents)) (map (rootOf ls) (x .args))
 
 unfoldable pub canonicalVar : List ℕ → Var → Var
-canonicalVar ls v = record { key = v .key; el = rootOf ls (v .el) }
+canonicalVar ls v = variable (v .key) (rootOf ls (v .el))
 
 -- The structure.
 pub record Structure : Type 0 where
@@ -125,171 +144,56 @@ pub record Structure : Type 0 where
   -- "a structure counts as settled when its latest accepted close reported no change"
   pub settled : Bool
 
+-- The one place that builds a structure: the fields in their order.
+abbrev pub structure : List ℕ → List Bool → List Fact → List FuncApp → List PredApp → List Var → List Ambient → List Pair → List Fact → Bool → Bool
+    → Structure
+structure ls ms fs xs ps vs bs qs is started settled = record {
+  links = ls;
+  marks = ms;
+  facts = fs;
+  func-apps = xs;
+  pred-apps = ps;
+  vars = vs;
+  ambients = bs;
+  pairs = qs;
+  impositions = is;
+  started = started;
+  settled = settled;
+}
+
 -- "a fresh one does not" count as settled
 unfoldable pub empty : Structure
-empty = record {
-  links = [];
-  marks = [];
-  facts = [];
-  func-apps = [];
-  pred-apps = [];
-  vars = [];
-  ambients = [];
-  pairs = [];
-  impositions = [];
-  started = false;
-  settled = false;
-}
+empty = structure [] [] [] [] [] [] [] [] [] false false
 
 -- A field replaced, the others as they were.
 
 abbrev pub with-links : List ℕ → Structure → Structure
-with-links x s = record {
-  links = x;
-  marks = s .marks;
-  facts = s .facts;
-  func-apps = s .func-apps;
-  pred-apps = s .pred-apps;
-  vars = s .vars;
-  ambients = s .ambients;
-  pairs = s .pairs;
-  impositions = s .impositions;
-  started = s .started;
-  settled = s .settled;
-}
+with-links x s = structure x (s .marks) (s .facts) (s .func-apps) (s .pred-apps) (s .vars) (s .ambients) (s .pairs) (s .impositions) (s .started) (s .settled)
 
 abbrev pub with-marks : List Bool → Structure → Structure
-with-marks x s = record {
-  links = s .links;
-  marks = x;
-  facts = s .facts;
-  func-apps = s .func-apps;
-  pred-apps = s .pred-apps;
-  vars = s .vars;
-  ambients = s .ambients;
-  pairs = s .pairs;
-  impositions = s .impositions;
-  started = s .started;
-  settled = s .settled;
-}
+with-marks x s = structure (s .links) x (s .facts) (s .func-apps) (s .pred-apps) (s .vars) (s .ambients) (s .pairs) (s .impositions) (s .started) (s .settled)
 
 abbrev pub with-facts : List Fact → Structure → Structure
-with-facts x s = record {
-  links = s .links;
-  marks = s .marks;
-  facts = x;
-  func-apps = s .func-apps;
-  pred-apps = s .pred-apps;
-  vars = s .vars;
-  ambients = s .ambients;
-  pairs = s .pairs;
-  impositions = s .impositions;
-  started = s .started;
-  settled = s .settled;
-}
+with-facts x s = structure (s .links) (s .marks) x (s .func-apps) (s .pred-apps) (s .vars) (s .ambients) (s .pairs) (s .impositions) (s .started) (s .settled)
 
 abbrev pub with-func-apps : List FuncApp → Structure → Structure
-with-func-apps x s = record {
-  links = s .links;
-  marks = s .marks;
-  facts = s .facts;
-  func-apps = x;
-  pred-apps = s .pred-apps;
-  vars = s .vars;
-  ambients = s .ambients;
-  pairs = s .pairs;
-  impositions = s .impositions;
-  started = s .started;
-  settled = s .settled;
-}
+with-func-apps x s = structure (s .links) (s .marks) (s .facts) x (s .pred-apps) (s .vars) (s .ambients) (s .pairs) (s .impositions) (s .started) (s .settled)
 
 abbrev pub with-pred-apps : List PredApp → Structure → Structure
-with-pred-apps x s = record {
-  links = s .links;
-  marks = s .marks;
-  facts = s .facts;
-  func-apps = s .func-apps;
-  pred-apps = x;
-  vars = s .vars;
-  ambients = s .ambients;
-  pairs = s .pairs;
-  impositions = s .impositions;
-  started = s .started;
-  settled = s .settled;
-}
+with-pred-apps x s = structure (s .links) (s .marks) (s .facts) (s .func-apps) x (s .vars) (s .ambients) (s .pairs) (s .impositions) (s .started) (s .settled)
 
 abbrev pub with-vars : List Var → Structure → Structure
-with-vars x s = record {
-  links = s .links;
-  marks = s .marks;
-  facts = s .facts;
-  func-apps = s .func-apps;
-  pred-apps = s .pred-apps;
-  vars = x;
-  ambients = s .ambients;
-  pairs = s .pairs;
-  impositions = s .impositions;
-  started = s .started;
-  settled = s .settled;
-}
+with-vars x s = structure (s .links) (s .marks) (s .facts) (s .func-apps) (s .pred-apps) x (s .ambients) (s .pairs) (s .impositions) (s .started) (s .settled)
 
 abbrev pub with-ambients : List Ambient → Structure → Structure
-with-ambients x s = record {
-  links = s .links;
-  marks = s .marks;
-  facts = s .facts;
-  func-apps = s .func-apps;
-  pred-apps = s .pred-apps;
-  vars = s .vars;
-  ambients = x;
-  pairs = s .pairs;
-  impositions = s .impositions;
-  started = s .started;
-  settled = s .settled;
-}
+with-ambients x s = structure (s .links) (s .marks) (s .facts) (s .func-apps) (s .pred-apps) (s .vars) x (s .pairs) (s .impositions) (s .started) (s .settled)
 
 abbrev pub with-pairs : List Pair → Structure → Structure
-with-pairs x s = record {
-  links = s .links;
-  marks = s .marks;
-  facts = s .facts;
-  func-apps = s .func-apps;
-  pred-apps = s .pred-apps;
-  vars = s .vars;
-  ambients = s .ambients;
-  pairs = x;
-  impositions = s .impositions;
-  started = s .started;
-  settled = s .settled;
-}
+with-pairs x s = structure (s .links) (s .marks) (s .facts) (s .func-apps) (s .pred-apps) (s .vars) (s .ambients) x (s .impositions) (s .started) (s .settled)
 
 abbrev pub with-impositions : List Fact → Structure → Structure
-with-impositions x s = record {
-  links = s .links;
-  marks = s .marks;
-  facts = s .facts;
-  func-apps = s .func-apps;
-  pred-apps = s .pred-apps;
-  vars = s .vars;
-  ambients = s .ambients;
-  pairs = s .pairs;
-  impositions = x;
-  started = s .started;
-  settled = s .settled;
-}
+with-impositions x s = structure (s .links) (s .marks) (s .facts) (s .func-apps) (s .pred-apps) (s .vars) (s .ambients) (s .pairs) x (s .started) (s .settled)
 
--- The mark that an accepted call of kinds 6 to 14 leaves: for number 4, and whether the structure is settled from now on.
-abbrev pub accept : Bool → Structure → Structure
-accept x s = record {
-  links = s .links;
-  marks = s .marks;
-  facts = s .facts;
-  func-apps = s .func-apps;
-  pred-apps = s .pred-apps;
-  vars = s .vars;
-  ambients = s .ambients;
-  pairs = s .pairs;
-  impositions = s .impositions;
-  started = true;
-  settled = x;
-}
+-- the flag for number 4, and whether the structure is settled
+abbrev pub with-flags : Bool → Bool → Structure → Structure
+with-flags x y s = structure (s .links) (s .marks) (s .facts) (s .func-apps) (s .pred-apps) (s .vars) (s .ambients) (s .pairs) (s .impositions) x y

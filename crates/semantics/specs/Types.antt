@@ -8,7 +8,7 @@ use lib.Dec.{eqb, ltb}
 use Rattle.ids.specs.Answers.{tooManyFacts}
 use Rattle.ids.specs.Table.{present, placed, rewriteInto}
 use Rattle.unification.specs.Roots.{rootOf, mergedOf}
-use Rattle.semantics.specs.Structure.{Fact, Pair, compareFact, factAt, canonicalFact, maxFacts}
+use Rattle.semantics.specs.Structure.{Fact, Pair, pair, compareFact, factAt, canonicalFact, maxFacts}
 
 -- The part of the structure that merges and imposed facts alter, with what a close counts in it.
 pub record Core : Type 0 where
@@ -23,31 +23,44 @@ pub record Core : Type 0 where
   -- the number first met, which refuses the close
   pub met : Option ℕ
 
+-- The one place that builds a core: the fields in their order.
+abbrev pub core : List ℕ → List Bool → List Fact → List Pair → ℕ → ℕ → Option ℕ → Core
+core ls ms fs ps m a n = record { links = ls; marks = ms; facts = fs; pairs = ps; merges = m; added = a; met = n }
+
+-- Fields replaced, the others as they were.
+
+abbrev pub with-links : List ℕ → Core → Core
+with-links x w = core x (w .marks) (w .facts) (w .pairs) (w .merges) (w .added) (w .met)
+
+abbrev pub with-marks : List Bool → Core → Core
+with-marks x w = core (w .links) x (w .facts) (w .pairs) (w .merges) (w .added) (w .met)
+
 abbrev pub with-pairs : List Pair → Core → Core
-with-pairs x w = record { links = w .links; marks = w .marks; facts = w .facts; pairs = x; merges = w .merges; added = w .added; met = w .met }
+with-pairs x w = core (w .links) (w .marks) (w .facts) x (w .merges) (w .added) (w .met)
 
 -- another link table, other marks and other facts, by one merge more
 abbrev pub with-merge : List ℕ → List Bool → List Fact → Core → Core
-with-merge ls ms fs w = record { links = ls; marks = ms; facts = fs; pairs = w .pairs; merges = suc (w .merges); added = w .added; met = w .met }
+with-merge ls ms fs w = core ls ms fs (w .pairs) (suc (w .merges)) (w .added) (w .met)
 
 -- other facts, by one insertion more
 abbrev pub with-added : List Fact → Core → Core
-with-added fs w = record { links = w .links; marks = w .marks; facts = fs; pairs = w .pairs; merges = w .merges; added = suc (w .added); met = w .met }
+with-added fs w = core (w .links) (w .marks) fs (w .pairs) (w .merges) (suc (w .added)) (w .met)
 
--- a number is met: the first stays
+-- the number first met stays
+abbrev pub firstMet : ℕ → Option ℕ → Option ℕ
+firstMet n o = elim o [ none ↦ some n | some m ↦ some m ]
+
+-- a number is met
 abbrev pub with-met : ℕ → Core → Core
-with-met n w = record {
-  links = w .links;
-  marks = w .marks;
-  facts = w .facts;
-  pairs = w .pairs;
-  merges = w .merges;
-  added = w .added;
-  met = elim (w .met) [ none ↦ some n | some m ↦ some m ];
-}
+with-met n w = core (w .links) (w .marks) (w .facts) (w .pairs) (w .merges) (w .added) (firstMet n (w .met))
 
 abbrev pub marked : List Bool → ℕ → Bool
 marked ms e = getD ms e false
+
+-- some element is marked
+unfoldable pub anyMarked : List Bool → Bool
+anyMarked [] = false
+anyMarked (m ∷ ms) = m || anyMarked ms
 
 -- "After a merge the mark remains only if both roots had it."
 unfoldable pub mergedMarks : List Bool → ℕ → ℕ → List Bool
@@ -66,7 +79,7 @@ unfoldable pub joinRoots : ℕ → ℕ → Core → Core
 joinRoots a b w = elim (eqb a b) [ true ↦ w | false ↦ merge (min a b) (max a b) w ]
 
 unfoldable pub join : Pair → Core → Core
-join p w = joinRoots (rootOf (w .links) (p .left)) (rootOf (w .links) (p .right)) w
+join p w = joinRoots (rootOf (w .links) (p .lhs)) (rootOf (w .links) (p .rhs)) w
 
 -- "drain (last pair first)"
 unfoldable pub drainPairs : List Pair → Core → Core
@@ -87,11 +100,12 @@ concreteTypesOf ls fs e = rewriteInto compareFact (canonicalFact ls) (factsAt (r
 
 -- To impose a fact.
 
--- "Where two roots differ and either is marked, `equate` them and drain the whole queue at once." Both are roots, so that no path shortens.
+-- "Where two roots differ and either is marked, `equate` them and drain the whole queue at once." Both are roots, so that `equate` shortens
+-- no path and queues the pair (`equate-roots`, proofs/Equating).
 unfoldable pub refineRoots : ℕ → ℕ → Core → Core
 refineRoots a b w =
     elim (not (eqb a b) && (marked (w .marks) a || marked (w .marks) b)) [
-      | true ↦ drain (with-pairs (record { left = a; right = b } ∷ w .pairs) w)
+      | true ↦ drain (with-pairs (pair a b ∷ w .pairs) w)
       | false ↦ w
     ]
 

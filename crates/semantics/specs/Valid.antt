@@ -126,8 +126,8 @@ countsOf g s = countsAt g (length (s .links))
 -- a queued equality
 pub record PairValid (c : Counts) (p : Pair) : Type 0 where
   -- both are elements
-  pub left : p .left < c .els
-  pub right : p .right < c .els
+  pub lhs : p .lhs < c .els
+  pub rhs : p .rhs < c .els
 
 -- a fact, or an imposition
 pub record FactValid (c : Counts) (f : Fact) : Type 0 where

@@ -5,8 +5,8 @@ use mathlib.Core.Bool.{Bool, true, false, not, _&&_, _||_}
 use mathlib.Core.List.{List, [], _∷_, _++_}
 use lib.ListN.{length, getD}
 use lib.Dec.{eqb, leb, ltb}
-use Rattle.ids.specs.Answers.{Answered, accepted, refused, Outcome, outcome, decided, _if_, malformed, tooLate, undeclared, wrongKind}
-use Rattle.ids.specs.Answers.{givenAgain, noRoom}
+use Rattle.ids.specs.Answers.{Answered, accepted, refused, Cause, firstOf, decided, Outcome, outcome, _if_, malformed, tooLate}
+use Rattle.ids.specs.Answers.{undeclared, wrongKind, givenAgain, noRoom}
 use Rattle.ids.specs.Ids.{tooLong, allBelow}
 use Rattle.signature.specs.declared.Typed.{Typed}
 use Rattle.signature.specs.declared.Typed.the-variants.{At, Absent}
@@ -113,67 +113,89 @@ unfoldable pub pairGiven : ℕ → ℕ → List MorAppM → Bool
 pairGiven mo me [] = false
 pairGiven mo me (m ∷ ms) = (eqb (m .morphism-type) mo && eqb (m .member-type) me) || pairGiven mo me ms
 
+-- Each call has its causes, in order, and its effect where none of them applies: an entry more in its table, whose number is the answer.
+
 -- Kind 1, "type (A kind, B model of a Mor)".
-unfoldable pub pushType : Bool → Sig → TypeM → Outcome ℕ Sig
-pushType started g t =
-    outcome
-    (malformed if tooLong (t .parents)
+unfoldable pub typeCauses : Bool → Sig → TypeM → List Cause
+typeCauses started g t =
+    malformed if tooLong (t .parents)
     ∷ tooLate if started
     ∷ undeclared if not (areTypes g (t .parents) && modelDeclared g (t .kind))
     ∷ wrongKind if not (modelIsModel g (t .kind))
     ∷ noRoom if leb maxTypes (length (g .types))
-    ∷ [])
-    g (length (g .types)) (with-types g (g .types ++ (t ∷ [])))
+    ∷ []
+
+unfoldable pub withType : Sig → TypeM → Sig
+withType g t = with-types g (g .types ++ (t ∷ []))
+
+unfoldable pub pushType : Bool → Sig → TypeM → Outcome ℕ Sig
+pushType started g t = outcome (typeCauses started g t) g (length (g .types)) (withType g t)
 
 -- Kind 2, "predicate (arguments are its arity)".
-unfoldable pub pushPred : Bool → Sig → PredM → Outcome ℕ Sig
-pushPred started g p =
-    outcome
-    (malformed if (tooLong (p .parents) || tooLong (p .arity))
+unfoldable pub predCauses : Bool → Sig → PredM → List Cause
+predCauses started g p =
+    malformed if (tooLong (p .parents) || tooLong (p .arity))
     ∷ tooLate if started
     ∷ undeclared if not (areTypes g (p .parents) && areTypes g (p .arity))
     ∷ noRoom if leb maxPreds (length (g .preds))
-    ∷ [])
-    g (length (g .preds)) (with-preds g (g .preds ++ (p ∷ [])))
+    ∷ []
+
+unfoldable pub withPred : Sig → PredM → Sig
+withPred g p = with-preds g (g .preds ++ (p ∷ []))
+
+unfoldable pub pushPred : Bool → Sig → PredM → Outcome ℕ Sig
+pushPred started g p = outcome (predCauses started g p) g (length (g .preds)) (withPred g p)
 
 -- Kind 3, "function (B codomain, arguments its domain)".
-unfoldable pub pushFunc : Bool → Sig → FuncM → Outcome ℕ Sig
-pushFunc started g f =
-    outcome
-    (malformed if (tooLong (f .parents) || tooLong (f .domain))
+unfoldable pub funcCauses : Bool → Sig → FuncM → List Cause
+funcCauses started g f =
+    malformed if (tooLong (f .parents) || tooLong (f .domain))
     ∷ tooLate if started
     ∷ undeclared if not (areTypes g (f .parents) && (areTypes g (f .domain) && isType g (f .codomain)))
     ∷ noRoom if leb maxFuncs (length (g .funcs))
-    ∷ [])
-    g (length (g .funcs)) (with-funcs g (g .funcs ++ (f ∷ [])))
+    ∷ []
+
+unfoldable pub withFunc : Sig → FuncM → Sig
+withFunc g f = with-funcs g (g .funcs ++ (f ∷ []))
+
+unfoldable pub pushFunc : Bool → Sig → FuncM → Outcome ℕ Sig
+pushFunc started g f = outcome (funcCauses started g f) g (length (g .funcs)) (withFunc g f)
 
 -- "Numbers must have been declared earlier", of those that a model names
 unfoldable pub modelIdsDeclared : Sig → ModelM → Bool
 modelIdsDeclared g m = isType g (m .typ) && (isType g (m .mor) && allBelow (length (g .funcs)) (functions m))
 
 -- Kind 4, "model (A type, B mor, four arguments dom, cod, id, comp)".
-unfoldable pub pushModel : Bool → Sig → ModelM → Outcome ℕ Sig
-pushModel started g m =
-    outcome
-    (tooLate if started
+unfoldable pub modelCauses : Bool → Sig → ModelM → List Cause
+modelCauses started g m =
+    tooLate if started
     ∷ undeclared if not (modelIdsDeclared g m)
     ∷ wrongKind if not (isModel g (m .typ) && isMorOf g (m .typ) (m .mor))
     ∷ givenAgain if (modelGiven (m .typ) (g .models) || (repeats (functions m) || anyGiven g (functions m)))
     ∷ noRoom if leb maxModels (length (g .models))
-    ∷ [])
-    g (length (g .models)) (with-models g (g .models ++ (m ∷ [])))
+    ∷ []
+
+unfoldable pub withModel : Sig → ModelM → Sig
+withModel g m = with-models g (g .models ++ (m ∷ []))
+
+unfoldable pub pushModel : Bool → Sig → ModelM → Outcome ℕ Sig
+pushModel started g m = outcome (modelCauses started g m) g (length (g .models)) (withModel g m)
 
 -- Kind 5, "morphism application function (A function; arguments morphism type, member type)".
-unfoldable pub pushMorApp : Bool → Sig → MorAppM → Outcome ℕ Sig
-pushMorApp started g m =
-    outcome
-    (tooLate if started
+unfoldable pub morAppCauses : Bool → Sig → MorAppM → List Cause
+morAppCauses started g m =
+    tooLate if started
     ∷ undeclared if not (isFunc g (m .func) && (isType g (m .morphism-type) && isType g (m .member-type)))
     ∷ wrongKind if not (isMor g (m .morphism-type))
     ∷ givenAgain if (functionGiven g (m .func) || pairGiven (m .morphism-type) (m .member-type) (g .mor-apps))
     ∷ noRoom if leb maxMorApps (length (g .mor-apps))
-    ∷ [])
-    g (length (g .mor-apps)) (with-mor-apps g (g .mor-apps ++ (m ∷ [])))
+    ∷ []
+
+unfoldable pub withMorApp : Sig → MorAppM → Sig
+withMorApp g m = with-mor-apps g (g .mor-apps ++ (m ∷ []))
+
+unfoldable pub pushMorApp : Bool → Sig → MorAppM → Outcome ℕ Sig
+pushMorApp started g m = outcome (morAppCauses started g m) g (length (g .mor-apps)) (withMorApp g m)
 
 -- "an own answer of type and parent count, the parents beside it"
 pub data TypedM : Type 0 where
@@ -185,9 +207,11 @@ unfoldable pub concreteTypeAt : List TypeM → ℕ → ℕ → TypedM
 concreteTypeAt ts t given = elim (ltb given (length (getD ts t noType .parents))) [ true ↦ absent | false ↦ at t (length (getD ts t noType .parents)) ]
 
 -- The type lookup: "3 for over four entries, 5 for an undeclared type".
+unfoldable pub lookupTypeCauses : Sig → ℕ → List ℕ → List Cause
+lookupTypeCauses g t ps = malformed if tooLong ps ∷ undeclared if not (isType g t) ∷ []
+
 unfoldable pub lookupType : Sig → ℕ → List ℕ → Answered TypedM
-lookupType g t ps =
-    decided (malformed if tooLong ps ∷ undeclared if not (isType g t) ∷ []) (λ n. refused n) (accepted (concreteTypeAt (g .types) t (length ps)))
+lookupType g t ps = decided (firstOf (lookupTypeCauses g t ps)) (λ n. refused n) (accepted (concreteTypeAt (g .types) t (length ps)))
 
 -- The code's answers, as the definitions give them.
 
@@ -204,4 +228,4 @@ answered (Number n) = accepted n
 answered (Refused n) = refused n
 
 abbrev pub declared : Declaring → Outcome ℕ Sig
-declared r = record { answer = answered (r .answer); left = sigOf (r .signature) }
+declared r = record { answer = answered (r .answer); after = sigOf (r .signature) }

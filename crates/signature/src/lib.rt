@@ -5,6 +5,7 @@ use ids::PredId;
 use ids::Refusal;
 use ids::TypeId;
 use ids::TypeIds;
+use ids::Verdict;
 ghost use mathlib.Core.Path.{_≡_};
 ghost use mathlib.Core.List.{[]};
 ghost use lib.ListN.{getD};
@@ -567,11 +568,11 @@ impl Signature {
     pub fn lookup_type(self, typ: TypeId, parents: ElIds) -> TypeLookup
         ensures { λ r. ⌜ lookedOf r ≡ lookupType (sigOf self) (typ .0) (givenEls parents) ⌝ }
     {
-        if parents.is_too_long() {
-            return TypeLookup::Refused(Refusal::MALFORMED);
-        }
-        if !self.is_type(typ) {
-            return TypeLookup::Refused(Refusal::UNDECLARED);
+        let verdict = Verdict::Accepted;
+        let verdict = verdict.refuse_if(Refusal::MALFORMED, parents.is_too_long());
+        let verdict = verdict.refuse_if(Refusal::UNDECLARED, !self.is_type(typ));
+        if let Verdict::Refused(number) = verdict {
+            return TypeLookup::Refused(number);
         }
         let types = self.types;
         TypeLookup::Looked(types.concrete_type_at(typ, parents.len))

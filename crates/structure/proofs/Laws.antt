@@ -35,8 +35,8 @@ use Rattle.structure.specs.View.{structureOf}
 
 -- an accepted call: what it answers, and the structure that it marks
 pub accepts : {A : Type 0} {v w : A} {t s r : model.Structure} → v ≡ w → t ≡ accepting s → s ≡ r
-    → _≡_ {A = Outcome A model.Structure} (record { answer = accepted v; left = t }) (record { answer = accepted w; left = accepting r })
-accepts {w = w} p q e = (λ i. record { answer = accepted (p i); left = q i }) ∙ (λ i. record { answer = accepted w; left = accepting (e i) })
+    → _≡_ {A = Outcome A model.Structure} (record { answer = accepted v; after = t }) (record { answer = accepted w; after = accepting r })
+accepts {w = w} p q e = (λ i. record { answer = accepted (p i); after = q i }) ∙ (λ i. record { answer = accepted w; after = accepting (e i) })
 
 -- a find leaves as many links
 pub root-length : (ls : List ℕ) (e : ℕ) → length (roots.root ls e .left) ≡ length ls
@@ -59,8 +59,8 @@ module _ (s : Structure) (e : equalities.Equated) (a b : ℕ)
       (with-marks (take (e .unification .len) (s .«inferred_parent_els»)) (with-pairs (pairsOf (e .pairs)) (structureOf s)))
 
   pub equates : {t : model.Structure} → t ≡ accept (s .settled) left
-      → _≡_ {A = Outcome Bool model.Structure} (record { answer = accepted (e .differ); left = t })
-      (record { answer = accepted (equals .differ); left = accepting (with-links (equals .links) (with-pairs (equals .pairs) (structureOf s))) })
+      → _≡_ {A = Outcome Bool model.Structure} (record { answer = accepted (e .differ); after = t })
+      (record { answer = accepted (equals .differ); after = accepting (with-links (equals .links) (with-pairs (equals .pairs) (structureOf s))) })
   equates q =
       let same : equatedOf e ≡ equals = is ∙ equate-room _ _ a b room in
       let many : length (linksOf (e .unification)) ≡ length (linksOf (s .unification)) =

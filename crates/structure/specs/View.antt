@@ -1,28 +1,31 @@
 -- The code's structure and its answers as the definitions speak of them.
 use Prim.Native.Nat.{ℕ}
-use mathlib.Core.Bool.{Bool}
 use mathlib.Core.List.{List, []}
+use mathlib.Core.Option.{Option, none, some}
 use lib.ListN.{take}
-use Rattle.ids.specs.Answers.{Answered, accepted, refused, Outcome}
 use Rattle.ids.specs.Ids.{givenEls}
-use Rattle.unification.specs.Roots.{maxEls, linksOf, FindM, answered}
+use Rattle.unification.specs.declared.Finding.{Finding}
+use Rattle.unification.specs.declared.Finding.the-variants as findings
+use Rattle.unification.specs.Roots.{maxEls, linksOf, found}
+use Rattle.signature.specs.Model.{Sig, sigOf}
 use Rattle.semantics.specs.Structure as model
-use Rattle.semantics.specs.Structure.{maxFacts, maxFuncApps, maxPredApps, maxVars, maxPairs, maxImpositions}
+use Rattle.semantics.specs.Close as closing
+use Rattle.semantics.specs.Close.{report}
+use Rattle.semantics.specs.Conflicts.{Conflict}
+use Rattle.semantics.specs.Calls as calls
+use Rattle.semantics.specs.Calls.{Step, answers, machine}
+use Rattle.semantics.specs.Structure.{structure, maxFacts, maxFuncApps, maxPredApps, maxVars, maxPairs, maxImpositions}
 use Rattle.facts.specs.View.{factsOf, impositionsOf}
 use Rattle.apps.specs.View.{funcAppsOf, predAppsOf}
 use Rattle.bindings.specs.View.{varsOf, ambientsOf}
 use Rattle.equalities.specs.View.{pairsOf}
 use Rattle.structure.specs.declared.Limits.{Limits}
 use Rattle.structure.specs.declared.Structure.{Structure}
-use Rattle.structure.specs.declared.Numbered.{Numbered}
-use Rattle.structure.specs.declared.Numbered.the-variants as numbered
-use Rattle.structure.specs.declared.Numbering.{Numbering}
-use Rattle.structure.specs.declared.Said.{Said}
-use Rattle.structure.specs.declared.Said.the-variants as said
-use Rattle.structure.specs.declared.Saying.{Saying}
-use Rattle.structure.specs.declared.Done.{Done}
-use Rattle.structure.specs.declared.Done.the-variants as done
-use Rattle.structure.specs.declared.Doing.{Doing}
+use Rattle.structure.specs.declared.Answer.{Answer}
+use Rattle.structure.specs.declared.Answer.the-variants as variants
+use Rattle.structure.specs.declared.Closed.{Closed}
+use Rattle.structure.specs.declared.Stepped.{Stepped}
+use Rattle.structure.specs.declared.Machine.{Machine}
 use Rattle.structure.specs.declared.Looked.{Looked}
 use Rattle.structure.specs.declared.Looked.the-variants as looked
 use Rattle.structure.specs.declared.AmbientParents.{AmbientParents}
@@ -41,66 +44,70 @@ limits = record {
 }
 
 abbrev pub structureOf : Structure → model.Structure
-structureOf s = record {
-  links = linksOf (s .unification);
-  marks = take (s .unification .len) (s .«inferred_parent_els»);
-  facts = factsOf (s .els);
-  func-apps = funcAppsOf (s .«func_apps»);
-  pred-apps = predAppsOf (s .«pred_apps»);
-  vars = varsOf (s .«var_els»);
-  ambients = ambientsOf (s .«ambient_model_els»);
-  pairs = pairsOf (s .«pending_equalities»);
-  impositions = impositionsOf (s .«pending_type_impositions»);
-  started = s .started;
-  settled = s .settled;
-}
+structureOf s =
+    structure (linksOf (s .unification)) (take (s .unification .len) (s .«inferred_parent_els»)) (factsOf (s .els)) (funcAppsOf (s .«func_apps»))
+    (predAppsOf (s .«pred_apps»)) (varsOf (s .«var_els»)) (ambientsOf (s .«ambient_model_els»)) (pairsOf (s .«pending_equalities»))
+    (impositionsOf (s .«pending_type_impositions»)) (s .started) (s .settled)
+
+abbrev pub machineOf : Machine → calls.Machine
+machineOf m = machine (sigOf (m .signature)) (structureOf (m .structure))
 
 -- What a call answers.
 
-abbrev pub numberedOf : Numbered → Answered ℕ
-numberedOf (numbered.Number n) = accepted n
-numberedOf (numbered.Refused n) = refused n
+abbrev pub closedOf : Closed → closing.Closed
+closedOf c = report (c .changed) (c .merges) (c .rounds)
 
-abbrev pub numberingOf : Numbering → Outcome ℕ model.Structure
-numberingOf r = record { answer = numberedOf (r .answer); left = structureOf (r .structure) }
+-- with the conflicts that stand beside it
+abbrev pub answerOf : List Conflict → Answer → calls.Answer
+answerOf cs (variants.Number n) = calls.number n
+answerOf cs (variants.Says b) = calls.says b
+answerOf cs variants.Done = calls.done
+answerOf cs (variants.Closed c) = calls.closed (closedOf c)
+answerOf cs variants.Conflicting = calls.conflicting cs
+answerOf cs (variants.Refused n) = calls.refuse n
 
-abbrev pub saidOf : Said → Answered Bool
-saidOf (said.Answer b) = accepted b
-saidOf (said.Refused n) = refused n
+-- what a call on the structure makes of a machine whose signature is g
+abbrev pub stepOf : Sig → Stepped → Step
+stepOf g r = answers (answerOf [] (r .answer)) (machine g (structureOf (r .structure)))
 
-abbrev pub sayingOf : Saying → Outcome Bool model.Structure
-sayingOf r = record { answer = saidOf (r .answer); left = structureOf (r .structure) }
+-- A find.
 
-abbrev pub doneOf : Done → Answered (Unit {0})
-doneOf done.Accepted = accepted tt
-doneOf (done.Refused n) = refused n
+abbrev pub foundOf : Finding → calls.Answer
+foundOf (findings.Found f) = calls.found (found f)
+foundOf (findings.Refused n) = calls.refuse n
 
-abbrev pub doingOf : Doing → Outcome (Unit {0}) model.Structure
-doingOf r = record { answer = doneOf (r .answer); left = structureOf (r .structure) }
+abbrev pub rootingOf : Sig → Rooting → Step
+rootingOf g r = answers (foundOf (r .find)) (machine g (structureOf (r .structure)))
 
--- the answer of the ambient lookup, and the list that stands beside it
+-- The ambient lookup: its step, and the list that stands beside its answer.
+
 pub record Looking : Type 0 where
-  pub answer : Answered (List ℕ)
+  pub step : Step
   pub els : List ℕ
 
--- the elements found stand beside their answer, and none beside a refusal
-abbrev pub elsBeside : Answered (List ℕ) → List ℕ
-elsBeside (accepted es) = es
-elsBeside (refused n) = []
+abbrev pub parentsIn : Option calls.ConcreteType → List ℕ
+parentsIn none = []
+parentsIn (some t) = t .parents
 
-abbrev pub withEls : Answered (List ℕ) → Looking
-withEls a = record { answer = a; els = elsBeside a }
+-- the elements that an answer lists: none where it is another
+abbrev pub elsIn : calls.Answer → List ℕ
+elsIn (calls.number n) = []
+elsIn (calls.says b) = []
+elsIn calls.done = []
+elsIn (calls.closed c) = []
+elsIn (calls.conflicting cs) = []
+elsIn (calls.found f) = []
+elsIn (calls.typed t) = parentsIn t
+elsIn (calls.els es) = es
+elsIn (calls.refuse n) = []
 
-abbrev pub lookedOf : List ℕ → Looked → Answered (List ℕ)
-lookedOf es looked.Found = accepted es
-lookedOf es (looked.Refused n) = refused n
+abbrev pub looking : Step → Looking
+looking s = record { step = s; els = elsIn (s .answer) }
+
+abbrev pub lookedOf : List ℕ → Looked → calls.Answer
+lookedOf es looked.Found = calls.els es
+lookedOf es (looked.Refused n) = calls.refuse n
 
 -- the elements stand beside the answer, as many as their length says
-abbrev pub parentsOf : AmbientParents → Answered (List ℕ)
-parentsOf r = lookedOf (givenEls (r .els)) (r .answer)
-
-abbrev pub lookingOf : AmbientParents → Looking
-lookingOf r = record { answer = parentsOf r; els = givenEls (r .els) }
-
-abbrev pub rootingOf : Rooting → Outcome FindM model.Structure
-rootingOf r = record { answer = answered (r .find); left = structureOf (r .structure) }
+abbrev pub lookingOf : calls.Machine → AmbientParents → Looking
+lookingOf m r = record { step = answers (lookedOf (givenEls (r .els)) (r .answer)) m; els = givenEls (r .els) }

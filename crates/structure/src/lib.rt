@@ -14,18 +14,20 @@ use ids::ElId;
 use ids::ElIds;
 use ids::Refusal;
 use ids::TypeIds;
+use ids::Verdict;
 use signature::Signature;
 use unification::Finding;
 use unification::Unification;
 ghost use mathlib.Core.Path.{_≡_};
-ghost use Rattle.ids.specs.Answers.{refused, Outcome};
+ghost use mathlib.Core.Bool.{true};
+ghost use mathlib.Core.List.{[]};
 ghost use Rattle.ids.specs.Ids.{elsOf, givenTypes};
-ghost use Rattle.unification.specs.Roots.{answered};
-ghost use Rattle.signature.specs.Model.{sigOf};
-ghost use Rattle.semantics.specs.Structure.{empty, accept};
-ghost use Rattle.semantics.specs.Calls.{isEl, areEls, pushEl, equateEls, bindVar, bindAmbient, ambientParents, rootOn, rootConstOn};
+ghost use Rattle.signature.specs.Model.{Sig, sigOf};
+ghost use Rattle.semantics.specs.Structure.{empty};
+ghost use Rattle.semantics.specs.Calls.{isEl, areEls, push-el, equate-els, bind-var, bind-ambient, root, root-const, ambient-parents};
+ghost use Rattle.semantics.specs.Calls.{start, machine, answers, refusal, settledBy, leaves, step};
 ghost use Rattle.bindings.specs.View.{varOf, ambientOf};
-ghost use Rattle.structure.specs.View.{limits, structureOf, numberingOf, sayingOf, doingOf, withEls, lookingOf, rootingOf};
+ghost use Rattle.structure.specs.View.{limits, structureOf, machineOf, answerOf, stepOf, foundOf, rootingOf, looking, lookingOf};
 
 // How many entries each table has at most.
 pub struct Limits {
@@ -54,33 +56,32 @@ pub struct Structure {
     pub settled: bool,
 }
 
-pub enum Numbered {
+// What a call answers, with the number of a refusal; the lists of an answer stand beside it.
+pub enum Answer {
     Number(u16),
+    Says(bool),
+    Done,
+    Closed(Closed),
+    Conflicting,
     Refused(u16),
 }
 
-pub struct Numbering {
-    pub answer: Numbered,
+// What a close reports.
+pub struct Closed {
+    pub changed: bool,
+    pub merges: u64,
+    pub rounds: u64,
+}
+
+// What a call of kinds 6 to 13 answers, and the structure that it leaves.
+pub struct Stepped {
+    pub answer: Answer,
     pub structure: Structure,
 }
 
-pub enum Said {
-    Answer(bool),
-    Refused(u16),
-}
-
-pub struct Saying {
-    pub answer: Said,
-    pub structure: Structure,
-}
-
-pub enum Done {
-    Accepted,
-    Refused(u16),
-}
-
-pub struct Doing {
-    pub answer: Done,
+// The two values that the calls are made on.
+pub struct Machine {
+    pub signature: Signature,
     pub structure: Structure,
 }
 
@@ -95,44 +96,25 @@ pub struct AmbientParents {
     pub els: ElIds,
 }
 
+// The ambient elements of some types, and whether each type has one.
+struct FoundEls {
+    all: bool,
+    els: ElIds,
+}
+
 pub struct Rooting {
     pub find: Finding,
     pub structure: Structure,
 }
 
-fn refuse_number(structure: Structure, number: u16) -> Numbering
-    ensures { λ r. ⌜ numberingOf r ≡ record { answer = refused number; left = structureOf structure } ⌝ }
-{
-    Numbering {
-        answer: Numbered::Refused(number),
-        structure,
-    }
-}
-
-pub fn refuse_answer(structure: Structure, number: u16) -> Saying
-    ensures { λ r. ⌜ sayingOf r ≡ record { answer = refused number; left = structureOf structure } ⌝ }
-{
-    Saying {
-        answer: Said::Refused(number),
-        structure,
-    }
-}
-
-fn refuse_lookup(number: u16) -> AmbientParents
-    ensures { λ r. ⌜ lookingOf r ≡ withEls (refused number) ⌝ }
-{
-    AmbientParents {
-        answer: Looked::Refused(number),
-        els: ElIds::new(),
-    }
-}
-
-fn refuse_binding(structure: Structure, number: u16) -> Doing
-    ensures { λ r. ⌜ doingOf r ≡ record { answer = refused number; left = structureOf structure } ⌝ }
-{
-    Doing {
-        answer: Done::Refused(number),
-        structure,
+impl Machine {
+    pub fn new() -> Self
+        ensures { λ r. ⌜ machineOf r ≡ start ⌝ }
+    {
+        Machine {
+            signature: Signature::new(),
+            structure: Structure::new(),
+        }
     }
 }
 
@@ -184,14 +166,37 @@ impl Structure {
         }
     }
 
-    // The mark that an accepted call of kinds 6 to 14 leaves.
-    pub fn accept(self, settled: bool) -> Structure
-        ensures { λ r. ⌜ structureOf r ≡ accept settled (structureOf self) ⌝ }
+    // A refused call leaves the structure as it was.
+    pub fn refuse(self, number: u16) -> Stepped
+        ensures { λ r. ⌜ (g : Sig) → stepOf g r ≡ refusal (machine g (structureOf self)) number ⌝ }
+    {
+        Stepped {
+            answer: Answer::Refused(number),
+            structure: self,
+        }
+    }
+
+    // Whether the structure is settled after an answer: a close says so, and after any other it is as before.
+    fn settled_by(self, answer: Answer) -> bool
+        ensures { λ r. ⌜ r ≡ settledBy (answerOf [] answer) (self .settled) ⌝ }
+    {
+        match answer {
+            Answer::Closed(closed) => !closed.changed,
+            _ => self.settled,
+        }
+    }
+
+    // What an accepted call of kinds 6 to 14 leaves behind: the flag for number 4, and whether the structure is settled.
+    pub fn accept(self, answer: Answer) -> Stepped
+        ensures { λ r. ⌜ (g : Sig) → stepOf g r ≡ answers (answerOf [] answer) (machine g (leaves true (answerOf [] answer) (structureOf self))) ⌝ }
     {
         let mut next = self;
         next.started = true;
-        next.settled = settled;
-        next
+        next.settled = self.settled_by(answer);
+        Stepped {
+            answer,
+            structure: next,
+        }
     }
 
     pub fn is_settled(self) -> bool
@@ -216,132 +221,104 @@ impl Structure {
     }
 
     // Kind 6: an element with its mark.
-    pub fn push_el(self, mark: bool) -> Numbering
-        ensures { λ r. ⌜ numberingOf r ≡ pushEl (structureOf self) mark ⌝ }
+    pub fn push_el(self, mark: bool) -> Stepped
+        ensures { λ r. ⌜ (g : Sig) → stepOf g r ≡ step (push-el mark) (machine g (structureOf self)) ⌝ }
     {
         let u = self.unification;
         let at = u.size();
-        if Structure::MAX_ELS <= at {
-            return refuse_number(self, Refusal::NO_ROOM);
+        let verdict = Verdict::Accepted;
+        let verdict = verdict.refuse_if(Refusal::NO_ROOM, Structure::MAX_ELS <= at);
+        if let Verdict::Refused(number) = verdict {
+            return self.refuse(number);
         }
         let mut next = self;
         next.inferred_parent_els[at] = mark;
         next.unification = u.increase_size();
-        let settled = self.settled;
-        Numbering {
-            answer: Numbered::Number(at as u16),
-            structure: next.accept(settled),
-        }
+        next.accept(Answer::Number(at as u16))
     }
 
     // Kind 7: an equality is queued.
-    pub fn equate(self, a: ElId, b: ElId) -> Saying
-        ensures { λ r. ⌜ sayingOf r ≡ equateEls (structureOf self) (a .0) (b .0) ⌝ }
+    pub fn equate(self, a: ElId, b: ElId) -> Stepped
+        ensures { λ r. ⌜ (g : Sig) → stepOf g r ≡ step (equate-els (a .0) (b .0)) (machine g (structureOf self)) ⌝ }
     {
-        let pairs = self.pending_equalities;
-        if !self.is_el(a) {
-            return refuse_answer(self, Refusal::UNDECLARED);
-        }
-        if !self.is_el(b) {
-            return refuse_answer(self, Refusal::UNDECLARED);
-        }
-        if Structure::MAX_PAIRS <= pairs.size() {
-            return refuse_answer(self, Refusal::NO_ROOM);
-        }
         let u = self.unification;
+        let pairs = self.pending_equalities;
+        let declared = ids::and(self.is_el(a), self.is_el(b));
+        let verdict = Verdict::Accepted;
+        let verdict = verdict.refuse_if(Refusal::UNDECLARED, !declared);
+        let verdict = verdict.refuse_if(Refusal::NO_ROOM, Structure::MAX_PAIRS <= pairs.size());
+        if let Verdict::Refused(number) = verdict {
+            return self.refuse(number);
+        }
         let equated = equalities::equate(u, pairs, a, b);
         let unification = equated.unification;
         let queued = equated.pairs;
         let mut next = self;
         next.unification = unification;
         next.pending_equalities = queued;
-        let settled = self.settled;
-        Saying {
-            answer: Said::Answer(equated.differ),
-            structure: next.accept(settled),
-        }
+        next.accept(Answer::Says(equated.differ))
     }
 
     // Kind 11: a variable.
-    pub fn insert_var_el(self, v: VarEl) -> Doing
-        ensures { λ r. ⌜ doingOf r ≡ bindVar (structureOf self) (varOf v) ⌝ }
+    pub fn insert_var_el(self, v: VarEl) -> Stepped
+        ensures { λ r. ⌜ (g : Sig) → stepOf g r ≡ step (bind-var (varOf v)) (machine g (structureOf self)) ⌝ }
     {
         let table = self.var_els;
         let key = v.key as usize;
-        if Structure::MAX_VARS <= key {
-            return refuse_binding(self, Refusal::MALFORMED);
-        }
-        if !self.is_el(v.el) {
-            return refuse_binding(self, Refusal::UNDECLARED);
-        }
-        if table.contains(v) {
-            return refuse_binding(self, Refusal::GIVEN_AGAIN);
+        let verdict = Verdict::Accepted;
+        let verdict = verdict.refuse_if(Refusal::MALFORMED, Structure::MAX_VARS <= key);
+        let verdict = verdict.refuse_if(Refusal::UNDECLARED, !self.is_el(v.el));
+        let verdict = verdict.refuse_if(Refusal::GIVEN_AGAIN, table.contains(v));
+        if let Verdict::Refused(number) = verdict {
+            return self.refuse(number);
         }
         let mut next = self;
         next.var_els = table.insert(v);
-        let settled = self.settled;
-        Doing {
-            answer: Done::Accepted,
-            structure: next.accept(settled),
-        }
+        next.accept(Answer::Done)
     }
 
     // Kind 12: the ambient element of a model type.
-    pub fn insert_ambient_model_el(self, signature: Signature, a: AmbientEl) -> Doing
-        ensures { λ r. ⌜ doingOf r ≡ bindAmbient (sigOf signature) (structureOf self) (ambientOf a) ⌝ }
+    pub fn insert_ambient_model_el(self, signature: Signature, a: AmbientEl) -> Stepped
+        ensures { λ r. ⌜ stepOf (sigOf signature) r ≡ step (bind-ambient (ambientOf a)) (machine (sigOf signature) (structureOf self)) ⌝ }
     {
         let table = self.ambient_model_els;
-        if !signature.is_type(a.typ) {
-            return refuse_binding(self, Refusal::UNDECLARED);
-        }
-        if !self.is_el(a.el) {
-            return refuse_binding(self, Refusal::UNDECLARED);
-        }
-        if !signature.is_model(a.typ) {
-            return refuse_binding(self, Refusal::WRONG_KIND);
-        }
-        if table.contains(a) {
-            return refuse_binding(self, Refusal::GIVEN_AGAIN);
+        let declared = ids::and(signature.is_type(a.typ), self.is_el(a.el));
+        let verdict = Verdict::Accepted;
+        let verdict = verdict.refuse_if(Refusal::UNDECLARED, !declared);
+        let verdict = verdict.refuse_if(Refusal::WRONG_KIND, !signature.is_model(a.typ));
+        let verdict = verdict.refuse_if(Refusal::GIVEN_AGAIN, table.contains(a));
+        if let Verdict::Refused(number) = verdict {
+            return self.refuse(number);
         }
         let mut next = self;
         next.ambient_model_els = table.insert(a);
-        let settled = self.settled;
-        Doing {
-            answer: Done::Accepted,
-            structure: next.accept(settled),
-        }
+        next.accept(Answer::Done)
     }
 
     // The ambient lookup: the stored element of each type, in the order asked.
     pub fn ambient_parents(self, signature: Signature, types: TypeIds) -> AmbientParents
-        ensures { λ r. ⌜ lookingOf r ≡ withEls (ambientParents (sigOf signature) (structureOf self) (givenTypes types)) ⌝ }
+        ensures { λ r. ⌜ lookingOf (machine (sigOf signature) (structureOf self)) r ≡ looking (step (ambient-parents (givenTypes types)) (machine (sigOf signature) (structureOf self))) ⌝ }
     {
-        let mut els = ElIds::new();
-        if types.is_too_long() {
-            return refuse_lookup(Refusal::MALFORMED);
-        }
-        if !signature.are_types(types) {
-            return refuse_lookup(Refusal::UNDECLARED);
-        }
-        let table = self.ambient_model_els;
-        let n = types.size();
-        for i in 0..n {
-            let typ = types.ids[i];
-            let Bound::El(el) = table.get(typ) else {
-                return refuse_lookup(Refusal::NO_AMBIENT);
+        let found = self.ambient_els(types);
+        let verdict = Verdict::Accepted;
+        let verdict = verdict.refuse_if(Refusal::MALFORMED, types.is_too_long());
+        let verdict = verdict.refuse_if(Refusal::UNDECLARED, !signature.are_types(types));
+        let verdict = verdict.refuse_if(Refusal::NO_AMBIENT, !found.all);
+        if let Verdict::Refused(number) = verdict {
+            return AmbientParents {
+                answer: Looked::Refused(number),
+                els: ElIds::new(),
             };
-            els.ids[i] = el;
-            els.len = (i + 1) as u16;
         }
         AmbientParents {
             answer: Looked::Found,
-            els,
+            els: found.els,
         }
     }
 
     // The public find that alters no link.
     pub fn root_const(self, el: ElId) -> Finding
-        ensures { λ r. ⌜ record { answer = answered r; left = structureOf self } ≡ rootConstOn (structureOf self) (el .0) ⌝ }
+        ensures { λ r. ⌜ (g : Sig) → answers (foundOf r) (machine g (structureOf self)) ≡ step (root-const (el .0)) (machine g (structureOf self)) ⌝ }
     {
         let u = self.unification;
         u.root_const(el)
@@ -349,7 +326,7 @@ impl Structure {
 
     // The public find that shortens the path.
     pub fn root(self, el: ElId) -> Rooting
-        ensures { λ r. ⌜ rootingOf r ≡ rootOn (structureOf self) (el .0) ⌝ }
+        ensures { λ r. ⌜ (g : Sig) → rootingOf g r ≡ step (root (el .0)) (machine g (structureOf self)) ⌝ }
     {
         let u = self.unification;
         let rooted = u.root(el);

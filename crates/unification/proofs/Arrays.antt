@@ -2,18 +2,20 @@
 use mathlib.Core.Path.{_≡_, refl, sym, ap, _∙_}
 use mathlib.Core.Logic.{_≢_, ⊎-elim}
 use mathlib.Core.List.{List, [], _∷_, _++_}
+use mathlib.Core.Option.{none, some}
 use Prim.Native.Nat.{ℕ, zero, suc, _+_, _≤_, _<_}
 use native.Mathlib.Omega.{arith}
 use native.Mathlib.Numerals.{add-one}
 use lib.ListN.{length, getD, take, set, length-set, length-append, length-take, List·getD-append, List·getD-eq-default}
 use lib.Seq.{getD-set-same, getD-set-other, getD-at, getD-take, take-set-lt, take-suc-set, set-out}
 use borrow.Author.Tests.{le-leb, lt-leb}
-use Rattle.ids.specs.Answers.{accepted, refused, undeclared}
-use Rattle.ids.proofs.Answers.{outcome-refuses, outcome-passes, outcome-done}
+use Rattle.ids.specs.Answers.{undeclared, firstOf, outcome, refusing, accepting}
+use Rattle.ids.proofs.Answers.{first-applies, first-passes, first-none}
+use Rattle.ids.proofs.Judging.{decided-refuses, decided-accepts}
 use Rattle.ids.proofs.Tables.{push-room, push-full}
 use Rattle.unification.specs.declared.Unification.{Unification}
 use Rattle.unification.specs.Roots.{maxEls, linksOf, upTo, link, rootOf, depthOf, shortOf, addedOf, FindM, findOf, ShortM}
-use Rattle.unification.specs.Roots.{shortenedOf, rootConst, root}
+use Rattle.unification.specs.Roots.{shortenedOf, findCauses, rootConst, root}
 use Rattle.unification.proofs.Numbers.{less-or, same-or}
 use Rattle.unification.proofs.Laws.{link-other, root-stop, root-pass, root-above, depth-stop, depth-pass, depth-above, short-stop}
 use Rattle.unification.proofs.Laws.{short-first}
@@ -107,23 +109,29 @@ short-past ls e h =
 -- The public finds: refused where the element is not there, else what the finds above give.
 
 module _ (ls : List ℕ) (e : ℕ) where
-  pub const-refused : length ls ≤ e → record { answer = refused undeclared; left = ls } ≡ rootConst ls e
-  unfolding rootConst
-  const-refused h = sym (outcome-refuses _ _ _ _ _ _ (le-leb (length ls) e h))
+  not-there : length ls ≤ e → firstOf (findCauses ls e) ≡ some undeclared
+  unfolding findCauses
+  not-there h = first-applies _ _ _ (le-leb (length ls) e h)
 
-  pub const-found : e < length ls → record { answer = accepted (findOf ls e); left = ls } ≡ rootConst ls e
-  unfolding rootConst
-  const-found h = sym (outcome-passes _ _ _ _ _ _ (lt-leb (length ls) e h) ∙ outcome-done _ _ _)
+  there : e < length ls → firstOf (findCauses ls e) ≡ none
+  unfolding findCauses
+  there h = first-passes _ _ _ (lt-leb (length ls) e h) ∙ first-none
 
-  pub root-refused : length ls ≤ e → record { answer = refused undeclared; left = ls } ≡ root ls e
-  unfolding root
-  root-refused h = sym (outcome-refuses _ _ _ _ _ _ (le-leb (length ls) e h))
+  pub const-refused : length ls ≤ e → refusing ls undeclared ≡ rootConst ls e
+  unfolding rootConst outcome
+  const-refused h = sym (decided-refuses _ _ (not-there h))
 
-  pub root-found : (r : ShortM) → r ≡ shortenedOf ls e → e < length ls → record { answer = accepted (r .find); left = r .links } ≡ root ls e
-  unfolding root shortenedOf
-  root-found r is h =
-      (λ i. record { answer = accepted (is i .find); left = is i .links })
-      ∙ sym (outcome-passes _ _ _ _ _ _ (lt-leb (length ls) e h) ∙ outcome-done _ _ _)
+  pub const-found : e < length ls → accepting (findOf ls e) ls ≡ rootConst ls e
+  unfolding rootConst outcome
+  const-found h = sym (decided-accepts _ _ (there h))
+
+  pub root-refused : length ls ≤ e → refusing ls undeclared ≡ root ls e
+  unfolding root outcome
+  root-refused h = sym (decided-refuses _ _ (not-there h))
+
+  pub root-found : (r : ShortM) → r ≡ shortenedOf ls e → e < length ls → accepting (r .find) (r .links) ≡ root ls e
+  unfolding root outcome shortenedOf
+  root-found r is h = (λ i. accepting (is i .find) (is i .links)) ∙ sym (decided-accepts _ _ (there h))
 
 -- One turn of the loop that shortens: from x, whose link p falls, its entry now that of p.
 module _ (u : Unification) (x p : ℕ) (at : x < length (linksOf u)) (is : p ≡ link (linksOf u) x) (low : p < x) where

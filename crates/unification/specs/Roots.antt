@@ -5,7 +5,7 @@ use mathlib.Core.List.{List, [], _∷_, _++_}
 use Prim.Native.Nat.{ℕ, zero, suc, _+_, _≤_}
 use lib.ListN.{length, getD, take, set}
 use lib.Dec.{leb, ltb}
-use Rattle.ids.specs.Answers.{Answered, accepted, refused, Outcome, outcome, _if_, undeclared}
+use Rattle.ids.specs.Answers.{Answered, accepted, refused, Cause, Outcome, outcome, _if_, undeclared}
 use Rattle.ids.specs.Table.{pushOf}
 use Rattle.ids.specs.Ids.{padded, Handed}
 use Rattle.unification.specs.declared.Unification.{Unification}
@@ -83,11 +83,14 @@ unfoldable pub shortenedOf : List ℕ → ℕ → ShortM
 shortenedOf ls e = record { find = findOf ls e; links = shortOf ls e }
 
 -- "5 for an undeclared type or found element"
+unfoldable pub findCauses : List ℕ → ℕ → List Cause
+findCauses ls e = undeclared if leb (length ls) e ∷ []
+
 unfoldable pub rootConst : List ℕ → ℕ → Outcome FindM (List ℕ)
-rootConst ls e = outcome (undeclared if leb (length ls) e ∷ []) ls (findOf ls e) ls
+rootConst ls e = outcome (findCauses ls e) ls (findOf ls e) ls
 
 unfoldable pub root : List ℕ → ℕ → Outcome FindM (List ℕ)
-root ls e = outcome (undeclared if leb (length ls) e ∷ []) ls (findOf ls e) (shortOf ls e)
+root ls e = outcome (findCauses ls e) ls (findOf ls e) (shortOf ls e)
 
 -- The code's answers, as the definitions give them.
 
@@ -102,7 +105,7 @@ abbrev pub shortened : Shortened → ShortM
 shortened r = record { find = found (r .find); links = linksOf (r .unification) }
 
 abbrev pub rooted : Rooted → Outcome FindM (List ℕ)
-rooted r = record { answer = answered (r .find); left = linksOf (r .unification) }
+rooted r = record { answer = answered (r .find); after = linksOf (r .unification) }
 
 -- no link rises
 pub record Formed (ls : List ℕ) : Type 0 where

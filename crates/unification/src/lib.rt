@@ -190,7 +190,7 @@ impl Unification {
 
     // The public find that alters no link.
     pub fn root_const(self, el: ElId) -> Finding
-        ensures { λ r. ⌜ record { answer = answered r; left = linksOf self } ≡ rootConst (linksOf self) (el .0) ⌝ }
+        ensures { λ r. ⌜ record { answer = answered r; after = linksOf self } ≡ rootConst (linksOf self) (el .0) ⌝ }
     {
         let at = el.0 as usize;
         if self.size() <= at {

@@ -24,7 +24,7 @@ module _ (P : ℕ → Type 0) where
     where
       clash : (y : FuncApp) (b : Bool) → AppliedTo ((elim b as (λ _. Rewritten) [
         | true ↦ t
-        | false ↦ record { apps = t .apps; pairs = record { left = y .result; right = x .result } ∷ t .pairs; queued = true }
+        | false ↦ record { apps = t .apps; pairs = record { lhs = y .result; rhs = x .result } ∷ t .pairs; queued = true }
       ]) .apps)
       clash y true = h
       clash y false = h

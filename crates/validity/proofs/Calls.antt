@@ -138,8 +138,8 @@ module _ (g : Sig) (s : Structure) (v : Valid g s) where
   equated a b la lb room =
       let one = shorter (s .links) a (vs .links) refl (λ x. refl) la in
       let two = shorter (shortOf (s .links) a) b (one .0) (one .1 .0) (one .1 .1) lb in
-      let ps : List Pair = record { left = a; right = b } ∷ s .pairs in
-      let q = pairs-valid c s vs ps (record { each = (record { left = la; right = lb }, vs .pairs .each); most = room }) in
+      let ps : List Pair = record { lhs = a; rhs = b } ∷ s .pairs in
+      let q = pairs-valid c s vs ps (record { each = (record { lhs = la; rhs = lb }, vs .pairs .each); most = room }) in
       links-valid c (with-pairs ps s) q (shortOf (shortOf (s .links) a) b) (two .0) (two .1 .0) (two .1 .1)
 
   pub equality-valid : (a b : ℕ) → Valid g (equateEls s a b .left)

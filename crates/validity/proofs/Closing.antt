@@ -202,11 +202,11 @@ module _ (g : Sig) (s : Structure) (v : Valid g s) where
     unstarted = λ q. (unfold leftBy in no-test refl q);
   }
 
-  accepts : end .met ≡ none → close g s ≡ record { answer = accepted (answerOf ran end); left = leftBy ran end s }
+  accepts : end .met ≡ none → close g s ≡ record { answer = accepted (answerOf ran end); after = leftBy ran end s }
   unfolding close closeAfter closeImposed closeWith end ran
   accepts q = ap (λ (o : Option ℕ). closeWith o ran end s) q
 
-  refuses : end .met ≡ some tooManyFacts → close g s ≡ record { answer = refused tooManyFacts; left = s }
+  refuses : end .met ≡ some tooManyFacts → close g s ≡ record { answer = refused tooManyFacts; after = s }
   unfolding close closeAfter closeImposed closeWith end ran
   refuses q = ap (λ (o : Option ℕ). closeWith o ran end s) q
 

@@ -150,23 +150,23 @@ module _ (c : Counts) where
   join-went : (p : Pair) (w : Core) → Whole c w → PairValid c p → Went c w (join p w)
   unfolding join
   join-went p w h v =
-      joinRoots-went (rootOf (w .links) (p .left)) (rootOf (w .links) (p .right)) w h
-      (omega (arith, root-le (w .links) (p .left), v .left)) (omega (arith, root-le (w .links) (p .right), v .right))
-      (root-root (w .links) (p .left)) (root-root (w .links) (p .right))
+      joinRoots-went (rootOf (w .links) (p .lhs)) (rootOf (w .links) (p .rhs)) w h
+      (omega (arith, root-le (w .links) (p .lhs), v .lhs)) (omega (arith, root-le (w .links) (p .rhs), v .rhs))
+      (root-root (w .links) (p .lhs)) (root-root (w .links) (p .rhs))
 
 -- two elements with different roots
 abbrev pub TwoRoots : List ℕ → Pair → Type 0
-TwoRoots ls p = rootOf ls (p .left) ≢ rootOf ls (p .right)
+TwoRoots ls p = rootOf ls (p .lhs) ≢ rootOf ls (p .rhs)
 
 join-merges : (p : Pair) (w : Core) → TwoRoots (w .links) p → w .merges < join p w .merges
 unfolding join joinRoots merge
 join-merges p w n = go (eqb a b) (ne-eqb a b n)
   where
     a : ℕ
-    a = rootOf (w .links) (p .left)
+    a = rootOf (w .links) (p .lhs)
 
     b : ℕ
-    b = rootOf (w .links) (p .right)
+    b = rootOf (w .links) (p .rhs)
 
     go : (t : Bool) → t ≡ false → w .merges < (elim t as (λ _. Core) [ true ↦ w | false ↦ merge (min a b) (max a b) w ]) .merges
     go true e = no-test refl e

@@ -48,7 +48,7 @@ module _ (c : Counts) (ls : List ℕ) where
     where
       clash : (y : FuncApp) → Entry y → (b : Bool) → eqb (y .result) (x .result) ≡ b → Entered (elim b [
         | true ↦ t
-        | false ↦ record { apps = t .apps; pairs = record { left = y .result; right = x .result } ∷ t .pairs; queued = true }
+        | false ↦ record { apps = t .apps; pairs = record { lhs = y .result; rhs = x .result } ∷ t .pairs; queued = true }
       ])
       clash y f true q = h
       clash y f false q = record {
@@ -56,7 +56,7 @@ module _ (c : Counts) (ls : List ℕ) where
         sorted = h .sorted;
         pairs = (
           record {
-            valid = record { left = f .valid .result; right = e .valid .result };
+            valid = record { lhs = f .valid .result; rhs = e .valid .result };
             two = λ z. eqb-false (y .result) (x .result) q (sym (f .root) ∙ z ∙ e .root);
           },
           h .pairs,

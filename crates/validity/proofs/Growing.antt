@@ -79,7 +79,7 @@ pub record More (c d : Counts) : Type 0 where
 
 module _ (c d : Counts) (k : More c d) where
   pub pair-more : (p : Pair) → PairValid c p → PairValid d p
-  pair-more p h = record { left = omega (arith, h .left, k .els); right = omega (arith, h .right, k .els) }
+  pair-more p h = record { lhs = omega (arith, h .lhs, k .els); rhs = omega (arith, h .rhs, k .els) }
 
   pub fact-more : (f : Fact) → FactValid c f → FactValid d f
   fact-more f h = record {

@@ -83,12 +83,12 @@ then c w v u a b = record { went = went-went c w v u (a .went) (b .went); place 
 module _ (c : Counts) where
   -- the pair of two elements, queued in front
   abbrev pub queued : ℕ → ℕ → Core → Core
-  queued a b w = with-pairs (record { left = a; right = b } ∷ w .pairs) w
+  queued a b w = with-pairs (record { lhs = a; rhs = b } ∷ w .pairs) w
 
   -- the queue that is drained at once has at most `maxPairs` pairs
   pub queued-whole : (a b : ℕ) (w : Core) → a < c .els → b < c .els → Whole c w → Room w → Went c w (queued a b w)
-  queued-whole a b w la lb h r = requeued c (record { left = a; right = b } ∷ w .pairs) w h (record {
-    each = (record { left = la; right = lb }, h .pairs .each);
+  queued-whole a b w la lb h r = requeued c (record { lhs = a; rhs = b } ∷ w .pairs) w h (record {
+    each = (record { lhs = la; rhs = lb }, h .pairs .each);
     most = r;
   })
 
@@ -107,7 +107,7 @@ module _ (c : Counts) where
             went = went-went c w (queued a b w) (drain (queued a b w)) q (drain-went c (queued a b w) (q .whole));
             place = inr (
               drain-pairs (queued a b w),
-              drain-merges c (queued a b w) (q .whole) (record { left = a; right = b }) (w .pairs) refl (λ z. n (sym ra ∙ z ∙ rb)),
+              drain-merges c (queued a b w) (q .whole) (record { lhs = a; rhs = b }) (w .pairs) refl (λ z. n (sym ra ∙ z ∙ rb)),
             );
           }
 

@@ -90,10 +90,10 @@ unfolding join joinRoots
 join-kept p w = go (eqb a b)
   where
     a : ℕ
-    a = rootOf (w .links) (p .left)
+    a = rootOf (w .links) (p .lhs)
 
     b : ℕ
-    b = rootOf (w .links) (p .right)
+    b = rootOf (w .links) (p .rhs)
 
     go : (t : Bool) → Kept w (elim t [ true ↦ w | false ↦ merge (min a b) (max a b) w ])
     go true = same w
@@ -118,8 +118,8 @@ refine-kept p q w = go (not (eqb a b) && (marked (w .marks) a || marked (w .mark
     b : ℕ
     b = rootOf (w .links) q
 
-    go : (t : Bool) → Kept w (elim t [ true ↦ drain (with-pairs (record { left = a; right = b } ∷ w .pairs) w) | false ↦ w ])
-    go true = let k = drain-kept (with-pairs (record { left = a; right = b } ∷ w .pairs) w) in record { met = k .met; facts = k .facts }
+    go : (t : Bool) → Kept w (elim t [ true ↦ drain (with-pairs (record { lhs = a; rhs = b } ∷ w .pairs) w) | false ↦ w ])
+    go true = let k = drain-kept (with-pairs (record { lhs = a; rhs = b } ∷ w .pairs) w) in record { met = k .met; facts = k .facts }
     go false = same w
 
 refineParents-kept : (ps qs : List ℕ) (w : Core) → Kept w (refineParents ps qs w)
@@ -392,7 +392,7 @@ module _ (g : Sig) (s : Structure) where
   by-moment : {b : Bool} → moment fuel g s ≡ b → close g s ≡ elevenAt b (unlimited fuel g s) s
   by-moment e = eleven-exactly ∙ ap (λ (b : Bool). elevenAt b (unlimited fuel g s) s) e
 
-  pub eleven-if : moment fuel g s ≡ true → close g s ≡ record { answer = refused tooManyFacts; left = s }
+  pub eleven-if : moment fuel g s ≡ true → close g s ≡ record { answer = refused tooManyFacts; after = s }
   unfolding elevenAt
   eleven-if e = by-moment e
 

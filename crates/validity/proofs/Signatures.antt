@@ -78,7 +78,7 @@ module _ (g : Sig) (s : Structure) (v : Valid g s) where
         mor-apps = queue-more (mor-app-more more (le-refl (length (g .funcs)))) maxMorApps (g .mor-apps) (v .sig .mor-apps);
       }))
 
-  pub pred-valid : (p : PredM) → Valid (pushPred (s .started) g p .left) s
+  pub pred-valid : (p : PredM) → Valid (pushPred (s .started) g p .lhs) s
   unfolding pushPred with-preds
   pred-valid p = outcome-keeps (λ h. Valid h s) _ g _ _ v (λ no.
       let d = not-false (areTypes g (p .parents) && areTypes g (p .arity)) (no .1 .1 .0) in

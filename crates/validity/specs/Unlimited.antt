@@ -90,7 +90,7 @@ moment n g s = not (isNone (ranFree n g s .core .met))
 
 -- "the close would at some moment hold 1,025 facts | 11 | number | structure before the close"
 unfoldable pub elevenAt : Bool → Outcome Closed Structure → Structure → Outcome Closed Structure
-elevenAt true r s = record { answer = refused tooManyFacts; left = s }
+elevenAt true r s = record { answer = refused tooManyFacts; after = s }
 elevenAt false r s = r
 
 abbrev pub closeOrEleven : ℕ → Sig → Structure → Outcome Closed Structure

@@ -23,8 +23,8 @@ returns c =
     let s = structureOf (c .before .before .before .before .args .structure) in
     let all = c .before .find-conflicts .ensures ∙ ap (λ (l : List Conflict). whole l) (conflicts-bare s) in
     λ k. record {
-      given = record { answer = accepted (all k .given); left = c .accept .ensures k };
-      held = record { answer = accepted (all k .held); left = c .accept .ensures k };
+      given = record { answer = accepted (all k .given); after = c .accept .ensures k };
+      held = record { answer = accepted (all k .held); after = c .accept .ensures k };
     }
 
 pub type-conflicts-spec : {M : Type 1} → statement M

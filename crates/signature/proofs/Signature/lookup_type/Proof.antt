@@ -1,12 +1,14 @@
 -- `Signature::lookup_type` meets its contract.
 use mathlib.Core.Path.{_≡_, sym, ap, _∙_}
-use Rattle.ids.specs.Answers.{accepted, decided}
+use mathlib.Core.Bool.{not}
+use Rattle.ids.specs.Answers.{accepted, malformed, undeclared}
+use Rattle.ids.specs.Judge.{verdictOf}
 use Rattle.ids.specs.Ids.{givenEls}
 use lib.ListN.{length}
+use Rattle.ids.proofs.Judging.{SoFar, begin, judge, refused-by, accepted-by}
 use Rattle.ids.proofs.Lists.{given-length}
-use Rattle.signature.specs.Model.{viewTypes}
-use Rattle.signature.specs.Calls.{concreteTypeAt, lookupType}
-use Rattle.ids.proofs.Tests.{told, holds, fails}
+use Rattle.signature.specs.Model.{viewTypes, sigOf}
+use Rattle.signature.specs.Calls.{concreteTypeAt, lookupTypeCauses, lookupType}
 use borrow.Author.Needs.{needs}
 use Rattle.signature.proofs.Signature.lookup_type.Statement.{statement}
 use Rattle.signature.proofs.Signature.lookup_type.Tie as tie
@@ -14,40 +16,57 @@ use Rattle.signature.proofs.Signature.lookup_type.Tie as tie
 is-too-long-requires : tie.Need-is-too-long-requires
 is-too-long-requires c κs = search needs
 
-returns : tie.Need-returns
-unfolding lookupType decided
-returns c = sym (rw (told (c .before .is-too-long .ensures) (c .if1 .taken), decided))
+refuse-if-requires : tie.Need-refuse-if-requires
+refuse-if-requires c κs = search needs
 
 is-type-requires : tie.Need-is-type-requires
 is-type-requires c κs = search needs
 
-returns-2 : tie.Need-returns-2
-unfolding lookupType decided
-returns-2 c =
-    let e1 = c .before .before in
-    sym (rw (told (e1 .before .is-too-long .ensures) (e1 .if1 .left), fails (c .before .is-type .ensures) (c .if2 .taken), decided))
+refuse-if-requires-2 : tie.Need-refuse-if-requires-2
+refuse-if-requires-2 c κs = search needs
+
+-- the verdict, as the causes decide it
+so-far : (c : tie.After-refuse-if2) → let a = c .before .before .before .before .args in
+    SoFar (verdictOf (c .refuse-if2 .result)) (lookupTypeCauses (sigOf (a .self)) (a .typ .0) (givenEls (a .parents)))
+unfolding lookupTypeCauses
+so-far c =
+    let long = c .before .before in
+    let s1 = judge malformed begin (long .refuse-if .ensures) (long .before .is-too-long .ensures) in
+    judge undeclared s1 (c .refuse-if2 .ensures) (ap not (c .before .is-type .ensures))
+
+enum-known-verdict : tie.Need-enum-known-verdict
+enum-known-verdict c = search needs
+
+returns : tie.Need-returns
+unfolding lookupType
+returns c = let judged = c .before .before .before in refused-by _ _ (so-far judged) _ (ap verdictOf (c .before .verdict .given .1))
+
+enum-told : tie.Need-enum-told
+enum-told c = search needs
 
 concrete-type-at-requires : tie.Need-concrete-type-at-requires
 concrete-type-at-requires c κs = search needs
 
-returns-3 : tie.Need-returns-3
-unfolding lookupType decided
-returns-3 c =
-    let e2 = c .before .before in
-    let e1 = e2 .before .before in
-    let a = e1 .before .before .args in
+returns-2 : tie.Need-returns-2
+unfolding lookupType
+returns-2 c =
+    let told = c .before .before in
+    let judged = told .before .before in
+    let a = judged .before .before .before .before .args in
     let at = concreteTypeAt (viewTypes (a .self .types)) (a .typ .0) in
     let given : at (a .parents .len) ≡ at (length (givenEls (a .parents))) = ap at (sym (given-length _ _)) in
-    ap accepted (c .concrete-type-at .ensures ∙ given)
-    ∙ sym (rw (told (e1 .before .is-too-long .ensures) (e1 .if1 .left), holds (e2 .before .is-type .ensures) (e2 .if2 .left), decided))
+    accepted-by _ _ (so-far judged) (ap verdictOf (told .enum-told .given .1)) (λ none. ap accepted (c .concrete-type-at .ensures ∙ given))
 
 pub lookup-type-spec : {M : Type 1} → statement M
 lookup-type-spec =
     tie.close
     (tie.spec
     is-too-long-requires
-    returns
+    refuse-if-requires
     is-type-requires
-    returns-2
+    refuse-if-requires-2
+    enum-known-verdict
+    returns
+    enum-told
     concrete-type-at-requires
-    returns-3)
+    returns-2)

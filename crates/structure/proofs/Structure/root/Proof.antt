@@ -37,7 +37,7 @@ returns c =
     let many : length (linksOf v) ≡ length (linksOf (s .unification)) =
     ap (λ (o : Outcome FindM (List ℕ)). length (o .left)) found ∙ root-length _ _ in
     let marked = kept (s .unification) v _ (many-marks start) (many-links start) after many in
-    λ i. record { answer = found i .answer; left = with-links (found i .left) (with-marks (marked i) (structureOf s)) }
+    λ i. record { answer = found i .answer; after = with-links (found i .left) (with-marks (marked i) (structureOf s)) }
 
 pub root-spec : {M : Type 1} → statement M
 root-spec = tie.close (tie.spec root-requires returns)

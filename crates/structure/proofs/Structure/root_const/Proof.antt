@@ -13,7 +13,7 @@ returns : tie.Need-returns
 unfolding rootConstOn
 returns c =
     let found = c .root-const .ensures in
-    λ i. record { answer = found i .answer; left = with-links (found i .left) (structureOf (c .before .before .args .self)) }
+    λ i. record { answer = found i .answer; after = with-links (found i .left) (structureOf (c .before .before .args .self)) }
 
 pub root-const-spec : {M : Type 1} → statement M
 root-const-spec = tie.close (tie.spec root-const-requires returns)

@@ -23,7 +23,7 @@ find-requires c κs = search needs
 returns-2 : tie.Need-returns-2
 returns-2 c =
     let past = c .before .before in
-    (λ i. record { answer = accepted (c .find .ensures i); left = linksOf (past .before .before .args .self) })
+    (λ i. record { answer = accepted (c .find .ensures i); after = linksOf (past .before .before .args .self) })
     ∙ const-found _ _ (omega (arith, past .size .ensures .is))
 
 pub root-const-spec : {M : Type 1} → statement M
