@@ -3,6 +3,9 @@ use apps::FuncApps;
 use apps::PredApps;
 use merging::Core;
 use signature::Signature;
+use structure::Answer;
+use structure::Closed;
+use structure::Stepped;
 use structure::Structure;
 ghost use mathlib.Core.Path.{_≡_};
 ghost use mathlib.Core.Bool.{_&&_, _||_};
@@ -14,8 +17,10 @@ ghost use Rattle.semantics.specs.Close as closing;
 ghost use Rattle.semantics.specs.Close.{isNone};
 ghost use Rattle.apps.specs.View.{funcAppsOf, predAppsOf};
 ghost use Rattle.merging.specs.View.{coreOf, metOf};
-ghost use Rattle.structure.specs.View.{structureOf};
-ghost use Rattle.close.specs.View.{Round, Rounds, closingOf};
+ghost use Rattle.semantics.specs.Calls as calls;
+ghost use Rattle.semantics.specs.Calls.{machine, step};
+ghost use Rattle.structure.specs.View.{structureOf, stepOf};
+ghost use Rattle.close.specs.View.{Round, Rounds};
 
 // What a round leaves, what it counted, and whether one of its passes reported work.
 pub struct Turn {
@@ -35,35 +40,9 @@ pub struct Ran {
     pub count: u64,
 }
 
-// What a close reports.
-pub struct Closed {
-    pub changed: bool,
-    pub merges: u64,
-    pub rounds: u64,
-}
-
-pub enum CloseAnswer {
-    Closed(Closed),
-    Refused(u16),
-}
-
-pub struct Closing {
-    pub answer: CloseAnswer,
-    pub structure: Structure,
-}
-
 impl Ran {
     // More rounds than a close of a structure that calls can make takes.
     const FUEL: u64 = 2 * ((Structure::MAX_FACTS as u64 + 2) * (Structure::MAX_ELS as u64 + 1));
-}
-
-fn or(a: bool, b: bool) -> bool
-    ensures { λ r. ⌜ r ≡ (a || b) ⌝ }
-{
-    if a {
-        return true;
-    }
-    b
 }
 
 // Whether a pass made a merge or added a fact.
@@ -90,13 +69,13 @@ fn round(core: Core, signature: Signature, preds: PredApps, apps: FuncApps) -> T
     let left = typed.core;
     let merged = 0 < drained.merges;
     let grew = counted(typed.merges, typed.added);
-    let early = or(merged, rewritten.queued);
+    let early = ids::or(merged, rewritten.queued);
     Turn {
         core: left,
         func_apps: done,
         merges: drained.merges + typed.merges,
         added: drained.added + typed.added,
-        worked: or(early, grew),
+        worked: ids::or(early, grew),
     }
 }
 
@@ -194,9 +173,9 @@ fn with_core(structure: Structure, core: Core, apps: FuncApps) -> Structure
     next
 }
 
-// Kind 13. A number that is met refuses, and the structure before the close is handed back.
-pub fn close(structure: Structure, signature: Signature) -> Closing
-    ensures { λ r. ⌜ closingOf r ≡ closing.close (sigOf signature) (structureOf structure) ⌝ }
+// Kind 13. The number first met refuses, and the structure before the close is handed back.
+pub fn close(structure: Structure, signature: Signature) -> Stepped
+    ensures { λ r. ⌜ stepOf (sigOf signature) r ≡ step calls.close (machine (sigOf signature) (structureOf structure)) ⌝ }
 {
     let start = core_of(structure);
     let preds = structure.pred_apps;
@@ -209,23 +188,17 @@ pub fn close(structure: Structure, signature: Signature) -> Closing
     let core = imposed.core;
     let number = core.met;
     if number != 0 {
-        return Closing {
-            answer: CloseAnswer::Refused(number),
-            structure,
-        };
+        return structure.refuse(number);
     }
     let again = 1 < ran.count;
     let grew = counted(imposed.merges, imposed.added);
-    let changed = or(again, grew);
+    let changed = ids::or(again, grew);
     let merges = ran.merges + imposed.merges;
     let rounds = ran.count;
     let closed = canonicalise_refs(with_core(structure, core, rewritten));
-    Closing {
-        answer: CloseAnswer::Closed(Closed {
-            changed,
-            merges,
-            rounds,
-        }),
-        structure: closed.accept(!changed),
-    }
+    closed.accept(Answer::Closed(Closed {
+        changed,
+        merges,
+        rounds,
+    }))
 }

@@ -5,6 +5,7 @@ use facts::Facts;
 use ids::ElId;
 use ids::ElIds;
 use ids::TypeId;
+use structure::Answer;
 use structure::Structure;
 use unification::Unification;
 ghost use mathlib.Core.Path.{_≡_};
@@ -14,7 +15,8 @@ ghost use Rattle.ids.specs.Table.{Sized, pushOf};
 ghost use Rattle.ids.specs.Ids.{whole};
 ghost use Rattle.unification.specs.Roots.{maxEls, linksOf};
 ghost use Rattle.semantics.specs.Types.{factsAt};
-ghost use Rattle.semantics.specs.Calls as calls;
+ghost use Rattle.signature.specs.Model.{Sig};
+ghost use Rattle.semantics.specs.Calls.{type-conflicts, machine, step};
 ghost use Rattle.facts.specs.View.{factOf, factsOf};
 ghost use Rattle.structure.specs.View.{structureOf};
 ghost use Rattle.conflicts.specs.View.{conflictOf, conflictsOf, givenConflicts, conflictsIn};
@@ -180,14 +182,15 @@ fn find_conflicts(unification: Unification, facts: Facts) -> TypeConflicts
 
 // Kind 14.
 pub fn type_conflicts(structure: Structure) -> Conflicting
-    ensures { λ r. ⌜ handedConflicting r ≡ whole (calls.conflicts (structureOf structure)) ⌝ }
+    ensures { λ r. ⌜ (g : Sig) → handedConflicting g r ≡ whole (step type-conflicts (machine g (structureOf structure))) ⌝ }
 {
     let u = structure.unification;
     let facts = structure.els;
     let conflicts = find_conflicts(u, facts);
-    let settled = structure.settled;
+    let stepped = structure.accept(Answer::Conflicting);
+    let next = stepped.structure;
     Conflicting {
         conflicts,
-        structure: structure.accept(settled),
+        structure: next,
     }
 }

@@ -10,6 +10,7 @@ use Rattle.unification.specs.Roots.{linksOf}
 use Rattle.semantics.specs.Structure as model
 use Rattle.semantics.specs.Structure.{factAt}
 use Rattle.semantics.specs.Types as types
+use Rattle.semantics.specs.Types.{core, with-marks}
 use Rattle.facts.specs.View.{factsOf}
 use Rattle.equalities.specs.View.{pairsOf}
 use Rattle.merging.specs.declared.Core.{Core}
@@ -24,18 +25,7 @@ metOf n = elim (eqb n 0) [ true ↦ none | false ↦ some n ]
 
 -- the core when m merges were made and a facts added before
 abbrev pub coreOf : Core → ℕ → ℕ → types.Core
-coreOf c m a = record {
-  links = linksOf (c .unification);
-  marks = marksOf c;
-  facts = factsOf (c .facts);
-  pairs = pairsOf (c .pairs);
-  merges = m;
-  added = a;
-  met = metOf (c .met);
-}
-
-abbrev pub with-marks : List Bool → types.Core → types.Core
-with-marks x w = record { links = w .links; marks = x; facts = w .facts; pairs = w .pairs; merges = w .merges; added = w .added; met = w .met }
+coreOf c m a = core (linksOf (c .unification)) (marksOf c) (factsOf (c .facts)) (pairsOf (c .pairs)) m a (metOf (c .met))
 
 -- another mark at an element that is there, and nothing else
 abbrev pub Remarked : Core → Core → ℕ → Bool → Type 0
