@@ -7,6 +7,7 @@ pub mod Judged
 pub mod Imposed
 pub mod Queues
 pub mod Parts
+pub mod Stages
 pub mod Pairs
 pub mod Computes
 pub mod ProvedCases

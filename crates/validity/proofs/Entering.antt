@@ -96,3 +96,32 @@ module _ (c : Counts) (ls : List ℕ) where
   pub fresh-entered : Entered fresh
   unfolding waits
   fresh-entered = record { each = tt; sorted = tt; pairs = tt; report = refl }
+
+-- No function is applied that was not: what holds of the functions of all applications still does.
+
+module _ (P : ℕ → Type 0) where
+  -- each application is of such a function
+  abbrev FuncsAre : List FuncApp → Type 0
+  FuncsAre xs = All (λ (x : FuncApp). P (x .func)) xs
+
+  enter-applied : (x : FuncApp) (t : Rewritten) → P (x .func) → FuncsAre (t .apps) → FuncsAre (enter x t .apps)
+  unfolding enter enterAt
+  enter-applied x t p h = go (lookupOf compareFuncApp x (t .apps))
+    where
+      clash : (y : FuncApp) (b : Bool) → FuncsAre ((elim b as (λ _. Rewritten) [
+        | true ↦ t
+        | false ↦ rewriting (t .apps) (pair (y .result) (x .result) ∷ t .pairs) true
+      ]) .apps)
+      clash y true = h
+      clash y false = h
+
+      go : (o : Option FuncApp) → FuncsAre (enterAt o x t .apps)
+      go none = placed-all compareFuncApp x (λ (y : FuncApp). P (y .func)) (t .apps) p h
+      go (some y) = clash y (eqb (y .result) (x .result))
+
+  pub enterAll-applied : (ls : List ℕ) (xs : List FuncApp) (t : Rewritten) → FuncsAre xs → FuncsAre (t .apps) → FuncsAre (enterAll ls xs t .apps)
+  unfolding enterAll canonicalFuncApp
+  enterAll-applied ls [] t p h = h
+  enterAll-applied ls (x ∷ xs) t p h =
+      let y = canonicalFuncApp ls x in
+      enterAll-applied ls xs (enter y t) (p .1) (enter-applied y t (p .0) h)
