@@ -1,5 +1,5 @@
 -- The empty signature and structure are valid, and every call keeps them so.
-use mathlib.Core.Path.{_≡_, refl, ap, subst, _∙_}
+use mathlib.Core.Path.{_≡_, refl, ap, _∙_}
 use mathlib.Core.Logic.{inl, inr}
 use mathlib.Core.Bool.{Bool, true, false, not, _&&_}
 use mathlib.Core.List.{List, [], _∷_, _++_}
@@ -11,7 +11,6 @@ use lib.Dec.{eqb, leb}
 use borrow.Author.Tests.{ltb-true, leb-false, not-false}
 use Rattle.ids.specs.declared.Ordering.{Ordering}
 use Rattle.ids.specs.declared.Ordering.the-variants.{Less}
-use Rattle.ids.specs.Answers.{firstOf, decided, Outcome, outcome, accepting, _if_}
 use Rattle.ids.specs.Ids.{tooLong}
 use Rattle.ids.specs.Table.{present, placed, lookupOf}
 use Rattle.ids.proofs.Judging.{NoneApplies}
@@ -26,8 +25,6 @@ use Rattle.signature.specs.Calls.{isType, isFunc, isModel}
 use Rattle.semantics.specs.Structure.{Fact, FuncApp, PredApp, Pair, pair, Var, Ambient, Structure, empty, maxPairs, maxImpositions}
 use Rattle.semantics.specs.Structure.{maxFuncApps, maxPredApps, maxVars, compareFuncApp, comparePredApp, compareVar, compareAmbient}
 use Rattle.semantics.specs.Structure.{canonicalFact, canonicalFuncApp, with-links, with-pairs}
-use Rattle.semantics.specs.Close as closing
-use Rattle.semantics.specs.Close.{Closed, CloseRun, closeRun, reportOf, afterClose, closeCauses, closeBy}
 use Rattle.semantics.specs.Calls.{isEl, areEls, isPred, elCauses, withEl, equate, equalityCauses, withEquality, isImposed}
 use Rattle.semantics.specs.Calls.{impositionCauses, withImposition, Applied, applied, appliedEqual, applyAt, insertFuncAppOrEquate, appliedTo}
 use Rattle.semantics.specs.Calls.{applicationCauses, withApplied, predicationCauses, withPredApp, variableCauses, withVar, ambientCauses}
@@ -43,7 +40,7 @@ use Rattle.semantics.proofs.Links.{length-push, added-is, root-push}
 use Rattle.semantics.proofs.Judged.{step-by, listed-if}
 use Rattle.validity.proofs.Imposing.{canonical-valid}
 use Rattle.validity.proofs.Entering.{canonical-entry}
-use Rattle.validity.proofs.Closing.{close-valid}
+use Rattle.validity.proofs.Closing.{after-close}
 use Rattle.validity.proofs.Growing.{More, table-more, queue-more, queue-push, pair-more, fact-more, func-app-more, pred-app-more}
 use Rattle.validity.proofs.Growing.{var-more, ambient-more, counted}
 use Rattle.validity.proofs.Replacing.{flags-valid, links-valid, pairs-valid, impositions-valid, func-apps-valid, pred-apps-valid}
@@ -91,15 +88,9 @@ leaves-valid g t sig e a = record {
   unstarted = λ q. no-test refl q;
 }
 
--- a close that no number refuses
-pub close-accepted : (c : CloseRun) (s : Structure) → NoneApplies (closeCauses c) → closeBy c s ≡ accepting (reportOf c) (afterClose c s)
-unfolding closeBy closeCauses outcome decided firstOf
-close-accepted c s = go (c .core .met)
-  where
-    go : (o : Option ℕ) → NoneApplies (elim o [ none ↦ [] | some n ↦ n if true ∷ [] ])
-        → outcome (elim o [ none ↦ [] | some n ↦ n if true ∷ [] ]) s (reportOf c) (afterClose c s) ≡ accepting (reportOf c) (afterClose c s)
-    go none clear = refl
-    go (some n) clear = no-test refl (clear .0)
+-- what is valid with its flags is so without
+effect-of : {g : Sig} {t : Structure} → Valid g t → ValidEffect g t
+effect-of v = record { structure = v .structure; unreserved = v .unreserved; of-models = v .of-models }
 
 module _ (g : Sig) (s : Structure) (v : Valid g s) where
   abbrev c : Counts
@@ -309,16 +300,7 @@ module _ (g : Sig) (s : Structure) (v : Valid g s) where
       (v .unreserved)
       (placed-all compareAmbient x (OfModel g) (s .ambients) (not-false (isModel g (x .typ)) (clear .1 .0)) (v .of-models))
 
-  -- Kinds 13 and 14, and a find.
-
-  pub closed-valid : NoneApplies (closeCauses (closeRun g s)) → ValidEffect g (afterClose (closeRun g s) s)
-  unfolding closing.close
-  closed-valid clear =
-      let after = subst (λ (o : Outcome Closed Structure). Valid g (o .after)) (close-accepted (closeRun g s) s clear) (close-valid g s v) in
-      record { structure = after .structure; unreserved = after .unreserved; of-models = after .of-models }
-
-  pub same-valid : ValidEffect g s
-  same-valid = keeps s vs (v .unreserved) (v .of-models)
+  -- A find.
 
   pub find-valid : (e : ℕ) → NoneApplies (findCauses (s .links) e) → Valid g (with-links (shortOf (s .links) e) s)
   unfolding findCauses empty
@@ -346,12 +328,12 @@ start-valid = empty-valid signature.empty empty-sig
 
 -- where no cause applies, what a call leaves is valid
 effect-valid : (k : Call) (m : Machine) → ValidMachine m → NoneApplies (rule k m .causes) → ValidMachine (acceptance (rule k m) .after)
-unfolding rule equalityRule impositionRule applicationRule closeRule acceptance leaves settledBy
-effect-valid (push-type t) m v clear = type-valid (m .sig) (m .structure) v t clear
-effect-valid (push-pred p) m v clear = pred-valid (m .sig) (m .structure) v p clear
-effect-valid (push-func f) m v clear = func-valid (m .sig) (m .structure) v f clear
-effect-valid (push-model x) m v clear = model-valid (m .sig) (m .structure) v x clear
-effect-valid (push-mor-app x) m v clear = mor-app-valid (m .sig) (m .structure) v x clear
+unfolding rule equalityRule impositionRule applicationRule closeRule acceptance
+effect-valid (push-type t) m v clear = (unfold leaves settledBy in type-valid (m .sig) (m .structure) v t clear)
+effect-valid (push-pred p) m v clear = (unfold leaves settledBy in pred-valid (m .sig) (m .structure) v p clear)
+effect-valid (push-func f) m v clear = (unfold leaves settledBy in func-valid (m .sig) (m .structure) v f clear)
+effect-valid (push-model x) m v clear = (unfold leaves settledBy in model-valid (m .sig) (m .structure) v x clear)
+effect-valid (push-mor-app x) m v clear = (unfold leaves settledBy in mor-app-valid (m .sig) (m .structure) v x clear)
 effect-valid (push-el mark) m v clear = leaves-valid _ _ (v .sig) (el-valid (m .sig) (m .structure) v mark clear) _
 effect-valid (equate-els a b) m v clear = leaves-valid _ _ (v .sig) (equality-valid (m .sig) (m .structure) v a b clear) _
 effect-valid (impose-type f) m v clear = leaves-valid _ _ (v .sig) (imposition-valid (m .sig) (m .structure) v f clear) _
@@ -359,12 +341,12 @@ effect-valid (apply-func x) m v clear = leaves-valid _ _ (v .sig) (application-v
 effect-valid (apply-pred x) m v clear = leaves-valid _ _ (v .sig) (predication-valid (m .sig) (m .structure) v x clear) _
 effect-valid (bind-var x) m v clear = leaves-valid _ _ (v .sig) (variable-valid (m .sig) (m .structure) v x clear) _
 effect-valid (bind-ambient a) m v clear = leaves-valid _ _ (v .sig) (ambient-valid (m .sig) (m .structure) v a clear) _
-effect-valid close m v clear = leaves-valid _ _ (v .sig) (closed-valid (m .sig) (m .structure) v clear) _
-effect-valid type-conflicts m v clear = leaves-valid _ _ (v .sig) (same-valid (m .sig) (m .structure) v) _
-effect-valid (root e) m v clear = find-valid (m .sig) (m .structure) v e clear
-effect-valid (root-const e) m v clear = v
-effect-valid (lookup-type t ps) m v clear = v
-effect-valid (ambient-parents ts) m v clear = v
+effect-valid close m v clear = leaves-valid _ _ (v .sig) (effect-of (after-close (m .sig) (m .structure) v)) _
+effect-valid type-conflicts m v clear = leaves-valid _ _ (v .sig) (effect-of v) _
+effect-valid (root e) m v clear = (unfold leaves settledBy in find-valid (m .sig) (m .structure) v e clear)
+effect-valid (root-const e) m v clear = (unfold leaves settledBy in v)
+effect-valid (lookup-type t ps) m v clear = (unfold leaves settledBy in v)
+effect-valid (ambient-parents ts) m v clear = (unfold leaves settledBy in v)
 
 pub step-valid : (k : Call) (m : Machine) → ValidMachine m → ValidMachine (step k m .after)
 step-valid k m v = step-by k m (λ s. ValidMachine (s .after)) (λ n q. v) (λ none-applies. effect-valid k m v none-applies)
