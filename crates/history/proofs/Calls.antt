@@ -276,16 +276,16 @@ module _ (b : Book) (m : Machine) where
   abbrev run : CloseRun
   run = closeRun (m .sig) (m .structure)
 
-  pub close-soundly : TiedTo b (m .structure) → NoneApplies (closeCauses run)
+  pub close-soundly : TiedTo b (m .structure) → run .core .met ≡ none
       → ClosedSoundly (elements b) (roots (m .structure .links)) (m .structure) (afterClose run (m .structure)) (reportOf run)
   unfolding fuel coreOf
-  close-soundly g clear =
-      run-soundly (elements b) (roots (m .structure .links)) (m .sig) (m .structure) (g .ready) (omega (arith, g .sum, g .small)) (unmet run clear)
+  close-soundly g =
+      run-soundly (elements b) (roots (m .structure .links)) (m .sig) (m .structure) (g .ready) (omega (arith, g .sum, g .small))
 
-  close-tied : TiedTo b (m .structure) → NoneApplies (closeCauses run) → TiedTo (taken close (reportOf run .merges) b) (afterClose run (m .structure))
+  close-tied : TiedTo b (m .structure) → run .core .met ≡ none → TiedTo (taken close (reportOf run .merges) b) (afterClose run (m .structure))
   unfolding taken coreOf
-  close-tied g clear =
-      let z = close-soundly g clear in
+  close-tied g met =
+      let z = close-soundly g met in
       record {
         ready = z .ready;
         small = g .small;
@@ -394,7 +394,7 @@ module _ (m : Machine) (b : Book) (v : ValidMachine m) (g : AgreesWith b (m .str
   close-agrees clear = record {
     long = close-long ∙ g .long;
     named = record { equalities = g .named .equalities; apps = g .named .apps };
-    tied = λ u. close-tied b m (g .tied u) clear;
+    tied = λ u. close-tied b m (g .tied u) (unmet (closeRun (m .sig) s) clear);
   }
     where
       c : CloseRun
