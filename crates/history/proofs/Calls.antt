@@ -15,7 +15,7 @@ use Rattle.ids.specs.Table.{placed, lookupOf}
 use Rattle.ids.proofs.Answers.{or-neither}
 use Rattle.ids.proofs.Judging.{NoneApplies, decided-accepts}
 use Rattle.ids.proofs.Sorted.{All, all-map, all-at, lookup-sound, lookup-none, placed-all, placed-own, placed-rest}
-use Rattle.unification.specs.Roots.{maxEls, shortOf, addedOf, findCauses}
+use Rattle.unification.specs.Roots.{maxEls, rootOf, shortOf, addedOf, findCauses}
 use Rattle.unification.proofs.Numbers.{less-or, same-or}
 use Rattle.unification.proofs.Laws.{root-le, short-length}
 use Rattle.unification.proofs.Theorems.{added-formed, short-formed, short-root}
@@ -44,7 +44,7 @@ use Rattle.history.proofs.Elements.{Named, pair-more, app-more}
 use Rattle.history.proofs.Counts.{roots-added, added-length, added-root}
 use Rattle.history.proofs.Drain.{HoldsOfPair, Unmarked}
 use Rattle.history.proofs.Functionality.{found-agrees, found-says}
-use Rattle.history.proofs.Passes.{HoldsOfCore, Ready}
+use Rattle.history.proofs.Passes.{HoldsOfCore, Ready, Sound}
 use Rattle.history.proofs.Closing.{ClosedSoundly, unmet, run-soundly}
 
 -- what a partition and a claim on applications say of a book
@@ -64,6 +64,14 @@ pub record Tied (b : Book) (w : Core) (xs : List FuncApp) : Type 1 where
 abbrev pub TiedTo : Book → Structure → Type 1
 TiedTo b s = Tied b (coreOf s) (s .func-apps)
 
+-- other links and marks, with the same roots: no partition tells them apart
+alike-sound : (w : Core) (xs : List FuncApp) (ks : List ℕ) (ms : List Bool) → ((x : ℕ) → rootOf ks x ≡ rootOf (w .links) x)
+    → Sound w xs (with-links ks (with-marks ms w)) xs
+alike-sound w xs ks ms same = record {
+  on = λ R S q law a. record { rooted = λ x. subst (λ z. R z x) (sym (same x)) (a .rooted x); pairs = a .pairs; apps = a .apps };
+  back = λ R S q law a. record { rooted = λ x. subst (λ z. R z x) (same x) (a .rooted x); pairs = a .pairs; apps = a .apps };
+}
+
 -- Links shortened: no root alters.
 
 relinked : (b : Book) (w : Core) (xs : List FuncApp) (e : ℕ) → Tied b w xs → e < elements b → Tied b (with-links (shortOf (w .links) e) w) xs
@@ -73,6 +81,7 @@ relinked b w xs e g h =
     let same = short-root (w .links) e at f in
     let long = short-length (w .links) e in
     let count = roots-alike (w .links) (shortOf (w .links) e) long same in
+    let z = alike-sound w xs (shortOf (w .links) e) (w .marks) same in
     record {
       ready = record {
         kept = record { formed = short-formed (w .links) e f; long = long ∙ g .ready .kept .long; sum = omega (arith, g .ready .kept .sum) };
@@ -82,11 +91,8 @@ relinked b w xs e g h =
       };
       small = g .small;
       sum = omega (arith, count, g .sum);
-      on = λ R S q law f.
-          let a = g .on R S q law f in
-          record { rooted = λ x. subst (λ z. R z x) (sym (same x)) (a .rooted x); pairs = a .pairs; apps = a .apps };
-      back = λ R S q law f.
-          g .back R S q law (record { rooted = λ x. subst (λ z. R z x) (same x) (f .rooted x); pairs = f .pairs; apps = f .apps });
+      on = λ R S q law f. z .on R S q law (g .on R S q law f);
+      back = λ R S q law f. g .back R S q law (z .back R S q law f);
     }
 
 -- A pair queued by `equate`, where the book b′ holds of a partition exactly when b does and the partition has the pair.
@@ -143,9 +149,9 @@ unfolding taken
 element-tied b w xs mark g h e =
     let room : length (w .links) < maxEls = omega (arith, h, g .ready .kept .long) in
     let long = added-length (w .links) room in
-    let root = added-root (w .links) room in
     let more = length-push (b .marks) mark in
     let count = roots-added (w .links) room in
+    let z = alike-sound w xs (addedOf (w .links)) (w .marks ++ (mark ∷ [])) (added-root (w .links) room) in
     record {
       ready = record {
         kept = record {
@@ -159,11 +165,8 @@ element-tied b w xs mark g h e =
       };
       small = omega (arith, more, h);
       sum = omega (arith, more, count, g .sum);
-      on = λ R S q law f.
-          let a = g .on R S q law f in
-          record { rooted = λ x. subst (λ z. R z x) (sym (root x)) (a .rooted x); pairs = a .pairs; apps = a .apps };
-      back = λ R S q law f.
-          g .back R S q law (record { rooted = λ x. subst (λ z. R z x) (root x) (f .rooted x); pairs = f .pairs; apps = f .apps });
+      on = λ R S q law f. z .on R S q law (g .on R S q law f);
+      back = λ R S q law f. g .back R S q law (z .back R S q law f);
     }
 
 -- Kind 9.

@@ -27,7 +27,9 @@ use Rattle.history.proofs.Calls.{TiedTo, AgreesWith, close-soundly, fed
 
 -- what holds at each moment of a list
 pub record ValidHistory (h : History) : Type 1 where
+  -- its signature and structure are valid
   pub valid : ValidMachine (h .machine)
+  -- its book agrees with the structure
   pub book : AgreesWith (h .book) (h .machine .structure)
 
 next-valid : (k : Call) (h : History) → ValidHistory h → ValidHistory (next k h)

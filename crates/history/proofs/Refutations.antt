@@ -31,12 +31,11 @@ pub record Shown : Type 0 where
   pub book : Book
   pub roots : List ℕ
 
+abbrev pub showing : Answer → Book → List ℕ → Shown
+showing a b rs = record { answer = a; book = b; roots = rs }
+
 unfoldable pub shown : List Call → Shown
-shown ks = record {
-  answer = step close (history ks .machine) .answer;
-  book = after ks .book;
-  roots = map (rootOf (linksAfter ks)) (0 ∷ 1 ∷ []);
-}
+shown ks = showing (step close (history ks .machine) .answer) (after ks .book) (map (rootOf (linksAfter ks)) (0 ∷ 1 ∷ []))
 
 -- a list: what the close after it answers, and the book and the root of element 1 when that close returns; the root of 0 is 0
 pub record WorkedList : Type 0 where
@@ -45,7 +44,7 @@ pub record WorkedList : Type 0 where
   pub book : Book
   pub root : ℕ
   pub two : elements book ≡ 2
-  pub shows : shown calls ≡ record { answer = closed answer; book = book; roots = 0 ∷ root ∷ [] }
+  pub shows : shown calls ≡ showing (closed answer) book (0 ∷ root ∷ [])
 
 -- a book of two elements with no mark: equalities, applications, merges
 abbrev plainBook : List Pair → List FuncApp → ℕ → Book

@@ -73,10 +73,10 @@ unfolding compareAmbient
 ambient-less x y e = order-less (x .typ) (y .typ) e
 
 -- What a call of kinds 6 to 14 shows of the structure that its effect is: `leaves-valid` adds the flags, for all of them.
-pub record ValidEffect (g : Sig) (t : Structure) : Type 0 where
-  pub structure : ValidStructure (countsOf g t) t
-  pub unreserved : All (Unreserved g) (t .func-apps)
-  pub of-models : All (OfModel g) (t .ambients)
+record ValidEffect (g : Sig) (t : Structure) : Type 0 where
+  structure : ValidStructure (countsOf g t) t
+  unreserved : All (Unreserved g) (t .func-apps)
+  of-models : All (OfModel g) (t .ambients)
 
 leaves-valid : (g : Sig) (t : Structure) → ValidSig g → ValidEffect g t → (a : Answer) → Valid g (leaves true a t)
 unfolding leaves
@@ -128,7 +128,7 @@ module _ (g : Sig) (s : Structure) (v : Valid g s) where
         impositions = queue-more (fact-more c d more) _ (s .impositions) (vs .impositions);
       }
 
-  pub el-valid : (mark : Bool) → NoneApplies (elCauses s) → ValidEffect g (withEl mark s)
+  el-valid : (mark : Bool) → NoneApplies (elCauses s) → ValidEffect g (withEl mark s)
   unfolding elCauses withEl
   el-valid mark clear = record {
     structure =
@@ -154,7 +154,7 @@ module _ (g : Sig) (s : Structure) (v : Valid g s) where
       let q = pairs-valid c s vs ps (record { each = (record { lhs = la; rhs = lb }, vs .pairs .each); most = room }) in
       links-valid c (with-pairs ps s) q (shortOf (shortOf (s .links) a) b) (two .0) (two .1 .0) (two .1 .1)
 
-  pub equality-valid : (a b : ℕ) → NoneApplies (equalityCauses s a b) → ValidEffect g (withEquality (equate (s .links) (s .pairs) a b) s)
+  equality-valid : (a b : ℕ) → NoneApplies (equalityCauses s a b) → ValidEffect g (withEquality (equate (s .links) (s .pairs) a b) s)
   unfolding equalityCauses withEquality
   equality-valid a b clear =
       let d = not-false (isEl s a && isEl s b) (clear .0) in
@@ -174,7 +174,7 @@ module _ (g : Sig) (s : Structure) (v : Valid g s) where
       (queue-push (λ x k. k) maxImpositions (s .impositions) entry (vs .impositions) (leb-false maxImpositions (length (s .impositions)) t)
       (canonical-valid c (s .links) f new))) (v .unreserved) (v .of-models)
 
-  pub imposition-valid : (f : Fact) → NoneApplies (impositionCauses g s f)
+  imposition-valid : (f : Fact) → NoneApplies (impositionCauses g s f)
       → ValidEffect g (withImposition (isImposed (canonicalFact (s .links) f) (s .impositions)) (canonicalFact (s .links) f) s)
   unfolding impositionCauses
   imposition-valid f clear =
@@ -223,7 +223,7 @@ module _ (g : Sig) (s : Structure) (v : Valid g s) where
   unfolding canonicalFuncApp
   canonical-unreserved x h = h
 
-  pub application-valid : (x : FuncApp) → NoneApplies (applicationCauses g s x) → ValidEffect g (withApplied (appliedTo s x) s)
+  application-valid : (x : FuncApp) → NoneApplies (applicationCauses g s x) → ValidEffect g (withApplied (appliedTo s x) s)
   unfolding applicationCauses insertFuncAppOrEquate
   application-valid x clear =
       let results = isEl s (x .result) in
@@ -245,7 +245,7 @@ module _ (g : Sig) (s : Structure) (v : Valid g s) where
 
   -- Kind 10.
 
-  pub predication-valid : (x : PredApp) → NoneApplies (predicationCauses g s x) → ValidEffect g (withPredApp x s)
+  predication-valid : (x : PredApp) → NoneApplies (predicationCauses g s x) → ValidEffect g (withPredApp x s)
   unfolding predicationCauses withPredApp
   predication-valid x clear =
       let rest = areEls s (x .parents) && areEls s (x .args) in
@@ -265,7 +265,7 @@ module _ (g : Sig) (s : Structure) (v : Valid g s) where
 
   -- Kinds 11 and 12: the keys bound the number of entries.
 
-  pub variable-valid : (x : Var) → NoneApplies (variableCauses s x) → ValidEffect g (withVar x s)
+  variable-valid : (x : Var) → NoneApplies (variableCauses s x) → ValidEffect g (withVar x s)
   unfolding variableCauses withVar
   variable-valid x clear =
       let new : VarValid c x = record {
@@ -281,7 +281,7 @@ module _ (g : Sig) (s : Structure) (v : Valid g s) where
         most = keys-few compareVar (λ (y : Var). y .key) var-less maxVars l sorted (all-map (λ y k. k .key) l each);
       })) (v .unreserved) (v .of-models)
 
-  pub ambient-valid : (x : Ambient) → NoneApplies (ambientCauses g s x) → ValidEffect g (withAmbient x s)
+  ambient-valid : (x : Ambient) → NoneApplies (ambientCauses g s x) → ValidEffect g (withAmbient x s)
   unfolding ambientCauses withAmbient
   ambient-valid x clear =
       let d = not-false (isType g (x .typ) && isEl s (x .el)) (clear .0) in
@@ -302,7 +302,7 @@ module _ (g : Sig) (s : Structure) (v : Valid g s) where
 
   -- A find.
 
-  pub find-valid : (e : ℕ) → NoneApplies (findCauses (s .links) e) → Valid g (with-links (shortOf (s .links) e) s)
+  find-valid : (e : ℕ) → NoneApplies (findCauses (s .links) e) → Valid g (with-links (shortOf (s .links) e) s)
   unfolding findCauses empty
   find-valid e clear =
       let there = leb-false (length (s .links)) e (clear .0) in
