@@ -7,7 +7,7 @@ use Rattle.semantics.specs.Valid.{Valid}
 use Rattle.semantics.specs.Close.{Closed, closeRun, afterClose, reportOf}
 use Rattle.semantics.specs.Calls.{Call, close, closed, Machine, machine, step}
 use Rattle.history.specs.Book.{History, noted, next, history}
-use Rattle.history.proofs.Histories.{history-held, history-next}
+use Rattle.history.proofs.Histories.{history-valid, history-next}
 use Rattle.history.proofs.Closing.{closed-step}
 use Rattle.history.proofs.SecondClose.{noChange, after-idle, idle-step}
 
@@ -26,4 +26,4 @@ pub merges-nothing : (before : List Call) (c : Closed) → step close (history b
     → step close (history (before ++ (close ∷ [])) .machine) .answer ≡ closed noChange
 merges-nothing before c e z =
     subst (λ (h : History). step close (h .machine) .answer ≡ closed noChange) (sym (history-next before close))
-    (next-unchanged (history before) c (history-held before .valid) e z)
+    (next-unchanged (history before) c (history-valid before .valid) e z)
