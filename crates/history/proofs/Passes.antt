@@ -21,14 +21,14 @@ use Rattle.semantics.specs.Close.{Rewritten, rewriting, enterAll, demands, Turn
 use Rattle.semantics.specs.Close.{functionalityPass, typed, typingPass, Pass, passes, runPasses, round}
 use Rattle.semantics.proofs.Cases.{or-first, or-second}
 use Rattle.semantics.proofs.Counts.{roots}
+use Rattle.semantics.proofs.Functionality.{enterAll-all, enterAll-sorted, enterAll-pairs, enterAll-none}
 use Rattle.semantics.proofs.Queues.{drain-pairs}
 use Rattle.semantics.proofs.Stages.{Stage, Along}
 use Rattle.history.proofs.Tables.{all-of}
 use Rattle.history.proofs.Relation.{Equivalence, Rooted, Respects}
 use Rattle.history.proofs.Drain.{RootsAndMerges, HoldsOfPair, Inside, Unmarked, Apart, Joined, drain-law, drain-counted, drain-none}
 use Rattle.history.proofs.Drain.{drain-grows}
-use Rattle.history.proofs.Functionality.{Canon, canon-image, enterAll-on, enterAll-back, enterAll-all, enterAll-sorted}
-use Rattle.history.proofs.Functionality.{enterAll-pairs, enterAll-none, settled-same}
+use Rattle.history.proofs.Functionality.{Canon, canon-image, enterAll-on, enterAll-back, settled-same}
 use Rattle.history.proofs.Imposing.{OnlyFactsGrew, plain-grown, unmarked-inserts, impose-inserts, imposeAll-counts}
 use Rattle.history.proofs.Unjoined.{Safe, OnRoots, imposed-safe, safe-idle, safe-moved, insertAll-roots}
 

@@ -5,6 +5,7 @@ pub mod Counts
 pub mod Links
 pub mod Judged
 pub mod Imposed
+pub mod Functionality
 pub mod Queues
 pub mod Parts
 pub mod Stages

@@ -18,7 +18,8 @@ use Rattle.semantics.specs.Structure.{canonicalFact, canonicalFuncApp, p
 use Rattle.semantics.specs.Types.{Core, with-pairs, with-added, with-met, marked, merge, joinRoots, join, drainPairs, drain}
 use Rattle.semantics.specs.Types.{refineRoots, refine, refineParents, refineAll, insertFact, insertCanonical, concreteTypesOf}
 use Rattle.semantics.specs.Types.{impose, imposeAll}
-use Rattle.semantics.specs.Close.{Rewritten, enterAt, enter, enterAll, rewriting}
+use Rattle.semantics.proofs.Functionality.{enter-cases}
+use Rattle.semantics.specs.Close.{Rewritten, enter, enterAll, rewriting}
 
 -- A drain leaves no pair.
 
@@ -121,23 +122,15 @@ some-entry [] m = absurd (List·Memᴰ·not-nil m)
 some-entry (y ∷ ys) m = omega arith
 
 pub enter-most : (x : FuncApp) (t : Rewritten) → EnteredMost 1 t (enter x t) × (1 ≤ length (enter x t .apps))
-unfolding enter enterAt
-enter-most x t = go (lookupOf compareFuncApp x (t .apps)) refl
+enter-most x t =
+    enter-cases (λ (u : Rewritten). EnteredMost 1 t u × (1 ≤ length (u .apps))) x t
+    (λ q. let more = placed-absent compareFuncApp x (t .apps) (lookup-none compareFuncApp x (t .apps) q) in
+    (record { both = omega arith; apps = omega arith }, omega arith))
+    (λ y q e. (record { both = omega arith; apps = omega arith }, entry q))
+    (λ y q e. (record { both = omega arith; apps = omega arith }, entry q))
   where
-    pairs : FuncApp → List Pair
-    pairs y = pair (y .result) (x .result) ∷ t .pairs
-
-    clash : (y : FuncApp) → 1 ≤ length (t .apps) → (b : Bool)
-        → EnteredMost 1 t (elim b [ true ↦ t | false ↦ rewriting (t .apps) (pairs y) true ])
-        × (1 ≤ length ((elim b as (λ _. Rewritten) [ true ↦ t | false ↦ rewriting (t .apps) (pairs y) true ]) .apps))
-    clash y l true = (record { both = omega arith; apps = omega arith }, l)
-    clash y l false = (record { both = omega arith; apps = omega arith }, l)
-
-    go : (o : Option FuncApp) → lookupOf compareFuncApp x (t .apps) ≡ o → EnteredMost 1 t (enterAt o x t) × (1 ≤ length (enterAt o x t .apps))
-    go none q =
-        let more = placed-absent compareFuncApp x (t .apps) (lookup-none compareFuncApp x (t .apps) q) in
-        (record { both = omega arith; apps = omega arith }, omega arith)
-    go (some y) q = clash y (some-entry (t .apps) (lookup-sound compareFuncApp x (t .apps) q .0)) (eqb (y .result) (x .result))
+    entry : {y : FuncApp} → lookupOf compareFuncApp x (t .apps) ≡ some y → 1 ≤ length (t .apps)
+    entry q = some-entry (t .apps) (lookup-sound compareFuncApp x (t .apps) q .0)
 
 pub enterAll-most : (ls : List ℕ) (xs : List FuncApp) (t : Rewritten) → EnteredMost (length xs) t (enterAll ls xs t)
 unfolding enterAll

@@ -11,20 +11,20 @@ use borrow.Author.Tests.{ltb-true}
 use Rattle.ids.proofs.Sorted.{All, all-map, no-test}
 use Rattle.unification.specs.Roots.{maxEls}
 use Rattle.signature.specs.Model.{Sig}
-use Rattle.semantics.specs.Structure.{FuncApp, PredApp, Pair, compareFuncApp, maxFuncApps}
+use Rattle.semantics.specs.Structure.{FuncApp, PredApp, Pair, compareFuncApp, canonicalFuncApp, maxFuncApps}
 use Rattle.semantics.specs.Types.{Core, drain, imposeAll, grew}
 use Rattle.semantics.specs.Close.{Rewritten, rewriting, enterAll, demands, Turn, turn, drained, drainPass, rewrote, functionalityPass, typed}
 use Rattle.semantics.specs.Close.{typingPass, Pass, passes, round, fuel}
-use Rattle.semantics.specs.Calls.{isReserved}
 use Rattle.semantics.specs.Valid.{Counts, countsAt, FuncAppValid, PredAppValid, Table, ValidSig, Unreserved}
 use Rattle.semantics.proofs.Cases.{or-first, or-second, or-either}
 use Rattle.semantics.proofs.Counts.{roots-most}
+use Rattle.semantics.proofs.Functionality.{enterAll-all}
 use Rattle.semantics.proofs.Queues.{Room, drain-pairs}
 use Rattle.semantics.proofs.Stages.{Stage, Along, run-along}
 use Rattle.semantics.proofs.Pairs.{functionality-queue, typing-queue}
 use Rattle.validity.proofs.Drain.{ValidCore, Advances, remaining, advances-then, requeued, TwoRoots, drain-advances, drain-merges}
 use Rattle.validity.proofs.Imposing.{Imposed, imposeAll-advances}
-use Rattle.validity.proofs.Entering.{waits, Clash, Entered, enterAll-entered, enterAll-applied, fresh-entered}
+use Rattle.validity.proofs.Entering.{waits, Entered, fresh-entered}
 use Rattle.validity.proofs.Demands.{demands-valid}
 
 -- The stages of a round.
@@ -110,14 +110,15 @@ module _ (g : Sig) (v : ValidSig g) (n : ℕ) (preds : List PredApp) (pv : All (
     drain-within = record { leads = λ t h. subst (λ (x : Core). Drained g c x (drainPass g preds t)) (h .is) (drain-own t h) }
 
     functionality-within : RoundLaw functionalityPass (Drained g c w) (Within g c w)
-    unfolding functionalityPass rewrote remaining
+    unfolding functionalityPass rewrote remaining canonicalFuncApp
     functionality-within = record {
       leads = λ t h.
           let b = h .within .after .begins in
           let ls = t .core .links in
           let r : Rewritten = enterAll ls (t .apps) (rewriting [] (t .core .pairs) false) in
-          let e : Entered c ls r = enterAll-entered c ls (t .apps) (rewriting [] (t .core .pairs) false) (b .apps .each)
-          (subst (λ (ps : List Pair). Entered c ls (rewriting [] ps false)) (sym (h .none)) (fresh-entered c ls)) in
+          let e : Entered c ls r =
+          subst (λ (ps : List Pair). Entered c ls (enterAll ls (t .apps) (rewriting [] ps false))) (sym (h .none))
+          (fresh-entered c ls (t .apps) (b .apps .each)) in
           let roomy = functionality-queue .leads g preds t (record { few = b .apps .most; none = h .none }) in
           let a = requeued c (r .pairs) (t .core) (b .valid)
           (record { each = all-map (λ p k. k .valid) (r .pairs) (e .pairs); most = omega (arith, roomy .room) }) in
@@ -126,7 +127,7 @@ module _ (g : Sig) (v : ValidSig g) (n : ℕ) (preds : List PredApp) (pv : All (
               begins = record {
                 valid = a .valid;
                 apps = record { each = all-map (λ x k. k .valid) (r .apps) (e .each); sorted = e .sorted; most = roomy .few };
-                unreserved = enterAll-applied (λ f. isReserved g f ≡ false) ls (t .apps) _ (b .unreserved) tt;
+                unreserved = enterAll-all (Unreserved g) ls (t .apps) (rewriting [] (t .core .pairs) false) (b .unreserved) tt;
               };
               apart = all-map (λ p k. k .two) (r .pairs) (e .pairs);
               room = roomy .room;
