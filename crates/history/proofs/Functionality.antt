@@ -1,19 +1,16 @@
 -- `functionality`: what it does to partitions, and what its table is like.
 use mathlib.Core.Path.{_≡_, refl, sym, subst, ap, ap₂, _∙_}
-use mathlib.Core.Logic.{_≢_}
-use mathlib.Core.Bool.{Bool, true, false}
+use mathlib.Core.Bool.{Bool}
 use mathlib.Core.List.{List, [], _∷_, _++_, map, append-assoc, append-nil, List·Memᴰ}
-use mathlib.Core.Option.{Option, some, none, Option·some-injective}
+use mathlib.Core.Option.{some, none, Option·some-injective}
 use Prim.Native.Nat.{ℕ}
-use lib.Dec.{eqb}
-use borrow.Author.Tests.{eqb-true, eqb-false}
 use Rattle.ids.specs.declared.Ordering.the-variants.{Less}
 use Rattle.ids.specs.Table.{placed, lookupOf}
-use Rattle.ids.proofs.Sorted.{All, all-at, all-map, Sorted, no-test, equal-swap, lookup-sound, lookup-none, lookup-if, placed-all}
-use Rattle.ids.proofs.Sorted.{placed-own, placed-rest, placed-last, placed-sorted, all-both, all-join}
+use Rattle.ids.proofs.Sorted.{All, all-at, all-map, Sorted, equal-swap, lookup-sound, lookup-none, lookup-if, placed-all, placed-own, placed-rest}
+use Rattle.ids.proofs.Sorted.{placed-last, all-both, all-join}
 use Rattle.unification.specs.Roots.{rootOf}
 use Rattle.unification.proofs.Laws.{root-root}
-use Rattle.semantics.specs.Structure.{FuncApp, Pair, compareFuncApp, canonicalFuncApp, pair, func-app}
+use Rattle.semantics.specs.Structure.{FuncApp, Pair, compareFuncApp, canonicalFuncApp, func-app}
 use Rattle.semantics.specs.Close.{Rewritten, enterAt, enter, enterAll, rewriting}
 use Rattle.semantics.proofs.Functionality.{enter-cases}
 use Rattle.semantics.proofs.Orders.{func-app-ordered, func-app-same, same-func-app, SameKey}

@@ -17,8 +17,8 @@ use Rattle.signature.specs.Model.{Sig}
 use Rattle.semantics.specs.Structure.{Fact, FuncApp, PredApp, Pair, compareFuncApp, canonicalFuncApp}
 use Rattle.semantics.specs.Types as types
 use Rattle.semantics.specs.Types.{Core, drain, imposeAll, grew}
-use Rattle.semantics.specs.Close.{Rewritten, rewriting, enterAll, demands, Turn, turn, reports, drained, drainPass, rewrote}
-use Rattle.semantics.specs.Close.{functionalityPass, typed, typingPass, Pass, passes, runPasses, round}
+use Rattle.semantics.specs.Close.{Rewritten, rewriting, enterAll, demands, Turn, turn, reports, drained, drainPass, rewrote, functionalityPass, typed}
+use Rattle.semantics.specs.Close.{typingPass, Pass, passes, runPasses, round}
 use Rattle.semantics.proofs.Cases.{or-first, or-second}
 use Rattle.semantics.proofs.Counts.{roots}
 use Rattle.semantics.proofs.Functionality.{enterAll-all, enterAll-sorted, enterAll-pairs, enterAll-none}

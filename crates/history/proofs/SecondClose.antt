@@ -2,7 +2,7 @@
 use mathlib.Core.Path.{_≡_, refl, sym, subst, ap, ap₂, _∙_}
 use mathlib.Core.Bool.{Bool, true, false, _&&_, and-true}
 use mathlib.Core.List.{List, [], _∷_, _++_, map, map-append}
-use mathlib.Core.Option.{Option, none, some}
+use mathlib.Core.Option.{none}
 use Prim.Native.Nat.{ℕ, zero, suc, _≤_, _<_}
 use native.Mathlib.Omega.{arith}
 use lib.ListN.{length, length-map}
@@ -12,16 +12,14 @@ use Rattle.ids.proofs.Sorted.{All, all-map, all-join, all-left, all-right, all-
 use Rattle.ids.proofs.Judging.{decided-accepts}
 use Rattle.ids.proofs.Views.{map-take}
 use Rattle.unification.specs.Roots.{rootOf}
-use Rattle.unification.proofs.Laws.{root-root}
 use Rattle.signature.specs.Model.{Sig, predAt}
 use Rattle.signature.specs.Calls.{TypedM, at, absent, concreteTypeAt}
-use Rattle.semantics.specs.Structure.{Fact, FuncApp, PredApp, Pair, Structure, compareFuncApp, comparePredApp, canonicalFact}
-use Rattle.semantics.specs.Structure.{canonicalPredApp, fact, with-flags}
-use Rattle.semantics.specs.Types.{Core, drain, insertCanonical, imposeAll, grew}
-use Rattle.semantics.specs.Close.{demanded, demandedAt, demandedArgs, funcArgs, predArgs, funcResults, demands, Turn, drained, drainPass}
-use Rattle.semantics.specs.Close.{rewrote, functionalityPass, typed, typingPass, passes, runPasses, round, Rounds, isNone, lastRound}
-use Rattle.semantics.specs.Close.{oneMore, roundsFrom, rounds, fuel, Closed, coreOf, canonicaliseRefs, withCore, imposedAfter}
-use Rattle.semantics.specs.Close.{closeRun, reportOf, afterClose, closeBy, close, turn, report}
+use Rattle.semantics.specs.Structure.{Fact, FuncApp, PredApp, Pair, Structure, compareFuncApp, comparePredApp, canonicalFact, canonicalPredApp, fact}
+use Rattle.semantics.specs.Structure.{with-flags}
+use Rattle.semantics.specs.Types.{Core, imposeAll, grew}
+use Rattle.semantics.specs.Close.{demanded, demandedAt, demandedArgs, funcArgs, predArgs, funcResults, demands, Turn, typed, round, Rounds, isNone}
+use Rattle.semantics.specs.Close.{lastRound, oneMore, roundsFrom, rounds, fuel, Closed, coreOf, canonicaliseRefs, withCore, imposedAfter, closeRun}
+use Rattle.semantics.specs.Close.{reportOf, afterClose, closeBy, close, turn, report}
 use Rattle.semantics.specs.Calls as calls
 use Rattle.semantics.specs.Calls.{closed, machine, Step, rule, closeRule, acceptance, refusal, stepBy, step}
 use Rattle.semantics.proofs.Judged.{close-first}

@@ -11,8 +11,7 @@ use Rattle.semantics.specs.Structure.{Fact, FuncApp, PredApp, Pair, Stru
 use Rattle.semantics.specs.Types.{Core, refineParents, refineAll, imposeAll}
 use Rattle.semantics.specs.Close.{Turn, turn, Pass, drained, drainPass, rewriting, enterAll, rewrote, functionalityPass, demands, typed}
 use Rattle.semantics.specs.Close.{typingPass, passes, round, Rounds, isNone, lastRound, oneMore, roundsFrom, rounds, fuel, coreOf}
-use Rattle.semantics.proofs.Queues.{drain-pairs, Room, still-room, refineParents-queue, refineAll-queue, imposeAll-queue, pairs-room}
-use Rattle.semantics.proofs.Queues.{apps-few}
+use Rattle.semantics.proofs.Queues.{drain-pairs, Room, still-room, refineParents-queue, refineAll-queue, imposeAll-queue, pairs-room, apps-few}
 use Rattle.semantics.proofs.Stages.{Stage, Along, run-along}
 
 -- While facts are imposed on w: after some of them, after some of the facts of the next one's element, and after some of the parents of

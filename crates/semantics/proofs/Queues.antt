@@ -4,7 +4,7 @@ use mathlib.Core.Path.{_≡_, refl, ap, _∙_}
 use mathlib.Core.Logic.{_⊎_, inl, inr}
 use mathlib.Core.Bool.{Bool, true, false, not, _&&_, _||_}
 use mathlib.Core.List.{List, [], _∷_, List·Memᴰ, List·Memᴰ·not-nil}
-use mathlib.Core.Option.{Option, none, some}
+use mathlib.Core.Option.{some}
 use Prim.Native.Nat.{ℕ, _+_, _-_, _≤_, _<_, min, max}
 use native.Mathlib.Omega.{arith}
 use lib.ListN.{length}
@@ -13,11 +13,10 @@ use Rattle.ids.specs.Answers.{tooManyFacts}
 use Rattle.ids.specs.Table.{present, placed, lookupOf}
 use Rattle.ids.proofs.Sorted.{placed-absent, lookup-sound, lookup-none}
 use Rattle.unification.specs.Roots.{rootOf}
-use Rattle.semantics.specs.Structure.{Fact, FuncApp, Pair, maxPairs, maxFuncApps, maxFacts, compareFact, compareFuncApp}
-use Rattle.semantics.specs.Structure.{canonicalFact, canonicalFuncApp, pair}
-use Rattle.semantics.specs.Types.{Core, with-pairs, with-added, with-met, marked, merge, joinRoots, join, drainPairs, drain}
-use Rattle.semantics.specs.Types.{refineRoots, refine, refineParents, refineAll, insertFact, insertCanonical, concreteTypesOf}
-use Rattle.semantics.specs.Types.{impose, imposeAll}
+use Rattle.semantics.specs.Structure.{Fact, FuncApp, Pair, maxPairs, maxFuncApps, maxFacts, compareFact, compareFuncApp, canonicalFact}
+use Rattle.semantics.specs.Structure.{canonicalFuncApp, pair}
+use Rattle.semantics.specs.Types.{Core, with-pairs, with-added, with-met, marked, merge, joinRoots, join, drainPairs, drain, refineRoots}
+use Rattle.semantics.specs.Types.{refine, refineParents, refineAll, insertFact, insertCanonical, concreteTypesOf, impose, imposeAll}
 use Rattle.semantics.proofs.Functionality.{enter-cases}
 use Rattle.semantics.specs.Close.{Rewritten, enter, enterAll, rewriting}
 

@@ -16,10 +16,10 @@ use Rattle.signature.specs.Model.{Sig}
 use Rattle.semantics.specs.Structure.{Fact, PredApp, Var, Structure, compareFact, comparePredApp, compareVar, compareFuncApp, maxFuncApps}
 use Rattle.semantics.specs.Structure.{canonicalFact, canonicalPredApp, canonicalVar, empty}
 use Rattle.semantics.specs.Types.{Core}
-use Rattle.semantics.specs.Close.{Turn, CloseRun, Closed, round, rounds, roundsFrom, isNone, fuel, coreOf, canonicaliseRefs, withCore}
-use Rattle.semantics.specs.Close.{imposedAfter, closeRun, closeCauses, reportOf, afterClose, closeBy, close}
-use Rattle.semantics.specs.Valid.{Counts, countsOf, FactValid, PredAppValid, VarValid, FuncAppValid, OnRoot, Queue, Table, ValidStructure}
-use Rattle.semantics.specs.Valid.{Unreserved, Valid}
+use Rattle.semantics.specs.Close.{Turn, CloseRun, Closed, round, rounds, roundsFrom, isNone, fuel, coreOf, canonicaliseRefs, withCore, imposedAfter}
+use Rattle.semantics.specs.Close.{closeRun, closeCauses, reportOf, afterClose, closeBy, close}
+use Rattle.semantics.specs.Valid.{Counts, countsOf, FactValid, PredAppValid, VarValid, FuncAppValid, OnRoot, Queue, Table, ValidStructure, Unreserved}
+use Rattle.semantics.specs.Valid.{Valid}
 use Rattle.semantics.proofs.Orders.{fact-ordered, pred-app-ordered}
 use Rattle.semantics.proofs.Computes.{everything}
 use Rattle.semantics.proofs.Judged.{close-first}

@@ -20,12 +20,13 @@ use Rattle.semantics.specs.Structure.{Fact, FuncApp, PredApp, Pair, Structure, 
 use Rattle.semantics.specs.Types.{Core, with-pairs, with-added, with-met, marked, movedFacts, merge, joinRoots, join, drainPairs, drain}
 use Rattle.semantics.specs.Types.{concreteTypesOf, refineRoots, refine, refineParents, refineAll, insertFact, insertCanonical, impose, imposeAll}
 use Rattle.semantics.specs.Close.{Turn, Pass, drained, drainPass, rewrote, functionalityPass, typed, typingPass, demands, passes, runPasses, round}
-use Rattle.semantics.specs.Close.{Rounds, isNone, lastRound, oneMore, roundsFrom, rounds, fuel, Closed, coreOf, CloseRun, imposedAfter}
-use Rattle.semantics.specs.Close.{closeRun, reportOf, afterClose, closeBy, close, turn}
+use Rattle.semantics.specs.Close.{Rounds, isNone, lastRound, oneMore, roundsFrom, rounds, fuel, Closed, coreOf, CloseRun, imposedAfter, closeRun}
+use Rattle.semantics.specs.Close.{reportOf, afterClose, closeBy, close, turn}
 use Rattle.semantics.specs.Valid.{Valid}
 use Rattle.semantics.proofs.Judged.{close-first}
-use Rattle.validity.specs.Unlimited.{imposeBy, imposeAllBy, imposedBy, typingBy, PassBy, passesBy, runPassesBy, roundBy, roundsFromBy, roundsBy, ranBy, worksUnmet, limited}
-use Rattle.validity.specs.Unlimited.{notedIfOver, insertAlways, works, ranFree, unlimited, moment, elevenAt, closeOrEleven}
+use Rattle.validity.specs.Unlimited.{imposeBy, imposeAllBy, imposedBy, typingBy, PassBy, passesBy, runPassesBy, roundBy, roundsFromBy, roundsBy}
+use Rattle.validity.specs.Unlimited.{ranBy, worksUnmet, limited, notedIfOver, insertAlways, works, ranFree, unlimited, moment, elevenAt}
+use Rattle.validity.specs.Unlimited.{closeOrEleven}
 use Rattle.validity.proofs.Closing.{close-fuel}
 
 -- What merges and refinements keep: the number that is met, and no more facts than there were.

@@ -12,8 +12,8 @@ use Rattle.ids.specs.Table.{present, placed}
 use Rattle.signature.specs.Model.{Sig}
 use Rattle.semantics.specs.Structure.{Fact, FuncApp, PredApp, Structure, compareFact, canonicalFact, maxFacts}
 use Rattle.semantics.specs.Types.{Core, with-added, with-met, concreteTypesOf, refineAll}
-use Rattle.semantics.specs.Close.{Turn, Pass, drainPass, functionalityPass, typed, demands, Rounds, isNone, lastRound, oneMore}
-use Rattle.semantics.specs.Close.{Closed, coreOf, CloseRun, closeBy, reportOf, afterClose, turn}
+use Rattle.semantics.specs.Close.{Turn, Pass, drainPass, functionalityPass, typed, demands, Rounds, isNone, lastRound, oneMore, Closed, coreOf}
+use Rattle.semantics.specs.Close.{CloseRun, closeBy, reportOf, afterClose, turn}
 
 module _ (insert : Fact → Core → Core) where
   -- `impose`
