@@ -21,7 +21,6 @@ use Rattle.semantics.specs.Close.{CloseRun, imposedAfter, closeRun, reportOf, a
 use Rattle.semantics.specs.Calls as calls
 use Rattle.semantics.specs.Calls.{machine, answers, closed, rule, closeRule, leaves, acceptance, refusal, stepBy, step}
 use Rattle.semantics.proofs.Judged.{close-first}
-use Rattle.semantics.proofs.Parts.{rewritten, asked, typedAll, round-parts}
 use Rattle.apps.specs.declared.FuncApps.{FuncApps}
 use Rattle.apps.specs.View.{funcAppsOf}
 use Rattle.merging.specs.declared.Core.{Core}
@@ -58,63 +57,6 @@ pub grew-more : (before after : types.Core) (k l : ℕ) → after .merges ≡ k 
     → grew before after ≡ ltb 0 (k + l)
 unfolding grew
 grew-more before after k l p q = ltb-more (before .merges + before .added) (k + l) (after .merges + after .added) (omega arith)
-
--- A round.
-
-module _ (g : Sig) (preds : List PredApp) (apps : List FuncApp) (before : Core) (d t : Worked) (r : code.Rewritten) where
-  -- the core after the drain, with the pairs that `functionality` queued
-  abbrev pub between : Core
-  between = record {
-    unification = d .core .unification;
-    marks = d .core .marks;
-    facts = d .core .facts;
-    pairs = r .pairs;
-    met = d .core .met;
-  }
-
-  module _ (drains : Passes before d maxPairs drain) (rewrites : rewrittenOf r ≡ enterAll (linksOf (d .core .unification)) apps nothing)
-      (demanded : Passes between t allDemands (imposeAll (demands g (funcAppsOf (r .«func_apps»)) preds))) where
-    module _ (m a : ℕ) where
-      abbrev start : types.Core
-      start = coreOf before m a
-
-      drained : coreOf (d .core) (d .merges + m) (d .added + a) ≡ drain start
-      drained = drains .is m a
-
-      rewrote : rewrittenOf r ≡ rewritten apps start
-      unfolding rewritten
-      rewrote = rewrites ∙ (λ i. enterAll (drained i .links) apps nothing)
-
-      asks : coreOf between (d .merges + m) (d .added + a) ≡ asked apps start
-      unfolding asked
-      asks = λ i. with-pairs (rewrote i .pairs) (drained i)
-
-      typed : coreOf (t .core) ((d .merges + t .merges) + m) ((d .added + t .added) + a) ≡ typedAll g preds apps start
-      unfolding typedAll
-      typed =
-          counts (t .core) {n = t .merges + (d .merges + m)} {b = t .added + (d .added + a)} (omega arith) (omega arith)
-          ∙ demanded .is (d .merges + m) (d .added + a)
-          ∙ (λ i. imposeAll (demands g (rewrote i .apps) preds) (asks i))
-
-      merged : ltb 0 (d .merges) ≡ ltb m (drain start .merges)
-      merged = sym (ltb-more m (d .merges) (d .merges + m) refl) ∙ (λ i. ltb m (drained i .merges))
-
-      grows : ltb 0 (t .merges + t .added) ≡ grew (asked apps start) (typedAll g preds apps start)
-      grows =
-          sym (grew-more (coreOf between (d .merges + m) (d .added + a)) (coreOf (t .core) ((d .merges + t .merges) + m) ((d .added + t .added) + a))
-          (t .merges) (t .added) (omega arith) (omega arith))
-          ∙ (λ i. grew (asks i) (typed i))
-
-    pub round-is : (worked : Bool) → worked ≡ ((ltb 0 (d .merges) || r .queued) || ltb 0 (t .merges + t .added))
-        → Round g preds apps before
-        (record { core = t .core; «func_apps» = r .«func_apps»; merges = d .merges + t .merges; added = d .added + t .added; worked = worked })
-    round-is worked e = record {
-      is = λ m a.
-          (λ i. turn (typed m a i) (rewrote m a i .apps) ((e ∙ (λ j. (merged m a j || rewrote m a j .queued) || grows m a j)) i))
-          ∙ sym (round-parts g preds apps (coreOf before m a));
-      merges-most = omega (arith, drains .merges-most, demanded .merges-most);
-      added-most = omega (arith, drains .added-most, demanded .added-most);
-    }
 
 -- The rounds.
 

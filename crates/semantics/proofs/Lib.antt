@@ -7,7 +7,6 @@ pub mod Judged
 pub mod Imposed
 pub mod Functionality
 pub mod Queues
-pub mod Parts
 pub mod Stages
 pub mod Pairs
 pub mod Computes

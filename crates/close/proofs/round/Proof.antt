@@ -3,7 +3,7 @@ use mathlib.Core.Path.{_∙_}
 use mathlib.Core.Bool.{_||_}
 use Rattle.signature.specs.Model.{sigOf}
 use Rattle.apps.specs.View.{funcAppsOf, predAppsOf}
-use Rattle.close.proofs.Laws.{round-is}
+use Rattle.close.proofs.Passes.{round-is}
 use borrow.Author.Needs.{needs}
 use Rattle.close.proofs.round.Statement.{statement}
 use Rattle.close.proofs.round.Tie as tie
