@@ -1,6 +1,6 @@
--- Laws of a round, of the rounds and of a close, over what the passes leave.
+-- Laws of the rounds and of a close, over what the passes of a round leave (Passes.antt).
 use mathlib.Core.Path.{_≡_, refl, sym, ap, _∙_}
-use mathlib.Core.Bool.{Bool, true, false, _&&_, _||_}
+use mathlib.Core.Bool.{Bool, true, false, _&&_}
 use mathlib.Core.List.{List}
 use mathlib.Core.Option.{Option, none, some}
 use Prim.Native.Nat.{ℕ, zero, suc, _+_, _*_, _-_, _≤_, _<_}
@@ -9,29 +9,23 @@ use lib.Dec.{eqb, ltb}
 use borrow.Author.Tests.{lt-ltb, le-ltb, ltb-true, ltb-false, ne-eqb}
 use Rattle.ids.specs.Answers.{decided}
 use Rattle.ids.proofs.Judging.{decided-refuses, decided-accepts}
-use Rattle.unification.specs.Roots.{maxEls, linksOf}
+use Rattle.unification.specs.Roots.{maxEls}
 use Rattle.signature.specs.Model.{Sig}
 use Rattle.semantics.specs.Structure as model
-use Rattle.semantics.specs.Structure.{FuncApp, PredApp, maxPairs, maxFacts}
+use Rattle.semantics.specs.Structure.{FuncApp, PredApp, maxFacts}
 use Rattle.semantics.specs.Types as types
-use Rattle.semantics.specs.Types.{drain, imposeAll, grew, with-pairs}
+use Rattle.semantics.specs.Types.{imposeAll, grew}
 use Rattle.semantics.specs.Close as closing
-use Rattle.semantics.specs.Close.{fuel, enterAll, demands, turn, rounds-made, isNone, lastRound, oneMore, roundsFrom}
-use Rattle.semantics.specs.Close.{CloseRun, imposedAfter, closeRun, reportOf, afterClose}
+use Rattle.semantics.specs.Close.{fuel, turn, rounds-made, isNone, lastRound, oneMore, roundsFrom, CloseRun, imposedAfter, closeRun, reportOf}
+use Rattle.semantics.specs.Close.{afterClose}
 use Rattle.semantics.specs.Calls as calls
 use Rattle.semantics.specs.Calls.{machine, answers, closed, rule, closeRule, leaves, acceptance, refusal, stepBy, step}
 use Rattle.semantics.proofs.Judged.{close-first}
-use Rattle.apps.specs.declared.FuncApps.{FuncApps}
 use Rattle.apps.specs.View.{funcAppsOf}
 use Rattle.merging.specs.declared.Core.{Core}
-use Rattle.merging.specs.declared.Worked.{Worked}
-use Rattle.rewriting.specs.declared.Rewritten as code
 use Rattle.close.specs.declared.Turn.{Turn}
-use Rattle.merging.specs.View.{coreOf, metOf, Passes}
-use Rattle.rewriting.specs.View.{rewrittenOf, nothing}
-use Rattle.typing.specs.Bounds.{allDemands}
+use Rattle.merging.specs.View.{coreOf, metOf}
 use Rattle.close.specs.View.{Round}
-use Rattle.merging.proofs.Laws.{counts}
 
 -- The number first met.
 
