@@ -80,7 +80,7 @@ module _ (g : Sig) (preds : List PredApp) where
   unfolding roundsFrom
   goes k t h = rw (h, roundsFrom)
 
-  -- The rounds in progress: `count` ran and left `core` and `apps`, and `again` says whether another follows.
+  -- The rounds in progress: `count` ran and came to `core` and `apps`, and `again` says whether another follows.
   pub record Going (whole : closing.Rounds) (core : types.Core) (apps : List FuncApp) (again : Bool) (count : ℕ) : Type 0 where
     pub few : count ≤ suc fuel
     pub more : again ≡ true → (k : ℕ) → k + count ≡ fuel → after count (roundsFrom k g preds (closing.round g preds apps core)) ≡ whole
@@ -131,7 +131,7 @@ module _ (g : Sig) (preds : List PredApp) where
         regroup : (x : ℕ) → (count + 1) + x ≡ count + suc x
         regroup x = omega arith
 
--- A close: r is what the rounds came to, and w what the impositions left.
+-- A close: r is what the rounds came to, and w what the impositions come to after them.
 
 module _ (g : Sig) (s : model.Structure) (r : closing.Rounds) (w : types.Core)
     (ran : r ≡ closing.rounds g (s .pred-apps) (s .func-apps) (closing.coreOf s)) (imposed : w ≡ imposeAll (s .impositions) (r .core)) where
