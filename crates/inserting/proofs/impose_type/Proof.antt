@@ -1,6 +1,6 @@
 -- `impose_type` meets its contract.
 use mathlib.Core.Path.{_≡_, refl, sym, ap, _∙_}
-use mathlib.Core.Bool.{Bool, false, not, _&&_}
+use mathlib.Core.Bool.{false, not, _&&_}
 use mathlib.Core.List.{List, [], _∷_, _++_}
 use lib.ListN.{length}
 use lib.Dec.{leb}
@@ -19,7 +19,7 @@ use Rattle.unification.specs.Roots.{linksOf}
 use Rattle.signature.specs.Model.{Sig, sigOf}
 use Rattle.semantics.specs.Structure as model
 use Rattle.semantics.specs.Structure.{fact, maxImpositions, canonicalFact, with-impositions}
-use Rattle.semantics.specs.Calls.{isImposed, impositionCauses, withImposition, impose-type, says, machine, impositionRule, rule, acceptance}
+use Rattle.semantics.specs.Calls.{isImposed, impositionCauses, withImposition, impose-type, says, impositionRule, rule, acceptance}
 use Rattle.semantics.proofs.Judged.{step-refuses}
 use Rattle.facts.specs.View.{factOf, givenFact, impositionsOf}
 use Rattle.structure.specs.View.{structureOf}

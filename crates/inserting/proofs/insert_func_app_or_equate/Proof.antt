@@ -1,6 +1,6 @@
 -- `insert_func_app_or_equate` meets its contract.
 use mathlib.Core.Path.{_≡_, ap, _∙_}
-use mathlib.Core.Bool.{Bool, false, not, _||_}
+use mathlib.Core.Bool.{false, not, _||_}
 use mathlib.Core.List.{List, [], _∷_}
 use lib.ListN.{length}
 use Rattle.ids.specs.Answers.{Cause, _if_, malformed, undeclared, reserved, noRoom}
