@@ -5,14 +5,14 @@ use mathlib.Core.List.{[], _∷_}
 use mathlib.Core.Option.{Option, none, some}
 use Prim.Native.Nat.{ℕ, _+_, _≤_, _<_}
 use native.Mathlib.Omega.{arith}
-use Rattle.ids.specs.Answers.{Outcome, outcome, accepted, refused, refusing, accepting, _if_}
-use Rattle.ids.proofs.Judging.{NoneApplies, decided-by, refused-after}
+use Rattle.ids.specs.Answers.{Outcome, outcome, accepted, refusing, accepting, _if_}
+use Rattle.ids.proofs.Judging.{NoneApplies, decided-by}
 use Rattle.ids.proofs.Sorted.{All, Sorted, no-test}
 use Rattle.signature.specs.Model.{Sig}
 use Rattle.semantics.specs.Structure.{Structure, compareFuncApp, with-flags}
 use Rattle.semantics.specs.Types.{Core, imposeAll}
-use Rattle.semantics.specs.Close.{Rounds, rounds, fuel, Closed, coreOf, canonicaliseRefs, withCore, CloseRun, imposedAfter, closeRun}
-use Rattle.semantics.specs.Close.{reportOf, afterClose, closeCauses, closeBy, close}
+use Rattle.semantics.specs.Close.{Rounds, rounds, fuel, Closed, coreOf, canonicaliseRefs, withCore, CloseRun, imposedAfter, closeRun, reportOf}
+use Rattle.semantics.specs.Close.{afterClose, closeCauses, closeBy, close}
 use Rattle.semantics.specs.Calls as calls
 use Rattle.semantics.specs.Calls.{closed, Machine, machine, Step, closeRule, acceptance, leaves, settledBy}
 use Rattle.semantics.proofs.Counts.{roots}
@@ -31,43 +31,36 @@ unmet c = go (c .core .met)
     go none h = refl
     go (some n) h = no-test refl (h .0)
 
--- an accepted close, which answered a
-pub record AcceptedClose (c : CloseRun) (s : Structure) (a : Closed) (v : Structure) : Type 0 where
+-- an accepted close, which answered a: it met no number, and v is its effect
+pub record AcceptedClose {X : Type 0} (c : CloseRun) (a : Closed) (effect v : X) : Type 0 where
   pub met : c .core .met ≡ none
   pub answer : a ≡ reportOf c
-  pub after : v ≡ afterClose c s
+  pub after : v ≡ effect
 
-pub record ClosedStep (c : CloseRun) (m : Machine) (a : Closed) (v : Machine) : Type 0 where
-  pub met : c .core .met ≡ none
-  pub answer : a ≡ reportOf c
-  pub after : v ≡ machine (m .sig) (with-flags true (not (a .changed)) (afterClose c (m .structure)))
+pub accepted-close : (g : Sig) (s : Structure) (a : Closed) → close g s .answer ≡ accepted a
+    → AcceptedClose (closeRun g s) a (afterClose (closeRun g s) s) (close g s .after)
+unfolding close closeBy outcome
+accepted-close g s a =
+    decided-by (λ (o : Outcome Closed Structure). o .answer ≡ accepted a → AcceptedClose run a (afterClose run s) (o .after)) (closeCauses run)
+    (refusing s) (accepting (reportOf run) (afterClose run s)) (λ n q e. let z : _≡_ {A = ℕ} 0 1 = cc in absurd (omega arith))
+    (λ none-applies e. record { met = unmet run none-applies; answer = cc; after = refl })
+  where
+    run : CloseRun
+    run = closeRun g s
 
-module _ (g : Sig) (s : Structure) where
-  pub accepted-close : (a : Closed) → close g s .answer ≡ accepted a → AcceptedClose (closeRun g s) s a (close g s .after)
-  unfolding close closeBy outcome
-  accepted-close a =
-      decided-by (λ (o : Outcome Closed Structure). o .answer ≡ accepted a → AcceptedClose run s a (o .after)) (closeCauses run) (refusing s)
-      (accepting (reportOf run) (afterClose run s)) (λ n q e. let z : _≡_ {A = ℕ} 0 1 = cc in absurd (omega arith))
-      (λ none-applies e. record { met = unmet run none-applies; answer = cc; after = refl })
-    where
-      run : CloseRun
-      run = closeRun g s
+-- what the call leaves, having answered a
+abbrev pub closedMachine : Machine → Closed → Machine
+closedMachine m a = machine (m .sig) (with-flags true (not (a .changed)) (afterClose (closeRun (m .sig) (m .structure)) (m .structure)))
 
-  -- a refused one leaves all as it was
-  pub refused-close : (k : ℕ) → close g s .answer ≡ refused k → close g s .after ≡ s
-  unfolding close closeBy
-  refused-close = refused-after s (afterClose (closeRun g s) s) (reportOf (closeRun g s)) (closeCauses (closeRun g s))
-
--- the same of the call
 pub closed-step : (m : Machine) (a : Closed) → calls.step calls.close m .answer ≡ closed a
-    → ClosedStep (closeRun (m .sig) (m .structure)) m a (calls.step calls.close m .after)
+    → AcceptedClose (closeRun (m .sig) (m .structure)) a (closedMachine m a) (calls.step calls.close m .after)
 unfolding calls.rule closeRule acceptance leaves settledBy
 closed-step m a =
-    step-by calls.close m (λ (t : Step). t .answer ≡ closed a → ClosedStep run m a (t .after))
+    step-by calls.close m (λ (t : Step). t .answer ≡ closed a → AcceptedClose run a (closedMachine m a) (t .after))
     (λ n q e. let z : _≡_ {A = ℕ} 0 1 = cc in absurd (omega arith))
     (λ none-applies e.
     let same : a ≡ reportOf run = cc in
-    record { met = unmet run none-applies; answer = same; after = ap (λ (x : Closed). machine (m .sig) (with-flags true (not (x .changed)) (afterClose run (m .structure)))) (sym same) })
+    record { met = unmet run none-applies; answer = same; after = ap (closedMachine m) (sym same) })
   where
     run : CloseRun
     run = closeRun (m .sig) (m .structure)

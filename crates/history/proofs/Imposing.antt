@@ -15,8 +15,8 @@ use Rattle.ids.proofs.Sorted.{All, placed-there, placed-all}
 use Rattle.unification.specs.Roots.{rootOf}
 use Rattle.unification.proofs.Laws.{root-root}
 use Rattle.semantics.specs.Structure.{Fact, compareFact, canonicalFact, maxFacts, pair}
-use Rattle.semantics.specs.Types.{Core, with-pairs, with-added, with-met, marked, concreteTypesOf, refineRoots, refine, refineParents}
-use Rattle.semantics.specs.Types.{refineAll, insertFact, insertCanonical, impose, imposeAll}
+use Rattle.semantics.specs.Types.{Core, with-pairs, with-added, with-met, marked, concreteTypesOf, refineRoots, refine, refineParents, refineAll}
+use Rattle.semantics.specs.Types.{insertFact, insertCanonical, impose, imposeAll}
 use Rattle.semantics.proofs.Orders.{fact-ordered}
 use Rattle.semantics.proofs.Cases.{and-first}
 use Rattle.history.proofs.Tables.{present-stays}

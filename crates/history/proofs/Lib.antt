@@ -5,6 +5,7 @@ pub mod Drain
 pub mod Tables
 pub mod Functionality
 pub mod Imposing
+pub mod Unjoined
 pub mod Passes
 pub mod Rounds
 pub mod Closing
@@ -13,7 +14,6 @@ pub mod Classes
 pub mod Histories
 pub mod Conservation
 pub mod Images
-pub mod Unjoined
 pub mod SecondClose
 pub mod Unchanged
 pub mod Worked

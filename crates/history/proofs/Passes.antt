@@ -1,5 +1,6 @@
--- The passes of a round, where no element is marked: the laws of each in one record, and of a list of them by recursion.
-use mathlib.Core.Path.{_≡_, refl, sym, subst, ap, ap₂, _∙_}
+-- The passes of a round: the laws of each in one record, and of a list of them by recursion.
+use mathlib.Core.Path.{_≡_, refl, sym, subst, subst₂, ap, ap₂, _∙_}
+use mathlib.Core.Logic.{_⊎_, inl, inr}
 use mathlib.Core.Bool.{Bool, false, _||_, or-false}
 use mathlib.Core.List.{List, [], _∷_}
 use mathlib.Core.Option.{none}
@@ -16,18 +17,20 @@ use Rattle.signature.specs.Model.{Sig}
 use Rattle.semantics.specs.Structure.{Fact, FuncApp, PredApp, Pair, compareFuncApp, canonicalFuncApp}
 use Rattle.semantics.specs.Types as types
 use Rattle.semantics.specs.Types.{Core, drain, imposeAll, grew}
-use Rattle.semantics.specs.Close.{Rewritten, enterAll, demands, Turn, reports, drained, drainPass, rewrote, functionalityPass, typed}
-use Rattle.semantics.specs.Close.{typingPass, Pass, passes, runPasses, round, rewriting, turn}
-use Rattle.semantics.proofs.Queues.{drain-pairs}
+use Rattle.semantics.specs.Close.{Rewritten, rewriting, enterAll, demands, Turn, turn, reports, drained, drainPass, rewrote, functionalityPass, typed}
+use Rattle.semantics.specs.Close.{typingPass, Pass, passes, runPasses, round}
 use Rattle.semantics.proofs.Cases.{or-first, or-second}
+use Rattle.semantics.proofs.Counts.{roots}
+use Rattle.semantics.proofs.Functionality.{enterAll-all, enterAll-sorted, enterAll-pairs, enterAll-none}
+use Rattle.semantics.proofs.Queues.{drain-pairs}
+use Rattle.semantics.proofs.Stages.{Stage, Along}
 use Rattle.history.proofs.Tables.{all-of}
 use Rattle.history.proofs.Relation.{Equivalence, Rooted, Respects}
-use Rattle.semantics.proofs.Counts.{roots}
-use Rattle.history.proofs.Drain.{RootsAndMerges, HoldsOfPair, Inside, Unmarked, Apart, Joined, drain-law, drain-counted, drain-met, drain-none}
+use Rattle.history.proofs.Drain.{RootsAndMerges, HoldsOfPair, Inside, Unmarked, Apart, Joined, drain-law, drain-counted, drain-none}
 use Rattle.history.proofs.Drain.{drain-grows}
-use Rattle.history.proofs.Functionality.{Canon, canon-image, enterAll-on, enterAll-back, enterAll-all, enterAll-sorted}
-use Rattle.history.proofs.Functionality.{enterAll-pairs, enterAll-none, settled-same}
-use Rattle.history.proofs.Imposing.{OnlyFactsGrew, Stored, insertAll, insertAll-idle, plain-grown, plain-there, unmarked-inserts}
+use Rattle.history.proofs.Functionality.{Canon, canon-image, enterAll-on, enterAll-back, settled-same}
+use Rattle.history.proofs.Imposing.{OnlyFactsGrew, plain-grown, unmarked-inserts, impose-inserts, imposeAll-counts}
+use Rattle.history.proofs.Unjoined.{Safe, OnRoots, imposed-safe, safe-idle, safe-moved, insertAll-roots}
 
 -- what a partition and a claim on applications say of what a round works on
 pub record HoldsOfCore (R : ℕ → ℕ → Type 0) (S : FuncApp → Type 0) (w : Core) (xs : List FuncApp) : Type 0 where
@@ -51,29 +54,63 @@ pub record Sound (w : Core) (xs : List FuncApp) (v : Core) (ys : List FuncApp) :
 pub record Passed (n total : ℕ) (w : Core) (xs : List FuncApp) (v : Core) (ys : List FuncApp) : Type 1 where
   pub ready : Ready n total v ys
   pub sound : Sound w xs v ys
-  -- merges and a number met only add up
-  pub more : w .merges ≤ v .merges
-  pub met : v .met ≡ none → w .met ≡ none
 
--- nothing is left to do
+-- nothing remains to do
 pub record NoWork (g : Sig) (preds : List PredApp) (t : Turn) : Type 0 where
   pub pairs : t .core .pairs ≡ []
   pub sorted : Sorted compareFuncApp (t .apps)
   pub canon : All (Canon (t .core .links)) (t .apps)
   pub typed : imposeAll (demands g (t .apps) preds) (t .core) ≡ t .core
 
--- the laws of a pass
-pub record Lawful (p : Pass) : Type 1 where
-  pub passed : (n total : ℕ) (g : Sig) (preds : List PredApp) (t : Turn) → Ready n total (t .core) (t .apps)
-      → Passed n total (t .core) (t .apps) (p g preds t .core) (p g preds t .apps)
-  -- where nothing is left to do it does nothing, and says so
-  pub idle : (g : Sig) (preds : List PredApp) (t : Turn) → NoWork g preds t → p g preds t ≡ t
+-- The stages of a round that begins with the core w.
+
+abbrev pub Begun : Core → Stage
+Begun w t = t .core ≡ w
+
+-- a pair of two roots that waited was merged
+abbrev pub Merges : Core → Stage
+Merges w t = (p : Pair) (ps : List Pair) → w .pairs ≡ p ∷ ps → Apart (w .links) p → w .merges < t .core .merges
+
+pub record AfterDrain (w : Core) (t : Turn) : Type 0 where
+  pub merges : Merges w t
+  pub none : t .core .pairs ≡ []
+
+-- the table is rewritten, and a pair that was queued has two roots
+pub record AfterFunctionality (w : Core) (t : Turn) : Type 0 where
+  pub merges : Merges w t
+  pub sorted : Sorted compareFuncApp (t .apps)
+  pub canon : All (Canon (t .core .links)) (t .apps)
+  pub apart : All (Apart (t .core .links)) (t .core .pairs)
+  pub idle : t .worked ≡ false → t .core .pairs ≡ []
+
+-- and what is demanded is stored unless a number was met, so that to impose it again does nothing
+pub record RoundDone (g : Sig) (preds : List PredApp) (w : Core) (t : Turn) : Type 0 where
+  pub table : AfterFunctionality w t
+  pub safe : t .core .met ≡ none → All (Safe (t .core .links) (t .core .marks) (t .core .facts)) (demands g (t .apps) preds)
+
+-- The laws of a pass that leads from one stage to another.
+module _ (g : Sig) (preds : List PredApp) where
+  -- imposing merges nothing, since no element is marked or since the pass merges nothing
+  abbrev pub Quiet : Pass → Turn → Type 0
+  Quiet p t = Unmarked (t .core .marks) ⊎ (p g preds t .core .merges ≡ t .core .merges)
+
+  pub record Lawful (p : Pass) (A B : Stage) : Type 1 where
+    -- where no element is marked, the classes are as sound as they were
+    pub passed : (n total : ℕ) (t : Turn) → Ready n total (t .core) (t .apps)
+        → Passed n total (t .core) (t .apps) (p g preds t .core) (p g preds t .apps)
+    pub leads : (t : Turn) → Quiet p t → A t → B (p g preds t)
+    -- where nothing remains to do it does nothing, and says so
+    pub idle : (t : Turn) → NoWork g preds t → p g preds t ≡ t
+    -- merges only add up
+    pub more : (t : Turn) → t .core .merges ≤ p g preds t .core .merges
+    -- where it merges nothing, facts stay on roots
+    pub rooted : (t : Turn) → p g preds t .core .merges ≡ t .core .merges → OnRoots (t .core .links) (t .core .facts)
+        → OnRoots (p g preds t .core .links) (p g preds t .core .facts)
 
 -- A list of passes.
 
 pub passed-none : (n total : ℕ) (w : Core) (xs : List FuncApp) → Ready n total w xs → Passed n total w xs w xs
-passed-none n total w xs r =
-    record { ready = r; sound = record { on = λ R S q law f. f; back = λ R S q law f. f }; more = le-refl (w .merges); met = λ e. e }
+passed-none n total w xs r = record { ready = r; sound = record { on = λ R S q law f. f; back = λ R S q law f. f } }
 
 pub sound-then : {w v u : Core} {xs ys zs : List FuncApp} → Sound w xs v ys → Sound v ys u zs → Sound w xs u zs
 sound-then a b = record {
@@ -83,29 +120,63 @@ sound-then a b = record {
 
 pub passed-then : {n total : ℕ} {w v u : Core} {xs ys zs : List FuncApp} → Passed n total w xs v ys → Passed n total v ys u zs
     → Passed n total w xs u zs
-passed-then a b = record {
-  ready = b .ready;
-  sound = sound-then (a .sound) (b .sound);
-  more = le-trans (a .more) (b .more);
-  met = λ e. a .met (b .met e);
-}
-
-abbrev pub AllLawful : List Pass → Type 1
-AllLawful [] = Unit {1}
-AllLawful (p ∷ ps) = Lawful p × AllLawful ps
+passed-then a b = record { ready = b .ready; sound = sound-then (a .sound) (b .sound) }
 
 module _ (g : Sig) (preds : List PredApp) where
-  pub run-passed : (n total : ℕ) (ps : List Pass) → AllLawful ps → (t : Turn) → Ready n total (t .core) (t .apps)
-      → Passed n total (t .core) (t .apps) (runPasses ps g preds t .core) (runPasses ps g preds t .apps)
-  unfolding runPasses
-  run-passed n total [] l t r = passed-none n total (t .core) (t .apps) r
-  run-passed n total (p ∷ ps) l t r =
-      let a = l .0 .passed n total g preds t r in passed-then a (run-passed n total ps (l .1) (p g preds t) (a .ready))
+  abbrev AllLawful : List Pass → Stage → Stage → Type 1
+  AllLawful = Along (Lawful g preds)
 
-  pub run-idle : (ps : List Pass) → AllLawful ps → (t : Turn) → NoWork g preds t → runPasses ps g preds t ≡ t
+  run-idle : (ps : List Pass) (A B : Stage) → AllLawful ps A B → (t : Turn) → NoWork g preds t → runPasses ps g preds t ≡ t
   unfolding runPasses
-  run-idle [] l t r = refl
-  run-idle (p ∷ ps) l t r = ap (runPasses ps g preds) (l .0 .idle g preds t r) ∙ run-idle ps (l .1) t r
+  run-idle [] A B l t r = refl
+  run-idle (p ∷ ps) A C l t r = ap (runPasses ps g preds) (l .1 .idle t r) ∙ run-idle ps (l .0) C (l .2) t r
+
+  run-more : (ps : List Pass) (A B : Stage) → AllLawful ps A B → (t : Turn) → t .core .merges ≤ runPasses ps g preds t .core .merges
+  unfolding runPasses
+  run-more [] A B l t = le-refl (t .core .merges)
+  run-more (p ∷ ps) A C l t = le-trans (l .1 .more t) (run-more ps (l .0) C (l .2) (p g preds t))
+
+  -- where no element is marked
+  module _ (n total : ℕ) where
+    run-passed : (ps : List Pass) (A B : Stage) → AllLawful ps A B → (t : Turn) → Ready n total (t .core) (t .apps)
+        → Passed n total (t .core) (t .apps) (runPasses ps g preds t .core) (runPasses ps g preds t .apps)
+    unfolding runPasses
+    run-passed [] A B l t r = passed-none n total (t .core) (t .apps) r
+    run-passed (p ∷ ps) A C l t r =
+        let a = l .1 .passed n total t r in passed-then a (run-passed ps (l .0) C (l .2) (p g preds t) (a .ready))
+
+    run-leads : (ps : List Pass) (A B : Stage) → AllLawful ps A B → (t : Turn) → Ready n total (t .core) (t .apps) → A t → B (runPasses ps g preds t)
+    unfolding runPasses
+    run-leads [] A B l t r h = subst (λ (C : Stage). C t) l h
+    run-leads (p ∷ ps) A C l t r h =
+        run-leads ps (l .0) C (l .2) (p g preds t) (l .1 .passed n total t r .ready) (l .1 .leads t (inl (r .plain)) h)
+
+  -- where nothing is merged
+  abbrev Still : List Pass → Turn → Type 0
+  Still ps t = runPasses ps g preds t .core .merges ≡ t .core .merges
+
+  still-both : (p : Pass) (ps : List Pass) (A B C : Stage) → Lawful g preds p A B → AllLawful ps B C → (t : Turn) → Still (p ∷ ps) t
+      → (p g preds t .core .merges ≡ t .core .merges) × Still ps (p g preds t)
+  unfolding runPasses
+  still-both p ps A B C a l t e =
+      let m = a .more t in
+      let k = run-more ps B C l (p g preds t) in
+      (omega (arith, m, k, e), omega (arith, m, k, e))
+
+  run-still : (ps : List Pass) (A B : Stage) → AllLawful ps A B → (t : Turn) → Still ps t → A t → B (runPasses ps g preds t)
+  unfolding runPasses
+  run-still [] A B l t e h = subst (λ (C : Stage). C t) l h
+  run-still (p ∷ ps) A C l t e h =
+      let both = still-both p ps A (l .0) C (l .1) (l .2) t e in
+      run-still ps (l .0) C (l .2) (p g preds t) (both .1) (l .1 .leads t (inr (both .0)) h)
+
+  run-rooted : (ps : List Pass) (A B : Stage) → AllLawful ps A B → (t : Turn) → Still ps t → OnRoots (t .core .links) (t .core .facts)
+      → OnRoots (runPasses ps g preds t .core .links) (runPasses ps g preds t .core .facts)
+  unfolding runPasses
+  run-rooted [] A B l t e h = h
+  run-rooted (p ∷ ps) A C l t e h =
+      let both = still-both p ps A (l .0) C (l .1) (l .2) t e in
+      run-rooted ps (l .0) C (l .2) (p g preds t) (both .1) (l .1 .rooted t (both .0) h)
 
 -- a report of no work by a pass that left all as it was
 reports-none : (t : Turn) (w : Core) (apps : List FuncApp) (work : Bool) → w ≡ t .core → apps ≡ t .apps → work ≡ false → reports w apps work t ≡ t
@@ -134,26 +205,31 @@ module _ (n total : ℕ) (t : Turn) (r : Ready n total (t .core) (t .apps)) wher
       };
       back = λ R S q s f. let a = law .back R q (f .rooted) in record { rooted = a .0; pairs = a .1; apps = f .apps };
     };
-    more = drain-counted (t .core) .grew;
-    met = λ e. sym (drain-met (t .core)) ∙ e;
   }
 
-pub drain-lawful : Lawful drainPass
+drain-lawful : (g : Sig) (preds : List PredApp) (w : Core) → Lawful g preds drainPass (Begun w) (AfterDrain w)
 unfolding drainPass drained
-drain-lawful = record {
-  passed = λ n total g preds t r. drain-passed n total t r;
-  idle = λ g preds t r.
-      let w = t .core in
-      let e : drain w ≡ w = drain-none w (r .pairs) ∙ (λ i. types.with-pairs (sym (r .pairs) i) w) in
-      reports-none t (drain w) (t .apps) (ltb (w .merges) (drain w .merges)) e refl
-      (ap (λ (v : Core). ltb (w .merges) (v .merges)) e ∙ le-ltb (w .merges) (w .merges) (le-refl (w .merges)));
+drain-lawful g preds w = record {
+  passed = drain-passed;
+  leads = λ t q h.
+      subst (λ (x : Core). AfterDrain x (drainPass g preds t)) h (record { merges = drain-grows (t .core); none = drain-pairs (t .core) });
+  idle = λ t r.
+      let v = t .core in
+      let e : drain v ≡ v = drain-none v (r .pairs) ∙ (λ i. types.with-pairs (sym (r .pairs) i) v) in
+      reports-none t (drain v) (t .apps) (ltb (v .merges) (drain v .merges)) e refl
+      (ap (λ (x : Core). ltb (v .merges) (x .merges)) e ∙ le-ltb (v .merges) (v .merges) (le-refl (v .merges)));
+  more = λ t. drain-counted (t .core) .grew;
+  rooted = λ t e h. subst (λ (x : Core). OnRoots (x .links) (x .facts)) (sym (drain-counted (t .core) .still e)) h;
 }
 
 -- `functionality`.
 
 module _ (t : Turn) where
-  abbrev pub rewritten : Rewritten
-  rewritten = enterAll (t .core .links) (t .apps) (rewriting [] (t .core .pairs) false)
+  abbrev begin : Rewritten
+  begin = rewriting [] (t .core .pairs) false
+
+  abbrev rewritten : Rewritten
+  rewritten = enterAll (t .core .links) (t .apps) begin
 
   functionality-passed : (n total : ℕ) → Ready n total (t .core) (t .apps)
       → Passed n total (t .core) (t .apps) (types.with-pairs (rewritten .pairs) (t .core)) (rewritten .apps)
@@ -164,30 +240,39 @@ module _ (t : Turn) where
       record {
         ready = record {
           kept = record { formed = r .kept .formed; long = r .kept .long; sum = r .kept .sum };
-          pairs = enterAll-pairs (λ e. e < n) (Inside n) (λ p a b d. (a, b)) (t .core .links) (t .apps) _ low tt (r .pairs);
-          results = enterAll-all (λ x. x .result < n) (t .core .links) (t .apps) _ low tt;
+          pairs = enterAll-pairs (λ e. e < n) (Inside n) (λ p a b d. (a, b)) (t .core .links) (t .apps) begin low tt (r .pairs);
+          results = enterAll-all (λ x. x .result < n) (t .core .links) (t .apps) begin low tt;
           plain = r .plain;
         };
         sound = record {
           on = λ R S q s f.
-              let a = enterAll-on R S q s (t .core .links) (f .rooted) (t .apps) _ (record { apps = tt; pairs = f .pairs }) (f .apps) in
+              let a = enterAll-on R S q s (t .core .links) (f .rooted) (t .apps) begin (record { apps = tt; pairs = f .pairs }) (f .apps) in
               record { rooted = f .rooted; pairs = a .pairs; apps = a .apps };
           back = λ R S q s f.
-              let a = enterAll-back R S q s (t .core .links) (f .rooted) (t .apps) (rewriting [] (t .core .pairs) false)
-              (record { apps = f .apps; pairs = f .pairs }) in
+              let a = enterAll-back R S q s (t .core .links) (f .rooted) (t .apps) begin (record { apps = f .apps; pairs = f .pairs }) in
               record { rooted = f .rooted; pairs = a .0 .pairs; apps = a .1 };
         };
-        more = le-refl (t .core .merges);
-        met = λ e. e;
       }
 
-pub functionality-lawful : Lawful functionalityPass
+functionality-lawful : (g : Sig) (preds : List PredApp) (w : Core) → Lawful g preds functionalityPass (AfterDrain w) (AfterFunctionality w)
 unfolding functionalityPass rewrote
-functionality-lawful = record {
-  passed = λ n total g preds t r. functionality-passed t n total r;
-  idle = λ g preds t r.
+functionality-lawful g preds w = record {
+  passed = λ n total t r. functionality-passed t n total r;
+  leads = λ t q h.
+      let ls = t .core .links in
+      record {
+        merges = h .merges;
+        sorted = enterAll-sorted ls (t .apps) (begin t) tt;
+        canon = enterAll-all (Canon ls) ls (t .apps) (begin t) (all-of (λ x. canon-image ls x) (t .apps)) tt;
+        apart = enterAll-pairs (λ e. rootOf ls e ≡ e) (Apart ls) (λ p a b d z. d (sym a ∙ z ∙ b)) ls (t .apps) (begin t)
+            (all-of (λ x. root-root ls (x .result)) (t .apps)) tt (subst (All (Apart ls)) (sym (h .none)) tt);
+        idle = λ e. enterAll-none ls (t .apps) (begin t) (or-second (t .worked) (rewritten t .queued) e) .1 ∙ h .none;
+      };
+  idle = λ t r.
       ap (λ (x : Rewritten). rewrote x t) (settled-same (t .core .links) (t .core .pairs) false (t .apps) (r .sorted) (r .canon))
       ∙ reports-none t (t .core) (t .apps) false refl refl refl;
+  more = λ t. le-refl (t .core .merges);
+  rooted = λ t e h. h;
 }
 
 -- `typing`.
@@ -218,124 +303,94 @@ module _ (n total : ℕ) (w v : Core) (xs : List FuncApp) (grown : OnlyFactsGrew
         apps = f .apps;
       };
     };
-    more = omega (arith, grown .merges);
-    met = grown .met;
   }
 
 -- with no mark, imposing is that
 pub unmarked-grown : (fs : List Fact) (w : Core) → Unmarked (w .marks) → OnlyFactsGrew w (imposeAll fs w)
 unmarked-grown fs w u = plain-grown fs w (unmarked-inserts fs w u)
 
-abbrev imposed : Turn → List PredApp → Sig → Core
-imposed t preds g = imposeAll (demands g (t .apps) preds) (t .core)
-
 grew-none : (w v : Core) → v ≡ w → grew w v ≡ false
 unfolding grew
 grew-none w v e =
     let n = w .merges + w .added in ap (λ (x : Core). ltb n (x .merges + x .added)) e ∙ le-ltb n n (le-refl n)
 
-pub typing-lawful : Lawful typingPass
-unfolding typingPass typed
-typing-lawful = record {
-  passed = λ n total g preds t r.
-      grown-passed n total (t .core) (imposed t preds g) (t .apps) (unmarked-grown (demands g (t .apps) preds) (t .core) (r .plain)) r;
-  idle = λ g preds t r.
-      let w = imposed t preds g in reports-none t w (t .apps) (grew (t .core) w) (r .typed) refl (grew-none (t .core) w (r .typed));
-}
+module _ (g : Sig) (preds : List PredApp) where
+  abbrev asked : Turn → List Fact
+  asked t = demands g (t .apps) preds
 
-pub all-lawful : AllLawful passes
-unfolding passes
-all-lawful = (drain-lawful, (functionality-lawful, (typing-lawful, tt)))
+  abbrev imposed : Turn → Core
+  imposed t = imposeAll (asked t) (t .core)
 
--- The round.
+  -- what `typing` leaves where it merges nothing
+  typing-done : (w : Core) (t : Turn) → imposed t .merges ≡ t .core .merges → AfterFunctionality w t → RoundDone g preds w (typingPass g preds t)
+  unfolding typingPass typed
+  typing-done w t e h =
+      let grown = plain-grown (asked t) (t .core) (impose-inserts (asked t) (t .core) e) in
+      record {
+        table = record {
+          merges = λ p ps q two. omega (arith, grown .merges, h .merges p ps q two);
+          sorted = h .sorted;
+          canon = subst (λ ls. All (Canon ls) (t .apps)) (sym (grown .links)) (h .canon);
+          apart = subst₂ (λ (ls : List ℕ) (ps : List Pair). All (Apart ls) ps) (sym (grown .links)) (sym (grown .pairs)) (h .apart);
+          idle = λ q. grown .pairs ∙ h .idle (or-first (t .worked) (grew (t .core) (imposed t)) q);
+        };
+        safe = λ m.
+            safe-moved (sym (grown .links)) (sym (grown .marks)) (imposed t .facts) (asked t) (imposed-safe (asked t) (t .core) e m [] tt .1);
+      }
 
--- what a round leaves: its table is rewritten, a pair that it queued has two roots, and what it demands is stored unless a number was met
-pub record Left (g : Sig) (preds : List PredApp) (t : Turn) : Type 0 where
-  pub sorted : Sorted compareFuncApp (t .apps)
-  pub canon : All (Canon (t .core .links)) (t .apps)
-  pub apart : All (Apart (t .core .links)) (t .core .pairs)
-  pub stored : t .core .met ≡ none → All (Stored (t .core .links) (t .core .facts)) (demands g (t .apps) preds)
-  pub idle : t .worked ≡ false → t .core .pairs ≡ []
+  typing-lawful : (w : Core) → Lawful g preds typingPass (AfterFunctionality w) (RoundDone g preds w)
+  unfolding typingPass typed
+  typing-lawful w = record {
+    passed = λ n total t r. grown-passed n total (t .core) (imposed t) (t .apps) (unmarked-grown (asked t) (t .core) (r .plain)) r;
+    leads = λ t q. elim q [ inl u ↦ typing-done w t (unmarked-grown (asked t) (t .core) u .merges) | inr e ↦ typing-done w t e ];
+    idle = λ t r. reports-none t (imposed t) (t .apps) (grew (t .core) (imposed t)) (r .typed) refl (grew-none (t .core) (imposed t) (r .typed));
+    more = λ t. imposeAll-counts (asked t) (t .core);
+    rooted = λ t e h. subst (λ (x : Core). OnRoots (x .links) (x .facts)) (sym (impose-inserts (asked t) (t .core) e)) (insertAll-roots (asked t) (t .core) h);
+  }
 
--- `functionality` and `typing` after a drain, where imposing is plain insertion
-module _ (g : Sig) (preds : List PredApp) (t : Turn) (none : t .core .pairs ≡ []) where
-  -- what `typing` begins with
-  abbrev pub entered : Turn
-  entered = functionalityPass g preds t
+  -- The round.
 
-  module _ (plain : imposeAll (demands g (entered .apps) preds) (entered .core) ≡ insertAll (demands g (entered .apps) preds) (entered .core)) where
-    pub after-drain : Left g preds (typingPass g preds entered)
-    unfolding typingPass typed functionalityPass rewrote
-    after-drain =
-        let h = plain-grown (demands g (entered .apps) preds) (entered .core) plain in
-        record {
-          sorted = enterAll-sorted ls (t .apps) _ tt;
-          canon = subst (λ k. All (Canon k) (entered .apps)) (sym (h .links)) canon;
-          apart = subst (λ k. All (Apart k) (imposed entered preds g .pairs)) (sym (h .links))
-              (subst (All (Apart ls)) (sym (h .pairs)) apart);
-          stored = λ m. subst (λ k. All (Stored k (imposed entered preds g .facts)) (demands g (entered .apps) preds)) (sym (h .links))
-              (plain-there (demands g (entered .apps) preds) (entered .core) plain m);
-          idle = λ q. h .pairs ∙ enterAll-none ls (t .apps) _ (or-second (t .worked) _ (or-first (entered .worked) _ q)) .1 ∙ none;
-        }
-      where
-        ls : List ℕ
-        ls = t .core .links
+  all-lawful : (w : Core) → Along (Lawful g preds) passes (Begun w) (RoundDone g preds w)
+  unfolding passes
+  all-lawful w = (
+    AfterDrain w, drain-lawful g preds w, (
+      AfterFunctionality w, functionality-lawful g preds w, (RoundDone g preds w, typing-lawful w, refl),
+    ),
+  )
 
-        canon : All (Canon (t .core .links)) (rewritten t .apps)
-        canon = enterAll-all (Canon ls) ls (t .apps) _ (all-of (λ x. canon-image ls x) (t .apps)) tt
-
-        apart : All (Apart (t .core .links)) (rewritten t .pairs)
-        apart =
-            enterAll-pairs (λ e. rootOf ls e ≡ e) (Apart ls) (λ p a b d z. d (sym a ∙ z ∙ b)) ls (t .apps) _
-            (all-of (λ x. root-root ls (x .result)) (t .apps)) tt (subst (All (Apart ls)) (sym none) tt)
-
--- the same where no element is marked
-pub record Turned (n total : ℕ) (g : Sig) (preds : List PredApp) (t : Turn) : Type 0 where
-  pub ready : Ready n total (t .core) (t .apps)
-  pub left : Left g preds t
-
-module _ (n total : ℕ) (g : Sig) (preds : List PredApp) where
-  module _ (apps : List FuncApp) (w : Core) (r : Ready n total w apps) where
-    abbrev begun : Turn
-    begun = turn w apps false
-
-    pub round-turned : Turned n total g preds (round g preds apps w)
-    unfolding round runPasses passes
-    round-turned =
-        let t = drainPass g preds begun in
-        let v = functionalityPass g preds t in
-        let a = functionality-lawful .passed n total g preds t (drain-lawful .passed n total g preds begun r .ready) in
-        record {
-          ready = typing-lawful .passed n total g preds v (a .ready) .ready;
-          left = after-drain g preds t (unfold drainPass drained in drain-pairs w)
-              (unmarked-inserts (demands g (v .apps) preds) (v .core) (a .ready .plain));
-        }
-
-    pub round-passed : Passed n total w apps (round g preds apps w .core) (round g preds apps w .apps)
-    unfolding round
-    round-passed = run-passed g preds n total passes all-lawful begun r
-
-    -- a round that begins with a pair of two roots merges
-    pub round-merges : (p : Pair) (ps : List Pair) → w .pairs ≡ p ∷ ps → Apart (w .links) p → w .merges < round g preds apps w .core .merges
-    unfolding round runPasses passes
-    round-merges p ps e h =
-        let t = drainPass g preds begun in
-        let a = drain-lawful .passed n total g preds begun r in
-        let b = functionality-lawful .passed n total g preds t (a .ready) in
-        let c = typing-lawful .passed n total g preds (functionalityPass g preds t) (b .ready) in
-        let l : w .merges < t .core .merges = unfold drainPass drained in drain-grows w p ps e h in
-        omega (arith, l, b .more, c .more)
-
-  -- after a round that left no pair, the next does nothing
-  pub round-idle : (t : Turn) → Turned n total g preds t → t .core .met ≡ none → t .core .pairs ≡ []
-      → round g preds (t .apps) (t .core) ≡ turn (t .core) (t .apps) false
+  -- after a round that left no pair and met no number, another does nothing
+  pub round-idle : (xs : List FuncApp) (w : Core) → NoWork g preds (turn w xs false) → round g preds xs w ≡ turn w xs false
   unfolding round
-  round-idle t a m e =
-      run-idle g preds passes all-lawful (turn (t .core) (t .apps) false)
-      (record {
-        pairs = e;
-        sorted = a .left .sorted;
-        canon = a .left .canon;
-        typed = unmarked-inserts (demands g (t .apps) preds) (t .core) (a .ready .plain)
-            ∙ insertAll-idle (demands g (t .apps) preds) (t .core) (a .left .stored m);
-      })
+  round-idle xs w = run-idle g preds passes (Begun w) (RoundDone g preds w) (all-lawful w) (turn w xs false)
+
+  pub done-idle : (w : Core) (t : Turn) → RoundDone g preds w t → t .core .met ≡ none → t .core .pairs ≡ []
+      → round g preds (t .apps) (t .core) ≡ turn (t .core) (t .apps) false
+  done-idle w t d m e =
+      round-idle (t .apps) (t .core)
+      (record { pairs = e; sorted = d .table .sorted; canon = d .table .canon; typed = safe-idle (asked t) (t .core) (d .safe m) })
+
+  module _ (xs : List FuncApp) (w : Core) where
+    pub round-more : w .merges ≤ round g preds xs w .core .merges
+    unfolding round
+    round-more = run-more g preds passes (Begun w) (RoundDone g preds w) (all-lawful w) (turn w xs false)
+
+    -- where no element is marked
+
+    pub round-passed : (n total : ℕ) → Ready n total w xs → Passed n total w xs (round g preds xs w .core) (round g preds xs w .apps)
+    unfolding round
+    round-passed n total = run-passed g preds n total passes (Begun w) (RoundDone g preds w) (all-lawful w) (turn w xs false)
+
+    pub round-done : (n total : ℕ) → Ready n total w xs → RoundDone g preds w (round g preds xs w)
+    unfolding round
+    round-done n total r = run-leads g preds n total passes (Begun w) (RoundDone g preds w) (all-lawful w) (turn w xs false) r refl
+
+    -- where nothing is merged
+
+    pub still-done : round g preds xs w .core .merges ≡ w .merges → RoundDone g preds w (round g preds xs w)
+    unfolding round
+    still-done e = run-still g preds passes (Begun w) (RoundDone g preds w) (all-lawful w) (turn w xs false) e refl
+
+    pub still-rooted : round g preds xs w .core .merges ≡ w .merges → OnRoots (w .links) (w .facts)
+        → OnRoots (round g preds xs w .core .links) (round g preds xs w .core .facts)
+    unfolding round
+    still-rooted = run-rooted g preds passes (Begun w) (RoundDone g preds w) (all-lawful w) (turn w xs false)

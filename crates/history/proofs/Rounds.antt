@@ -13,8 +13,7 @@ use Rattle.semantics.specs.Close.{Turn, round, Rounds, isNone, lastRound, oneMo
 use Rattle.semantics.proofs.Cases.{and-second}
 use Rattle.history.proofs.Drain.{Apart}
 use Rattle.history.proofs.Functionality.{Canon}
-use Rattle.history.proofs.Passes.{Ready, Passed, Turned, passed-none, passed-then, round-turned, round-passed, round-merges}
-use Rattle.history.proofs.Passes.{round-idle}
+use Rattle.history.proofs.Passes.{Ready, Passed, RoundDone, passed-none, passed-then, round-passed, round-done, done-idle}
 
 -- what rounds leave that began with w and its applications: so many merges were made before
 pub record Settled (n total before : ℕ) (w : Core) (xs : List FuncApp) (r : Rounds) : Type 1 where
@@ -44,31 +43,37 @@ stop g preds zero t e = refl
 stop g preds (suc k) t e = rw e
 
 module _ (n total : ℕ) (g : Sig) (preds : List PredApp) where
-  last : (t : Turn) → Turned n total g preds t → (t .core .met ≡ none → t .core .pairs ≡ []) → SettledFrom n total t (lastRound t)
+  last : (w : Core) (t : Turn) → Ready n total (t .core) (t .apps) → RoundDone g preds w t → (t .core .met ≡ none → t .core .pairs ≡ [])
+      → SettledFrom n total t (lastRound t)
   unfolding lastRound
-  last t a e = record {
-    passed = passed-none n total (t .core) (t .apps) (a .ready);
-    sorted = a .left .sorted;
-    canon = a .left .canon;
+  last w t r d e = record {
+    passed = passed-none n total (t .core) (t .apps) r;
+    sorted = d .table .sorted;
+    canon = d .table .canon;
     pairs = e;
     few = omega arith;
   }
 
   -- a round that worked is followed by one that does no work, or by one that merges
-  from-law : (k : ℕ) (t : Turn) → Turned n total g preds t → total < k + t .core .merges → SettledFrom n total t (roundsFrom k g preds t)
+  from-law : (k : ℕ) (w : Core) (t : Turn) → Ready n total (t .core) (t .apps) → RoundDone g preds w t → total < k + t .core .merges
+      → SettledFrom n total t (roundsFrom k g preds t)
   unfolding roundsFrom oneMore
-  from-law zero t a h = absurd (omega (arith, a .ready .kept .sum))
-  from-law (suc k) t a h = go (t .worked && isNone (t .core .met)) refl (λ l. from-law k u turned (omega arith))
+  from-law zero w t r d h = absurd (omega (arith, r .kept .sum))
+  from-law (suc k) w t r d h =
+      go (t .worked && isNone (t .core .met)) refl (λ l. from-law k (t .core) u (passed .ready) done (omega arith))
     where
       u : Turn
       u = round g preds (t .apps) (t .core)
 
-      turned : Turned n total g preds u
-      turned = round-turned n total g preds (t .apps) (t .core) (a .ready)
+      passed : Passed n total (t .core) (t .apps) (u .core) (u .apps)
+      passed = round-passed g preds (t .apps) (t .core) n total r
+
+      done : RoundDone g preds (t .core) u
+      done = round-done g preds (t .apps) (t .core) n total r
 
       more : (r : Rounds) → SettledFrom n total u r → r .count + t .core .merges ≤ r .core .merges + 1 → SettledFrom n total t (oneMore r)
       more r s few = (unfold oneMore in record {
-        passed = passed-then (round-passed n total g preds (t .apps) (t .core) (a .ready)) (s .passed);
+        passed = passed-then passed (s .passed);
         sorted = s .sorted;
         canon = s .canon;
         pairs = s .pairs;
@@ -80,29 +85,29 @@ module _ (n total : ℕ) (g : Sig) (preds : List PredApp) where
 
       next : (ps : List Pair) → t .core .pairs ≡ ps → t .core .met ≡ none → Later → SettledFrom n total t (oneMore (roundsFrom k g preds u))
       next [] e m f =
-          let z = round-idle n total g preds t a m e in
+          let z = done-idle g preds w t d m e in
           subst (λ r. SettledFrom n total t (oneMore r)) (sym (stop g preds k u (ap (λ (x : Turn). x .worked) z)))
-          (more (lastRound u) (last u turned (λ _. ap (λ (x : Turn). x .core .pairs) z ∙ e))
+          (more (lastRound u) (last (t .core) u (passed .ready) done (λ _. ap (λ (x : Turn). x .core .pairs) z ∙ e))
           (unfold lastRound in omega (arith, ap (λ (x : Turn). x .core .merges) z)))
       next (p ∷ ps) e m f =
-          let l = round-merges n total g preds (t .apps) (t .core) (a .ready) p ps e (subst (All (Apart (t .core .links))) e (a .left .apart) .0) in
+          let l = done .table .merges p ps e (subst (All (Apart (t .core .links))) e (d .table .apart) .0) in
           more (roundsFrom k g preds u) (f l) (omega (arith, f l .few))
 
       go : (b : Bool) → (t .worked && isNone (t .core .met)) ≡ b → Later
           → SettledFrom n total t (elim b [ true ↦ oneMore (roundsFrom k g preds u) | false ↦ lastRound t ])
       go true e f = next (t .core .pairs) refl (isNone-none (t .core .met) (and-second (t .worked) _ e)) f
       go false e f =
-          last t a (λ m. a .left .idle (sym (and-true (t .worked)) ∙ ap (λ (b : Bool). t .worked && b) (sym (none-isNone (t .core .met) m)) ∙ e))
+          last w t r d (λ m. d .table .idle (sym (and-true (t .worked)) ∙ ap (λ (b : Bool). t .worked && b) (sym (none-isNone (t .core .met) m)) ∙ e))
 
   -- all the rounds, of a close: it begins with no merge, and its fuel is enough
   pub rounds-law : (apps : List FuncApp) (w : Core) → Ready n total w apps → w .merges ≡ 0 → total < fuel
       → Settled n total 0 w apps (rounds g preds apps w)
   unfolding rounds
   rounds-law apps w r z h =
-      let t = round g preds apps w in
-      let s = from-law fuel t (round-turned n total g preds apps w r) (omega arith) in
+      let passed = round-passed g preds apps w n total r in
+      let s = from-law fuel w (round g preds apps w) (passed .ready) (round-done g preds apps w n total r) (omega arith) in
       record {
-        passed = passed-then (round-passed n total g preds apps w r) (s .passed);
+        passed = passed-then passed (s .passed);
         sorted = s .sorted;
         canon = s .canon;
         pairs = s .pairs;

@@ -2,7 +2,7 @@
 use mathlib.Core.Path.{_≡_, refl, sym, subst, ap, ap₂, _∙_}
 use mathlib.Core.Bool.{Bool, true, false, _&&_, and-true}
 use mathlib.Core.List.{List, [], _∷_, _++_, map, map-append}
-use mathlib.Core.Option.{Option, none, some}
+use mathlib.Core.Option.{none}
 use Prim.Native.Nat.{ℕ, zero, suc, _≤_, _<_}
 use native.Mathlib.Omega.{arith}
 use lib.ListN.{length, length-map}
@@ -12,28 +12,26 @@ use Rattle.ids.proofs.Sorted.{All, all-map, all-join, all-left, all-right, all-
 use Rattle.ids.proofs.Judging.{decided-accepts}
 use Rattle.ids.proofs.Views.{map-take}
 use Rattle.unification.specs.Roots.{rootOf}
-use Rattle.unification.proofs.Laws.{root-root}
 use Rattle.signature.specs.Model.{Sig, predAt}
 use Rattle.signature.specs.Calls.{TypedM, at, absent, concreteTypeAt}
-use Rattle.semantics.specs.Structure.{Fact, FuncApp, PredApp, Pair, Structure, compareFuncApp, comparePredApp, canonicalFact}
-use Rattle.semantics.specs.Structure.{canonicalPredApp, fact, with-flags}
-use Rattle.semantics.specs.Types.{Core, drain, insertCanonical, imposeAll, grew}
-use Rattle.semantics.specs.Close.{demanded, demandedAt, demandedArgs, funcArgs, predArgs, funcResults, demands, Turn, drained, drainPass}
-use Rattle.semantics.specs.Close.{rewrote, functionalityPass, typed, typingPass, passes, runPasses, round, Rounds, isNone, lastRound}
-use Rattle.semantics.specs.Close.{oneMore, roundsFrom, rounds, fuel, Closed, coreOf, canonicaliseRefs, withCore, imposedAfter}
-use Rattle.semantics.specs.Close.{closeRun, reportOf, afterClose, closeBy, close, turn, report}
+use Rattle.semantics.specs.Structure.{Fact, FuncApp, PredApp, Pair, Structure, compareFuncApp, comparePredApp, canonicalFact, canonicalPredApp, fact}
+use Rattle.semantics.specs.Structure.{with-flags}
+use Rattle.semantics.specs.Types.{Core, imposeAll, grew}
+use Rattle.semantics.specs.Close.{demanded, demandedAt, demandedArgs, funcArgs, predArgs, funcResults, demands, Turn, typed, round, Rounds, isNone}
+use Rattle.semantics.specs.Close.{lastRound, oneMore, roundsFrom, rounds, fuel, Closed, coreOf, canonicaliseRefs, withCore, imposedAfter, closeRun}
+use Rattle.semantics.specs.Close.{reportOf, afterClose, closeBy, close, turn, report}
 use Rattle.semantics.specs.Calls as calls
 use Rattle.semantics.specs.Calls.{closed, machine, Step, rule, closeRule, acceptance, refusal, stepBy, step}
 use Rattle.semantics.proofs.Judged.{close-first}
-use Rattle.semantics.proofs.Queues.{drain-pairs}
 use Rattle.semantics.proofs.Cases.{and-second}
-use Rattle.history.proofs.Drain.{Apart, drain-counted, drain-grows, drain-met}
+use Rattle.history.proofs.Drain.{Apart}
 use Rattle.history.proofs.Functionality.{Canon}
-use Rattle.history.proofs.Imposing.{insertAll, insert-all, insert-grown, impose-inserts, imposeAll-counts, plain-grown}
-use Rattle.history.proofs.Passes.{Left, after-drain, run-idle, all-lawful}
+use Rattle.history.proofs.Imposing.{impose-inserts, imposeAll-counts, plain-grown}
+use Rattle.history.proofs.Passes.{RoundDone, round-idle, done-idle, round-more, still-done, still-rooted}
 use Rattle.history.proofs.Rounds.{stop, isNone-none, none-isNone}
 use Rattle.history.proofs.Closing.{accepted-close}
 use Rattle.history.proofs.Unjoined.{Safe, OnRoots, imposed-safe, safe-idle, rewrittenFacts, safe-rewritten, safe-image, safe-moved}
+use Rattle.history.proofs.Unjoined.{insertAll-roots}
 
 -- What `typing` demands of rewritten predicate applications are the images of what it demanded.
 
@@ -87,76 +85,18 @@ module _ (P : Fact → Type 0) (g : Sig) where
       (preds-each preds (all-left P (predArgs g preds) (funcResults g apps) rest))) tt))
       (all-right P (predArgs g preds) (funcResults g apps) rest))
 
--- A round that merges nothing.
-
-insertAll-roots : (fs : List Fact) (w : Core) → OnRoots (w .links) (w .facts) → OnRoots (insertAll fs w .links) (insertAll fs w .facts)
-unfolding insertAll canonicalFact
-insertAll-roots [] w h = h
-insertAll-roots (f ∷ fs) w h =
-    insertAll-roots fs (insertCanonical f w)
-    (subst (λ ls. OnRoots ls (insertCanonical f w .facts)) (sym (insert-grown f w .links))
-    (insert-all f w (λ x. rootOf (w .links) (x .el) ≡ x .el) (root-root (w .links) (f .el)) h))
+-- Rounds that merge nothing: the first does all the work.
 
 abbrev AtLeast : ℕ → Rounds → Type 0
 AtLeast n r = n ≤ r .core .merges
 
 module _ (g : Sig) (preds : List PredApp) where
-  -- what holds of it
-  record Still (w : Core) (u : Turn) : Type 0 where
-    links : u .core .links ≡ w .links
-    marks : u .core .marks ≡ w .marks
-    met : u .core .met ≡ none → w .met ≡ none
-    left : Left g preds u
-    safe : u .core .met ≡ none → All (Safe (u .core .links) (u .core .marks) (u .core .facts)) (demands g (u .apps) preds)
-    roots : OnRoots (w .links) (w .facts) → OnRoots (u .core .links) (u .core .facts)
-
-  module _ (apps : List FuncApp) (w : Core) where
-    abbrev t : Turn
-    t = drainPass g preds (turn w apps false)
-
-    -- the core that `typing` finds, and what it imposes
-    abbrev before : Core
-    before = functionalityPass g preds t .core
-
-    abbrev ds : List Fact
-    ds = demands g (functionalityPass g preds t .apps) preds
-
-    round-counts : (drain w .merges ≤ round g preds apps w .core .merges) × (w .merges ≤ round g preds apps w .core .merges)
-    unfolding round passes runPasses drainPass drained functionalityPass rewrote typingPass typed
-    round-counts =
-        let a = imposeAll-counts ds before in
-        let b = drain-counted w .grew in
-        (omega (arith, a), omega (arith, a, b))
-
-    still-round : round g preds apps w .core .merges ≡ w .merges → Still w (round g preds apps w)
-    unfolding round passes runPasses drainPass drained functionalityPass rewrote typingPass typed
-    still-round e =
-        let a = imposeAll-counts ds before in
-        let b = drain-counted w in
-        let drained-none = b .still (omega (arith, a, b .grew, e)) in
-        let i : imposeAll ds before .merges ≡ before .merges = omega (arith, a, b .grew, e) in
-        let plain = impose-inserts ds before i in
-        let grown = plain-grown ds before plain in
-        record {
-          links = grown .links ∙ ap (λ (v : Core). v .links) drained-none;
-          marks = grown .marks ∙ ap (λ (v : Core). v .marks) drained-none;
-          met = λ m. sym (drain-met w) ∙ grown .met m;
-          left = after-drain g preds t (drain-pairs w) plain;
-          safe = λ m.
-              safe-moved (sym (grown .links)) (sym (grown .marks)) (imposeAll ds before .facts) ds (imposed-safe ds before i m [] tt .1);
-          roots = λ h.
-              subst (λ (v : Core). OnRoots (v .links) (v .facts)) (sym plain)
-              (insertAll-roots ds before (subst (λ (v : Core). OnRoots (v .links) (v .facts)) (sym drained-none) h));
-        }
-
-  -- Rounds that merge nothing: the first does all the work.
-
   rounds-count : (k : ℕ) (t : Turn) → AtLeast (t .core .merges) (roundsFrom k g preds t)
   unfolding roundsFrom lastRound oneMore
   rounds-count zero t = omega arith
   rounds-count (suc k) t =
       let v = round g preds (t .apps) (t .core) in
-      go (t .worked && isNone (t .core .met)) (omega (arith, rounds-count k v, round-counts (t .apps) (t .core) .1))
+      go (t .worked && isNone (t .core .met)) (omega (arith, rounds-count k v, round-more g preds (t .apps) (t .core)))
     where
       go : (b : Bool) → AtLeast (t .core .merges) (roundsFrom k g preds (round g preds (t .apps) (t .core)))
           → AtLeast (t .core .merges) (elim b [ true ↦ oneMore (roundsFrom k g preds (round g preds (t .apps) (t .core))) | false ↦ lastRound t ])
@@ -173,25 +113,16 @@ module _ (g : Sig) (preds : List PredApp) where
   abbrev IfStill : Turn → Rounds → Type 0
   IfStill u r = r .core .merges ≡ u .core .merges → r .core .met ≡ none → FirstDid u r
 
-  module _ (u : Turn) (left : Left g preds u)
-      (safe : u .core .met ≡ none → All (Safe (u .core .links) (u .core .marks) (u .core .facts)) (demands g (u .apps) preds)) where
+  module _ (w : Core) (u : Turn) (done : RoundDone g preds w u) where
     abbrev v : Turn
     v = round g preds (u .apps) (u .core)
 
-    -- a round after it does no work
-    no-work : u .core .met ≡ none → u .core .pairs ≡ [] → v ≡ turn (u .core) (u .apps) false
-    unfolding round
-    no-work m e =
-        run-idle g preds passes all-lawful (turn (u .core) (u .apps) false)
-        (record { pairs = e; sorted = left .sorted; canon = left .canon; typed = safe-idle (demands g (u .apps) preds) (u .core) (safe m) })
-
-    -- or has merged
+    -- a round after it merges a pair that waits, so that none does
     empty : v .core .merges ≡ u .core .merges → (ps : List Pair) → u .core .pairs ≡ ps → u .core .pairs ≡ []
     empty e [] q = q
     empty e (p ∷ ps) q =
-        absurd
-        (let two = subst (All (Apart (u .core .links))) q (left .apart) in
-        omega (arith, e, round-counts (u .apps) (u .core) .0, drain-grows (u .core) p ps q (two .0)))
+        let two = subst (All (Apart (u .core .links))) q (done .table .apart) in
+        absurd (omega (arith, e, still-done g preds (u .apps) (u .core) e .table .merges p ps q (two .0)))
 
     still-rounds : (k : ℕ) → 0 < k → IfStill u (roundsFrom k g preds u)
     unfolding roundsFrom oneMore lastRound
@@ -201,9 +132,9 @@ module _ (g : Sig) (preds : List PredApp) where
         go : (b : Bool) → (u .worked && isNone (u .core .met)) ≡ b
             → IfStill u (elim b [ true ↦ oneMore (roundsFrom k g preds v) | false ↦ lastRound u ])
         go true q e m =
-            let still : v .core .merges ≡ u .core .merges = omega (arith, e, rounds-count k v, round-counts (u .apps) (u .core) .1) in
+            let still : v .core .merges ≡ u .core .merges = omega (arith, e, rounds-count k v, round-more g preds (u .apps) (u .core)) in
             let pairs = empty still (u .core .pairs) refl in
-            let z = no-work (isNone-none (u .core .met) (and-second (u .worked) (isNone (u .core .met)) q)) pairs in
+            let z = done-idle g preds w u done (isNone-none (u .core .met) (and-second (u .worked) (isNone (u .core .met)) q)) pairs in
             let s = stop g preds k v (ap (λ (x : Turn). x .worked) z) in
             record {
               core = ap (λ (r : Rounds). r .core) s ∙ ap (λ (x : Turn). x .core) z;
@@ -213,7 +144,7 @@ module _ (g : Sig) (preds : List PredApp) where
         go false q e m = record {
           core = refl;
           apps = refl;
-          pairs = left .idle (sym (and-true (u .worked)) ∙ ap (λ (b : Bool). u .worked && b) (sym (none-isNone (u .core .met) m)) ∙ q);
+          pairs = done .table .idle (sym (and-true (u .worked)) ∙ ap (λ (b : Bool). u .worked && b) (sym (none-isNone (u .core .met) m)) ∙ q);
         }
 
 -- The second close.
@@ -235,9 +166,9 @@ module _ (g : Sig) (s : Structure) (i : Idle g s) where
   begun = turn (coreOf s) (s .func-apps) false
 
   rest : round g (s .pred-apps) (s .func-apps) (coreOf s) ≡ begun
-  unfolding round coreOf
+  unfolding coreOf
   rest =
-      run-idle g (s .pred-apps) passes all-lawful begun
+      round-idle g (s .pred-apps) (s .func-apps) (coreOf s)
       (record {
         pairs = i .pairs;
         sorted = i .sorted;
@@ -299,10 +230,10 @@ module _ (g : Sig) (s : Structure) (on : OnRoots (s .links) (s .facts)) where
       let none-first : first .core .merges ≡ 0 = omega (arith, a, b, z) in
       let none-rounds : r .core .merges ≡ first .core .merges = omega (arith, a, b, z) in
       let none-imposed : w .merges ≡ r .core .merges = omega (arith, a, z) in
-      let did = still-round g (s .pred-apps) (s .func-apps) (coreOf s) none-first in
+      let did = still-done g (s .pred-apps) (s .func-apps) (coreOf s) none-first in
       let plain = impose-inserts (s .impositions) (r .core) none-imposed in
       let grown = plain-grown (s .impositions) (r .core) plain in
-      let same = still-rounds g (s .pred-apps) first (did .left) (did .safe) fuel (omega arith) none-rounds (grown .met m) in
+      let same = still-rounds g (s .pred-apps) (coreOf s) first did fuel (omega arith) none-rounds (grown .met m) in
       let ls = w .links in
       let ms = w .marks in
       let ds = demands g (r .apps) (s .pred-apps) in
@@ -314,14 +245,14 @@ module _ (g : Sig) (s : Structure) (on : OnRoots (s .links) (s .facts)) where
       let imposed = imposed-safe (s .impositions) (r .core) none-imposed m ds demanded in
       let on-now : OnRoots ls (w .facts) =
       subst (λ (v : Core). OnRoots (v .links) (v .facts)) (sym plain)
-      (insertAll-roots (s .impositions) (r .core) (subst (λ (v : Core). OnRoots (v .links) (v .facts)) (sym (same .core)) (did .roots on))) in
+      (insertAll-roots (s .impositions) (r .core) (subst (λ (v : Core). OnRoots (v .links) (v .facts)) (sym (same .core)) (still-rooted g (s .pred-apps) (s .func-apps) (coreOf s) none-first on))) in
       let now : (l : List Fact) → All (Safe (r .core .links) (r .core .marks) (w .facts)) l → All (Safe ls ms (rewrittenFacts ls ms (w .facts))) l =
       λ l h. all-map (safe-rewritten ls ms (w .facts) on-now) l (safe-moved (sym (grown .links)) (sym (grown .marks)) (w .facts) l h) in
       let image = safe-image ls ms (rewrittenFacts ls ms (w .facts)) in
       record {
         pairs = grown .pairs ∙ ap (λ (v : Core). v .pairs) (same .core) ∙ same .pairs;
-        sorted = subst (Sorted compareFuncApp) (sym (same .apps)) (did .left .sorted);
-        canon = subst (λ k. All (Canon k) (r .apps)) (sym links) (subst (All (Canon (first .core .links))) (sym (same .apps)) (did .left .canon));
+        sorted = subst (Sorted compareFuncApp) (sym (same .apps)) (did .table .sorted);
+        canon = subst (λ k. All (Canon k) (r .apps)) (sym links) (subst (All (Canon (first .core .links))) (sym (same .apps)) (did .table .canon));
         demanded = demands-rewritten (Safe ls ms (rewrittenFacts ls ms (w .facts))) g ls image (r .apps) (s .pred-apps)
             (now ds (imposed .0));
         imposed = all-image (Safe ls ms (rewrittenFacts ls ms (w .facts))) (canonicalFact ls) (s .impositions)

@@ -2,7 +2,6 @@
 use mathlib.Core.Path.{_≡_, sym, subst, ap, _∙_}
 use mathlib.Core.List.{List, [], _∷_, _++_}
 use mathlib.Core.Bool.{true, not}
-use Rattle.semantics.specs.Structure.{Structure, with-flags}
 use Rattle.semantics.specs.Valid.{Valid}
 use Rattle.semantics.specs.Close.{Closed, closeRun, afterClose, reportOf}
 use Rattle.semantics.specs.Calls.{Call, close, closed, Machine, machine, step}

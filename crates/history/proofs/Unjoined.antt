@@ -14,14 +14,13 @@ use Rattle.unification.specs.Roots.{rootOf}
 use Rattle.unification.proofs.Numbers.{same-or}
 use Rattle.unification.proofs.Laws.{root-root}
 use Rattle.semantics.specs.Structure.{Fact, compareFact, canonicalFact, fact}
-use Rattle.semantics.specs.Types.{Core, marked, factsAt, concreteTypesOf, refine, refineParents, refineAll, insertCanonical, impose}
-use Rattle.semantics.specs.Types.{imposeAll}
+use Rattle.semantics.specs.Types.{Core, marked, factsAt, concreteTypesOf, refine, refineParents, refineAll, insertCanonical, impose, imposeAll}
 use Rattle.semantics.specs.Valid.{OnRoot}
 use Rattle.semantics.proofs.Orders.{fact-ordered, fact-same}
 use Rattle.history.proofs.Functionality.{map-root}
-use Rattle.history.proofs.Imposing.{joins, refine-none, refine-still, refine-counted, refineParents-counted, refineOne}
-use Rattle.history.proofs.Imposing.{refineOne-counted, refineAll-counted, Stored, insert-grown, insert-there, insert-idle}
-use Rattle.history.proofs.Imposing.{insert-all, impose-refined, impose-plain, first-still, impose-inserts, insertAll-grown}
+use Rattle.history.proofs.Imposing.{joins, refine-none, refine-still, refine-counted, refineParents-counted, refineOne, refineOne-counted}
+use Rattle.history.proofs.Imposing.{refineAll-counted, Stored, insert-grown, insert-there, insert-idle, insert-all, impose-refined}
+use Rattle.history.proofs.Imposing.{impose-plain, first-still, impose-inserts, insertAll, insertAll-grown}
 
 -- Two lists of parents that no imposing joins.
 
@@ -259,6 +258,15 @@ safe-idle (f ∷ fs) w h = ap (imposeAll fs) (impose-idle f w (h .0)) ∙ safe-i
 
 abbrev pub OnRoots : List ℕ → List Fact → Type 0
 OnRoots ls fs = All (OnRoot ls) fs
+
+-- facts that stand on roots still do after plain insertion
+pub insertAll-roots : (fs : List Fact) (w : Core) → OnRoots (w .links) (w .facts) → OnRoots (insertAll fs w .links) (insertAll fs w .facts)
+unfolding insertAll canonicalFact
+insertAll-roots [] w h = h
+insertAll-roots (f ∷ fs) w h =
+    insertAll-roots fs (insertCanonical f w)
+    (subst (λ ls. OnRoots ls (insertCanonical f w .facts)) (sym (insert-grown f w .links))
+    (insert-all f w (λ x. rootOf (w .links) (x .el) ≡ x .el) (root-root (w .links) (f .el)) h))
 
 canon-fact : (ls : List ℕ) (f : Fact) → canonicalFact ls (canonicalFact ls f) ≡ canonicalFact ls f
 unfolding canonicalFact

@@ -25,3 +25,7 @@ or-first false b t = refl
 pub or-second : (a b : Bool) → (a || b) ≡ false → b ≡ false
 or-second true b t = no-test refl t
 or-second false b t = t
+
+pub or-either : (a b : Bool) → (a || b) ≡ true → (a ≡ true) ⊎ (b ≡ true)
+or-either true b t = inl refl
+or-either false b t = inr t

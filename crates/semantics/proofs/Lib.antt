@@ -5,8 +5,10 @@ pub mod Counts
 pub mod Links
 pub mod Judged
 pub mod Imposed
+pub mod Functionality
 pub mod Queues
 pub mod Parts
+pub mod Stages
 pub mod Pairs
 pub mod Computes
 pub mod ProvedCases

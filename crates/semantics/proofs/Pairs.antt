@@ -1,29 +1,109 @@
 -- At every moment of a close at most `maxPairs` pairs wait, where that many wait at its start and there are at most `maxFuncApps` applications.
 -- The bound is met: of `maxFuncApps` applications that become one key, all but the first queue a pair, and a refinement queues one more.
-use mathlib.Core.Path.{_≡_, refl, ap}
+use mathlib.Core.Path.{_≡_, refl, sym, subst, ap}
 use mathlib.Core.Bool.{Bool, true, false, _&&_}
-use mathlib.Core.List.{List, _++_}
+use mathlib.Core.List.{List, [], _∷_, _++_}
 use Prim.Native.Nat.{ℕ, zero, suc, _≤_, _<_}
 use native.Mathlib.Omega.{arith}
 use lib.ListN.{length, length-append}
 use Rattle.signature.specs.Model.{Sig}
-use Rattle.semantics.specs.Structure.{Fact, FuncApp, Structure, maxPairs, maxFuncApps}
-use Rattle.semantics.specs.Types.{Core, drain, refineParents, refineAll, imposeAll}
-use Rattle.semantics.specs.Close.{Turn, round, Rounds, isNone, lastRound, oneMore, roundsFrom, rounds, fuel, coreOf, enterAll, turn}
-use Rattle.semantics.proofs.Queues.{Room, still-room, refineParents-queue, refineAll-queue, imposeAll-queue, fresh, pairs-room}
-use Rattle.semantics.proofs.Parts.{asked, asked-room, round-parts, typed-room, rewritten-few}
+use Rattle.semantics.specs.Structure.{Fact, FuncApp, PredApp, Pair, Structure, maxPairs, maxFuncApps}
+use Rattle.semantics.specs.Types.{Core, refineParents, refineAll, imposeAll}
+use Rattle.semantics.specs.Close.{Turn, turn, Pass, drained, drainPass, rewriting, enterAll, rewrote, functionalityPass, demands, typed}
+use Rattle.semantics.specs.Close.{typingPass, passes, round, Rounds, isNone, lastRound, oneMore, roundsFrom, rounds, fuel, coreOf}
+use Rattle.semantics.proofs.Queues.{drain-pairs, Room, still-room, refineParents-queue, refineAll-queue, imposeAll-queue, pairs-room, apps-few}
+use Rattle.semantics.proofs.Stages.{Stage, Along, run-along}
 
 -- While facts are imposed on w: after some of them, after some of the facts of the next one's element, and after some of the parents of
 -- the fact after those, a pair can be queued.
 abbrev pub Imposes : Core → Type 0
 Imposes w = (fs : List Fact) (f : Fact) (gs : List Fact) (ps qs : List ℕ) → Room (refineParents ps qs (refineAll gs f (imposeAll fs w)))
 
-imposes : (w : Core) → Room w → Imposes w
+pub imposes : (w : Core) → Room w → Imposes w
 imposes w r fs f gs ps qs =
     let u = imposeAll fs w in
     let v = refineAll gs f u in
     still-room v (refineParents ps qs v) (refineParents-queue ps qs v)
     (still-room u v (refineAll-queue gs f u) (still-room w u (imposeAll-queue fs w) r))
+
+-- The stages of a round: before its drain, after it, and from `functionality` on.
+
+pub record Waiting (t : Turn) : Type 0 where
+  pub few : length (t .apps) ≤ maxFuncApps
+  pub most : length (t .core .pairs) ≤ maxPairs
+
+pub record Emptied (t : Turn) : Type 0 where
+  pub few : length (t .apps) ≤ maxFuncApps
+  pub none : t .core .pairs ≡ []
+
+pub record Roomy (t : Turn) : Type 0 where
+  pub few : length (t .apps) ≤ maxFuncApps
+  pub room : Room (t .core)
+
+-- a pass, by the pairs that wait
+pub record QueueLaw (p : Pass) (A B : Stage) : Type 1 where
+  -- what is said of every moment of the pass
+  pub Fits : Turn → Type 0
+  pub fits : (t : Turn) → A t → Fits t
+  pub leads : (g : Sig) (preds : List PredApp) (t : Turn) → A t → B (p g preds t)
+
+-- it begins with a queue that the table can hold, and only takes pairs from it
+unfoldable pub drain-queue : QueueLaw drainPass Waiting Emptied
+unfolding drainPass drained
+drain-queue = record {
+  Fits = λ t. length (t .core .pairs) ≤ maxPairs;
+  fits = λ t h. h .most;
+  leads = λ g preds t h. record { few = h .few; none = drain-pairs (t .core) };
+}
+
+-- after some of the applications were rewritten a pair can be queued
+unfoldable pub functionality-queue : QueueLaw functionalityPass Emptied Roomy
+unfolding functionalityPass rewrote
+functionality-queue = record {
+  Fits = λ t.
+      (xs ys : List FuncApp) → xs ++ ys ≡ t .apps → length (enterAll (t .core .links) xs (rewriting [] (t .core .pairs) false) .pairs) < maxPairs;
+  fits = λ t h xs ys e. begun t h xs (omega (arith, length-append xs ys, ap length e, h .few));
+  leads = λ g preds t h. record {
+    few = subst (λ (ps : List Pair). length (enterAll (t .core .links) (t .apps) (rewriting [] ps false) .apps) ≤ maxFuncApps) (sym (h .none))
+        (omega (arith, apps-few (t .core .links) (t .apps), h .few));
+    room = begun t h (t .apps) (h .few);
+  };
+}
+  where
+    begun : (t : Turn) → Emptied t → (xs : List FuncApp) → length xs ≤ maxFuncApps
+        → length (enterAll (t .core .links) xs (rewriting [] (t .core .pairs) false) .pairs) < maxPairs
+    begun t h xs few =
+        subst (λ (ps : List Pair). length (enterAll (t .core .links) xs (rewriting [] ps false) .pairs) < maxPairs) (sym (h .none))
+        (pairs-room (t .core .links) xs few)
+
+-- while facts are demanded a pair can be queued
+unfoldable pub typing-queue : QueueLaw typingPass Roomy Roomy
+unfolding typingPass typed
+typing-queue = record {
+  Fits = λ t. Imposes (t .core);
+  fits = λ t h. imposes (t .core) (h .room);
+  leads = λ g preds t h.
+      let fs = demands g (t .apps) preds in
+      record { few = h .few; room = still-room (t .core) (imposeAll fs (t .core)) (imposeAll-queue fs (t .core)) (h .room) };
+}
+
+unfoldable pub all-queue : Along QueueLaw passes Waiting Roomy
+unfolding passes
+all-queue = (Emptied, drain-queue, (Roomy, functionality-queue, (Roomy, typing-queue, refl)))
+
+-- at every moment of the passes of a list
+abbrev pub AllFit : (g : Sig) (preds : List PredApp) (ps : List Pass) (A B : Stage) → Along QueueLaw ps A B → Turn → Type 0
+AllFit g preds [] A B l t = Unit {0}
+AllFit g preds (p ∷ ps) A C l t = l .1 .Fits t × AllFit g preds ps (l .0) C (l .2) (p g preds t)
+
+all-fit : (g : Sig) (preds : List PredApp) (ps : List Pass) (A B : Stage) (l : Along QueueLaw ps A B) (t : Turn) → A t → AllFit g preds ps A B l t
+all-fit g preds [] A B l t h = tt
+all-fit g preds (p ∷ ps) A C l t h =
+    (l .1 .fits t h, all-fit g preds ps (l .0) C (l .2) (p g preds t) (l .1 .leads g preds t h))
+
+pub round-roomy : (g : Sig) (preds : List PredApp) (xs : List FuncApp) (w : Core) → Waiting (turn w xs false) → Roomy (round g preds xs w)
+unfolding round
+round-roomy g preds xs w = run-along QueueLaw g preds (λ p A B l. l .leads g preds) passes Waiting Roomy all-queue (turn w xs false)
 
 module _ (g : Sig) (s : Structure) where
   -- what k rounds leave, were no round the last
@@ -46,44 +126,25 @@ module _ (g : Sig) (s : Structure) where
       go false r = (j, refl)
 
   module _ (few : length (s .func-apps) ≤ maxFuncApps) (start : length (s .pairs) ≤ maxPairs) where
-    apps-most : (k : ℕ) → length (after k .apps) ≤ maxFuncApps
+    -- what the next round begins with
+    begins : (k : ℕ) → Waiting (turn (after k .core) (after k .apps) false)
     unfolding after
-    apps-most zero = few
-    apps-most (suc k) =
-        rw (round-parts g (s .pred-apps) (after k .apps) (after k .core))
-        (rewritten-few g (s .pred-apps) (after k .apps) (after k .core) (apps-most k))
-
-    -- after each round a pair can be queued
-    pub after-room : (k : ℕ) → Room (after (suc k) .core)
-    unfolding after
-    after-room k =
-        rw (round-parts g (s .pred-apps) (after k .apps) (after k .core))
-        (typed-room g (s .pred-apps) (after k .apps) (after k .core) (apps-most k))
+    begins zero = (unfold coreOf in record { few = few; most = start })
+    begins (suc k) =
+        let r = round-roomy g (s .pred-apps) (after k .apps) (after k .core) (begins k) in
+        record { few = r .few; most = omega (arith, r .room) }
 
     -- in the next round
-    pub record Fits (k : ℕ) : Type 0 where
-      -- its drain begins with a queue that the table can hold
-      pub drains : length (after k .core .pairs) ≤ maxPairs
-      -- after some of the applications were rewritten a pair can be queued
-      pub enters : (xs ys : List FuncApp) → xs ++ ys ≡ after k .apps → length (enterAll (drain (after k .core) .links) xs fresh .pairs) < maxPairs
-      -- while facts are demanded a pair can be queued
-      pub types : Imposes (asked (after k .apps) (after k .core))
+    abbrev pub Fits : ℕ → Type 0
+    Fits k = AllFit g (s .pred-apps) passes Waiting Roomy all-queue (turn (after k .core) (after k .apps) false)
 
     pub rounds-fit : (k : ℕ) → Fits k
-    rounds-fit k = record {
-      drains = drains k;
-      enters = λ xs ys e. pairs-room (drain (after k .core) .links) xs (omega (arith, length-append xs ys, ap length e, apps-most k));
-      types = imposes (asked (after k .apps) (after k .core)) (asked-room (after k .apps) (after k .core) (apps-most k));
-    }
-      where
-        drains : (k : ℕ) → length (after k .core .pairs) ≤ maxPairs
-        drains zero = (unfold after coreOf in start)
-        drains (suc k) = omega (arith, after-room k)
+    rounds-fit k = all-fit g (s .pred-apps) passes Waiting Roomy all-queue (turn (after k .core) (after k .apps) false) (begins k)
 
     -- while the impositions are imposed a pair can be queued
     pub impositions-fit : Imposes (rounds g (s .pred-apps) (s .func-apps) (coreOf s) .core)
     unfolding rounds after
     impositions-fit =
         let r = some-rounds fuel 0 in
-        imposes (rounds g (s .pred-apps) (s .func-apps) (coreOf s) .core)
-        (omega (arith, ap (λ (v : Core). length (v .pairs)) (r .1), after-room (r .0)))
+        let a = round-roomy g (s .pred-apps) (after (r .0) .apps) (after (r .0) .core) (begins (r .0)) in
+        imposes (rounds g (s .pred-apps) (s .func-apps) (coreOf s) .core) (omega (arith, ap (λ (v : Core). length (v .pairs)) (r .1), a .room))

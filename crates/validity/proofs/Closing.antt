@@ -16,11 +16,10 @@ use Rattle.signature.specs.Model.{Sig}
 use Rattle.semantics.specs.Structure.{Fact, PredApp, Var, Structure, compareFact, comparePredApp, compareVar, compareFuncApp, maxFuncApps}
 use Rattle.semantics.specs.Structure.{canonicalFact, canonicalPredApp, canonicalVar, empty}
 use Rattle.semantics.specs.Types.{Core}
-use Rattle.semantics.specs.Close.{Turn, CloseRun, Closed, round, rounds, roundsFrom, isNone, fuel, coreOf, canonicaliseRefs, withCore}
-use Rattle.semantics.specs.Close.{imposedAfter, closeRun, closeCauses, reportOf, afterClose, closeBy, close}
-use Rattle.semantics.specs.Calls.{isReserved}
-use Rattle.semantics.specs.Valid.{Counts, countsOf, FactValid, PredAppValid, VarValid, FuncAppValid, OnRoot, Queue, Table, ValidStructure}
-use Rattle.semantics.specs.Valid.{Unreserved, Valid}
+use Rattle.semantics.specs.Close.{Turn, CloseRun, Closed, round, rounds, roundsFrom, isNone, fuel, coreOf, canonicaliseRefs, withCore, imposedAfter}
+use Rattle.semantics.specs.Close.{closeRun, closeCauses, reportOf, afterClose, closeBy, close}
+use Rattle.semantics.specs.Valid.{Counts, countsOf, FactValid, PredAppValid, VarValid, FuncAppValid, OnRoot, Queue, Table, ValidStructure, Unreserved}
+use Rattle.semantics.specs.Valid.{Valid}
 use Rattle.semantics.proofs.Orders.{fact-ordered, pred-app-ordered}
 use Rattle.semantics.proofs.Computes.{everything}
 use Rattle.semantics.proofs.Judged.{close-first}
@@ -29,9 +28,8 @@ use Rattle.semantics.proofs.Pairs.{Imposes, Fits, rounds-fit, impositions-fit}
 use Rattle.validity.specs.Numbers.{closeNumbers, MayMeet}
 use Rattle.validity.proofs.Drain.{ValidCore}
 use Rattle.validity.proofs.Imposing.{Imposed, imposeAll-advances, roots-listed, canonical-valid, canonical-rooted}
-use Rattle.validity.proofs.Turns.{AfterRound}
+use Rattle.validity.proofs.Turns.{Begins, AfterRound}
 use Rattle.validity.proofs.Fuel.{goesOn, Last, more-fuel, rounds-end, rounds-after}
-use Rattle.validity.proofs.Applied.{rounds-applied}
 use Rattle.validity.proofs.Growing.{counted}
 
 pub core-valid : (c : Counts) (s : Structure) → ValidStructure c s → ValidCore c (coreOf s)
@@ -117,27 +115,27 @@ module _ (g : Sig) (s : Structure) (v : Valid g s) where
 
   -- The rounds.
 
+  begins : Begins g c (coreOf s) (s .func-apps)
+  begins = record { valid = core-valid c s vs; apps = vs .func-apps; unreserved = v .unreserved }
+
   pub close-fuel : (j : ℕ)
       → roundsFrom (fuel + j) g (s .pred-apps) (round g (s .pred-apps) (s .func-apps) (coreOf s))
       ≡ rounds g (s .pred-apps) (s .func-apps) (coreOf s)
   unfolding rounds
   close-fuel =
-      more-fuel g (v .sig) (c .els) (s .pred-apps) (vs .pred-apps .each) (vs .els-most) (coreOf s) (s .func-apps)
-      (core-valid c s vs) (vs .func-apps)
+      more-fuel g (v .sig) (c .els) (s .pred-apps) (vs .pred-apps .each) (vs .els-most) (coreOf s) (s .func-apps) begins
 
   pub close-ends : Last g (s .pred-apps) (rounds g (s .pred-apps) (s .func-apps) (coreOf s))
   close-ends =
-      rounds-end g (v .sig) (c .els) (s .pred-apps) (vs .pred-apps .each) (vs .els-most) (coreOf s) (s .func-apps)
-      (core-valid c s vs) (vs .func-apps)
+      rounds-end g (v .sig) (c .els) (s .pred-apps) (vs .pred-apps .each) (vs .els-most) (coreOf s) (s .func-apps) begins
 
   last : Turn
   last = close-ends .turn
 
-  last-after : AfterRound c last
+  last-after : AfterRound g c last
   unfolding last close-ends
   last-after =
-      rounds-after g (v .sig) (c .els) (s .pred-apps) (vs .pred-apps .each) (vs .els-most) (coreOf s) (s .func-apps)
-      (core-valid c s vs) (vs .func-apps)
+      rounds-after g (v .sig) (c .els) (s .pred-apps) (vs .pred-apps .each) (vs .els-most) (coreOf s) (s .func-apps) begins
 
   last-ends : goesOn last ≡ false
   unfolding last
@@ -158,7 +156,7 @@ module _ (g : Sig) (s : Structure) (v : Valid g s) where
   to-end : Imposed c (ran .rounds .core) (ran .core)
   unfolding ran closeRun imposedAfter
   to-end =
-      imposeAll-advances c (s .impositions) (ran .rounds .core) (vs .impositions .each) (subst (ValidCore c) (sym ran-core) (last-after .valid))
+      imposeAll-advances c (s .impositions) (ran .rounds .core) (vs .impositions .each) (subst (ValidCore c) (sym ran-core) (last-after .begins .valid))
       (subst Room (sym ran-core) (last-after .room))
 
   -- no number met: the last round did not work, so that no pair waits
@@ -183,7 +181,7 @@ module _ (g : Sig) (s : Structure) (v : Valid g s) where
         marks = w .marks;
         facts = facts-table c ls _ (ran .core .facts) (w .facts);
         facts-rooted = facts-rooted c ls (ran .core .facts) (w .facts .each);
-        func-apps = subst (Table (FuncAppValid c) compareFuncApp maxFuncApps) (sym ran-apps) (last-after .apps);
+        func-apps = subst (Table (FuncAppValid c) compareFuncApp maxFuncApps) (sym ran-apps) (last-after .begins .apps);
         pred-apps = preds-table c ls _ (s .pred-apps) (vs .pred-apps);
         vars = vars-table c ls _ (s .vars) (vs .vars);
         ambients = vs .ambients;
@@ -191,18 +189,13 @@ module _ (g : Sig) (s : Structure) (v : Valid g s) where
         impositions = impositions-queue c ls _ (s .impositions) (vs .impositions);
       }
 
-  -- the applications are rewritten, their functions are not
-  ran-unreserved : All (Unreserved g) (ran .rounds .apps)
-  unfolding ran closeRun imposedAfter
-  ran-unreserved = rounds-applied (λ f. isReserved g f ≡ false) g (s .pred-apps) (s .func-apps) (coreOf s) (v .unreserved)
-
   -- what a close leaves where it is accepted
   pub after-close : Valid g (afterClose (closeRun g s) s)
   unfolding ran
   after-close = record {
     sig = v .sig;
     structure = counted g (c .els) (afterClose ran s) after-valid;
-    unreserved = (unfold afterClose canonicaliseRefs withCore in ran-unreserved);
+    unreserved = (unfold afterClose canonicaliseRefs withCore in subst (All (Unreserved g)) (sym ran-apps) (last-after .begins .unreserved));
     of-models = (unfold afterClose canonicaliseRefs withCore in v .of-models);
     unstarted = λ q. close-nothing g s (v .unstarted (unfold afterClose canonicaliseRefs withCore in q));
   }

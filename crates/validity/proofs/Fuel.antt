@@ -8,13 +8,12 @@ use native.Mathlib.Omega.{arith}
 use Rattle.ids.proofs.Sorted.{All}
 use Rattle.unification.specs.Roots.{maxEls}
 use Rattle.signature.specs.Model.{Sig}
-use Rattle.semantics.specs.Structure.{FuncApp, PredApp, compareFuncApp, maxFuncApps}
+use Rattle.semantics.specs.Structure.{FuncApp, PredApp}
 use Rattle.semantics.specs.Types.{Core}
 use Rattle.semantics.specs.Close.{Turn, Rounds, rounds, round, isNone, lastRound, oneMore, roundsFrom, fuel}
-use Rattle.semantics.specs.Valid.{countsAt, FuncAppValid, PredAppValid, Table, ValidSig}
+use Rattle.semantics.specs.Valid.{countsAt, PredAppValid, ValidSig}
 use Rattle.semantics.proofs.Cases.{test, and-first}
-use Rattle.validity.proofs.Drain.{ValidCore}
-use Rattle.validity.proofs.Turns.{AfterRound, measure, measure-fuel, measure-falls, round-after}
+use Rattle.validity.proofs.Turns.{Begins, AfterRound, Within, measure, measure-fuel, measure-falls, round-within}
 
 -- another round follows
 abbrev pub goesOn : Turn → Bool
@@ -75,17 +74,20 @@ pub record Last (g : Sig) (preds : List PredApp) (r : Rounds) : Type 0 where
   pub ends : goesOn turn ≡ false
 
 module _ (g : Sig) (v : ValidSig g) (n : ℕ) (preds : List PredApp) (pv : All (PredAppValid (countsAt g n)) preds) where
-  on : (t : Turn) → AfterRound (countsAt g n) t → AfterRound (countsAt g n) (round g preds (t .apps) (t .core))
-  on t h = round-after g v n preds pv (t .core) (t .apps) (h .valid) (h .apps)
+  within : (t : Turn) → AfterRound g (countsAt g n) t → Within g (countsAt g n) (t .core) (round g preds (t .apps) (t .core))
+  within t h = round-within g v n preds pv (t .core) (t .apps) (h .begins)
 
-  less : (k : ℕ) (t : Turn) → AfterRound (countsAt g n) t → measure t < suc k
+  on : (t : Turn) → AfterRound g (countsAt g n) t → AfterRound g (countsAt g n) (round g preds (t .apps) (t .core))
+  on t h = within t h .after
+
+  less : (k : ℕ) (t : Turn) → AfterRound g (countsAt g n) t → measure t < suc k
       → goesOn (round g preds (t .apps) (t .core)) ≡ true → measure (round g preds (t .apps) (t .core)) < k
   less k t h l e =
       let u = round g preds (t .apps) (t .core) in
-      omega (arith, measure-falls g v n preds pv t h (and-first (u .worked) (isNone (u .core .met)) e))
+      omega (arith, measure-falls g (countsAt g n) t u h (within t h) (and-first (u .worked) (isNone (u .core .met)) e))
 
   -- any fuel above the measure of a round will do
-  pub rounds-enough : (k j : ℕ) (t : Turn) → AfterRound (countsAt g n) t → (goesOn t ≡ true → measure t < k) → (goesOn t ≡ true → measure t < j)
+  pub rounds-enough : (k j : ℕ) (t : Turn) → AfterRound g (countsAt g n) t → (goesOn t ≡ true → measure t < k) → (goesOn t ≡ true → measure t < j)
       → roundsFrom k g preds t ≡ roundsFrom j g preds t
   rounds-enough zero j t h p q = elim (test (goesOn t)) [
     | inl e ↦ absurd (omega (arith, p e))
@@ -104,7 +106,7 @@ module _ (g : Sig) (v : ValidSig g) (n : ℕ) (preds : List PredApp) (pv : All (
   ]
 
   -- after the last round none follows
-  pub last-ends : (k : ℕ) (t : Turn) → AfterRound (countsAt g n) t → (goesOn t ≡ true → measure t < k) → goesOn (lastFrom k g preds t) ≡ false
+  pub last-ends : (k : ℕ) (t : Turn) → AfterRound g (countsAt g n) t → (goesOn t ≡ true → measure t < k) → goesOn (lastFrom k g preds t) ≡ false
   unfolding next
   last-ends zero t h p = elim (test (goesOn t)) [ inl e ↦ absurd (omega (arith, p e)) | inr e ↦ rw (last-stop g preds zero t e) e ]
   last-ends (suc k) t h p = elim (test (goesOn t)) [
@@ -112,7 +114,7 @@ module _ (g : Sig) (v : ValidSig g) (n : ℕ) (preds : List PredApp) (pv : All (
     | inr e ↦ rw (last-stop g preds (suc k) t e) e
   ]
 
-  pub last-after : (k : ℕ) (t : Turn) → AfterRound (countsAt g n) t → AfterRound (countsAt g n) (lastFrom k g preds t)
+  pub last-after : (k : ℕ) (t : Turn) → AfterRound g (countsAt g n) t → AfterRound g (countsAt g n) (lastFrom k g preds t)
   unfolding next
   last-after zero t h = (unfold lastFrom in h)
   last-after (suc k) t h = elim (test (goesOn t)) [
@@ -132,15 +134,14 @@ module _ (g : Sig) (v : ValidSig g) (n : ℕ) (preds : List PredApp) (pv : All (
 
   -- The rounds of a close.
 
-  module _ (few : n ≤ maxEls) (w : Core) (xs : List FuncApp) (h : ValidCore (countsAt g n) w)
-      (a : Table (FuncAppValid (countsAt g n)) compareFuncApp maxFuncApps xs) where
-    begin : AfterRound (countsAt g n) (round g preds xs w)
-    begin = round-after g v n preds pv w xs h a
+  module _ (few : n ≤ maxEls) (w : Core) (xs : List FuncApp) (b : Begins g (countsAt g n) w xs) where
+    begin : AfterRound g (countsAt g n) (round g preds xs w)
+    begin = round-within g v n preds pv w xs b .after
 
     -- more fuel changes nothing
     pub more-fuel : (j : ℕ) → roundsFrom (fuel + j) g preds (round g preds xs w) ≡ roundsFrom fuel g preds (round g preds xs w)
     more-fuel j =
-        let l = measure-fuel (countsAt g n) (round g preds xs w) few begin in
+        let l = measure-fuel g (countsAt g n) (round g preds xs w) few begin in
         rounds-enough (fuel + j) fuel (round g preds xs w) begin (λ e. omega (arith, l)) (λ e. l)
 
     -- the last round reports no work, or a number was met
@@ -148,17 +149,17 @@ module _ (g : Sig) (v : ValidSig g) (n : ℕ) (preds : List PredApp) (pv : All (
     unfolding rounds
     rounds-end =
         let t = round g preds xs w in
-        let b = last-round fuel t ((xs, w), refl) in
+        let l = last-round fuel t ((xs, w), refl) in
         let r = rounds-last g preds fuel t in
         record {
-          before = b .0;
+          before = l .0;
           turn = lastFrom fuel g preds t;
-          is = b .1;
+          is = l .1;
           core = r .0;
           apps = r .1;
-          ends = last-ends fuel t begin (λ e. measure-fuel (countsAt g n) t few begin);
+          ends = last-ends fuel t begin (λ e. measure-fuel g (countsAt g n) t few begin);
         }
 
-    pub rounds-after : AfterRound (countsAt g n) (rounds-end .turn)
+    pub rounds-after : AfterRound g (countsAt g n) (rounds-end .turn)
     unfolding rounds-end
     rounds-after = last-after fuel (round g preds xs w) begin

@@ -15,8 +15,8 @@ use Rattle.ids.proofs.Sorted.{All, all-map, all-image, placed-all, placed-sorte
 use Rattle.unification.specs.Roots.{rootOf}
 use Rattle.unification.proofs.Laws.{root-le, root-root}
 use Rattle.semantics.specs.Structure.{Fact, compareFact, canonicalFact, maxFacts, pair}
-use Rattle.semantics.specs.Types.{Core, with-pairs, with-added, with-met, marked, drain, factsAt, concreteTypesOf, refineRoots, refine}
-use Rattle.semantics.specs.Types.{refineParents, refineAll, insertFact, insertCanonical, impose, imposeAll, firstMet}
+use Rattle.semantics.specs.Types.{Core, with-pairs, with-added, with-met, marked, drain, factsAt, concreteTypesOf, refineRoots, refine, refineParents}
+use Rattle.semantics.specs.Types.{refineAll, insertFact, insertCanonical, impose, imposeAll, firstMet}
 use Rattle.semantics.specs.Valid.{Counts, FactValid, OnRoot, Below, Listed}
 use Rattle.semantics.proofs.Orders.{fact-ordered}
 use Rattle.semantics.proofs.Cases.{and-first}

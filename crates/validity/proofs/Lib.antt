@@ -4,7 +4,6 @@ pub mod Entering
 pub mod Demands
 pub mod Turns
 pub mod Fuel
-pub mod Applied
 pub mod Closing
 pub mod Growing
 pub mod Signatures

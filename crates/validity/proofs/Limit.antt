@@ -19,57 +19,15 @@ use Rattle.signature.specs.Model.{Sig}
 use Rattle.semantics.specs.Structure.{Fact, FuncApp, PredApp, Pair, Structure, compareFact, canonicalFact, factAt, maxFacts, pair}
 use Rattle.semantics.specs.Types.{Core, with-pairs, with-added, with-met, marked, movedFacts, merge, joinRoots, join, drainPairs, drain}
 use Rattle.semantics.specs.Types.{concreteTypesOf, refineRoots, refine, refineParents, refineAll, insertFact, insertCanonical, impose, imposeAll}
-use Rattle.semantics.specs.Close.{Turn, drained, drainPass, rewrote, functionalityPass, typed, typingPass, demands, passes, runPasses, round}
-use Rattle.semantics.specs.Close.{Rounds, isNone, lastRound, oneMore, roundsFrom, rounds, fuel, Closed, coreOf, CloseRun, imposedAfter}
-use Rattle.semantics.specs.Close.{closeRun, reportOf, afterClose, closeBy, close, turn}
+use Rattle.semantics.specs.Close.{Turn, Pass, drained, drainPass, rewrote, functionalityPass, typed, typingPass, demands, passes, runPasses, round}
+use Rattle.semantics.specs.Close.{Rounds, isNone, lastRound, oneMore, roundsFrom, rounds, fuel, Closed, coreOf, CloseRun, imposedAfter, closeRun}
+use Rattle.semantics.specs.Close.{reportOf, afterClose, closeBy, close, turn}
 use Rattle.semantics.specs.Valid.{Valid}
 use Rattle.semantics.proofs.Judged.{close-first}
-use Rattle.validity.specs.Unlimited.{imposeBy, imposeAllBy, imposedBy, typingBy, roundBy, roundsFromBy, roundsBy, ranBy, worksUnmet, limited}
-use Rattle.validity.specs.Unlimited.{notedIfOver, insertAlways, works, ranFree, unlimited, moment, elevenAt, closeOrEleven}
+use Rattle.validity.specs.Unlimited.{imposeBy, imposeAllBy, imposedBy, typingBy, PassBy, passesBy, runPassesBy, roundBy, roundsFromBy, roundsBy}
+use Rattle.validity.specs.Unlimited.{ranBy, worksUnmet, limited, notedIfOver, insertAlways, works, ranFree, unlimited, moment, elevenAt}
+use Rattle.validity.specs.Unlimited.{closeOrEleven}
 use Rattle.validity.proofs.Closing.{close-fuel}
-
--- The close is the close over its insertion.
-
-pub is-imposeAll : (fs : List Fact) (w : Core) → imposeAllBy insertFact fs w ≡ imposeAll fs w
-unfolding imposeAllBy imposeBy imposeAll impose insertCanonical
-is-imposeAll [] w = refl
-is-imposeAll (f ∷ fs) w = is-imposeAll fs (impose f w)
-
-pub is-round : (g : Sig) (preds : List PredApp) (apps : List FuncApp) (w : Core) → roundBy insertFact g preds apps w ≡ round g preds apps w
-unfolding roundBy round passes runPasses typingBy typingPass
-is-round g preds apps w =
-    let t = functionalityPass g preds (drainPass g preds (turn w apps false)) in
-    ap (λ (x : Core). typed x t) (is-imposeAll (demands g (t .apps) preds) (t .core))
-
-pub is-rounds : (n : ℕ) (g : Sig) (preds : List PredApp) (t : Turn) → roundsFromBy insertFact worksUnmet n g preds t ≡ roundsFrom n g preds t
-unfolding roundsFromBy roundsFrom
-is-rounds zero g preds t = refl
-is-rounds (suc n) g preds t = ap
-    (λ (r : Rounds). elim (t .worked && isNone (t .core .met)) as (λ _. Rounds) [ true ↦ oneMore r | false ↦ lastRound t ])
-    (is-rounds n g preds (roundBy insertFact g preds (t .apps) (t .core)) ∙ ap (roundsFrom n g preds) (is-round g preds (t .apps) (t .core)))
-
-is-imposed : (r : Rounds) (s : Structure) → imposedBy insertFact r s ≡ imposedAfter r s
-unfolding imposedBy imposedAfter
-is-imposed r s = λ i. record { rounds = r; core = is-imposeAll (s .impositions) (r .core) i }
-
-module _ (g : Sig) (s : Structure) where
-  is-ran : (n : ℕ) → roundsBy insertFact worksUnmet n g s ≡ roundsFrom n g (s .pred-apps) (round g (s .pred-apps) (s .func-apps) (coreOf s))
-  unfolding roundsBy
-  is-ran n =
-      is-rounds n g (s .pred-apps) (roundBy insertFact g (s .pred-apps) (s .func-apps) (coreOf s))
-      ∙ ap (roundsFrom n g (s .pred-apps)) (is-round g (s .pred-apps) (s .func-apps) (coreOf s))
-
-  -- with any number of rounds that leaves what the rounds of the close leave
-  is-close-at : (n : ℕ)
-      → roundsFrom n g (s .pred-apps) (round g (s .pred-apps) (s .func-apps) (coreOf s)) ≡ rounds g (s .pred-apps) (s .func-apps) (coreOf s)
-      → close g s ≡ limited insertFact n g s
-  unfolding close closeRun limited ranBy
-  is-close-at n e =
-      sym (ap (λ (c : CloseRun). closeBy c s) (is-imposed (roundsBy insertFact worksUnmet n g s) s ∙ ap (λ (r : Rounds). imposedAfter r s) (is-ran n ∙ e)))
-
-  pub is-close : close g s ≡ limited insertFact fuel g s
-  unfolding rounds
-  is-close = is-close-at fuel refl
 
 -- What merges and refinements keep: the number that is met, and no more facts than there were.
 
@@ -145,17 +103,15 @@ refineAll-kept (g ∷ gs) f w = go (eqb (g .typ) (f .typ)) (λ v. refineAll-kept
         then w v (refineAll gs f v) (refineParents-kept (g .parents) (f .parents) w) (rest v)
     go false rest = rest w
 
--- the two passes before `typing`
-abbrev before-typing : Sig → List PredApp → List FuncApp → Core → Turn
-before-typing g preds apps w = functionalityPass g preds (drainPass g preds (turn w apps false))
+-- What holds through merges and insertions holds through facts imposed.
 
-before-kept : (g : Sig) (preds : List PredApp) (apps : List FuncApp) (w : Core) → MetKept w (before-typing g preds apps w .core)
-unfolding functionalityPass rewrote drainPass drained
-before-kept g preds apps w = let k = drain-kept w in record { met = k .met; facts = k .facts }
+abbrev Through : (Core → Type 0) → Type 0
+Through P = (w v : Core) → MetKept w v → P w → P v
 
--- What holds through merges and insertions holds through a close, whatever ends its rounds.
-module _ (insert : Fact → Core → Core) (P : Core → Type 0) (through : (w v : Core) → MetKept w v → P w → P v)
-    (inserts : (f : Fact) (w : Core) → P w → P (insert f w)) where
+abbrev Inserts : (Core → Type 0) → (Fact → Core → Core) → Type 0
+Inserts P insert = (f : Fact) (w : Core) → P w → P (insert f w)
+
+module _ (insert : Fact → Core → Core) (P : Core → Type 0) (through : Through P) (inserts : Inserts P insert) where
   impose-holds : (f : Fact) (w : Core) → P w → P (imposeBy insert f w)
   unfolding imposeBy
   impose-holds f w h =
@@ -167,26 +123,6 @@ module _ (insert : Fact → Core → Core) (P : Core → Type 0) (through : (w v
   unfolding imposeAllBy
   imposeAll-holds [] w h = h
   imposeAll-holds (f ∷ fs) w h = imposeAll-holds fs (imposeBy insert f w) (impose-holds f w h)
-
-  pub round-holds : (g : Sig) (preds : List PredApp) (apps : List FuncApp) (w : Core) → P w → P (roundBy insert g preds apps w .core)
-  unfolding roundBy runPasses typingBy typed
-  round-holds g preds apps w h =
-      let t = before-typing g preds apps w in
-      imposeAll-holds (demands g (t .apps) preds) (t .core) (through w (t .core) (before-kept g preds apps w) h)
-
-  pub rounds-hold : (more : Turn → Bool) (n : ℕ) (g : Sig) (preds : List PredApp) (t : Turn) → P (t .core)
-      → P (roundsFromBy insert more n g preds t .core)
-  unfolding roundsFromBy lastRound oneMore
-  rounds-hold more zero g preds t h = h
-  rounds-hold more (suc n) g preds t h = go (more t) (rounds-hold more n g preds u (round-holds g preds (t .apps) (t .core) h))
-    where
-      u : Turn
-      u = roundBy insert g preds (t .apps) (t .core)
-
-      go : (b : Bool) → P (roundsFromBy insert more n g preds u .core)
-          → P ((elim b as (λ _. Rounds) [ true ↦ oneMore (roundsFromBy insert more n g preds u) | false ↦ lastRound t ]) .core)
-      go true k = k
-      go false k = h
 
 -- Two runs agree: they are at the same place and no number is met, or 11 is met in both.
 
@@ -306,19 +242,119 @@ imposeAll-agree (f ∷ fs) w m =
         let v = refineAll ts f w in
         insert-agrees (canonicalFact (v .links) f) v (refineAll-kept ts f w .met ∙ m))
 
+-- with the insertion of the close it is `imposeAll`
+pub is-imposeAll : (fs : List Fact) (w : Core) → imposeAllBy insertFact fs w ≡ imposeAll fs w
+unfolding imposeAllBy imposeBy imposeAll impose insertCanonical
+is-imposeAll [] w = refl
+is-imposeAll (f ∷ fs) w = is-imposeAll fs (impose f w)
+
+-- The passes.
+
+-- a pass of the close, and the same with any insertion
+pub record LimitLaw (b : PassBy) (p : Pass) : Type 1 where
+  pub is : (g : Sig) (preds : List PredApp) (t : Turn) → b insertFact g preds t ≡ p g preds t
+  pub holds : (insert : Fact → Core → Core) (P : Core → Type 0) → Through P → Inserts P insert
+      → (g : Sig) (preds : List PredApp) (t : Turn) → P (t .core) → P (b insert g preds t .core)
+  pub agrees : (g : Sig) (preds : List PredApp) (t : Turn) → t .core .met ≡ none → Agree metTurn (b insertFact g preds t) (b insertAlways g preds t)
+
+-- of a pass that makes no insertion
+inserts-none : (p : Pass) → ((g : Sig) (preds : List PredApp) (t : Turn) → MetKept (t .core) (p g preds t .core)) → LimitLaw (λ insert. p) p
+inserts-none p kept = record {
+  is = λ g preds t. refl;
+  holds = λ insert P through inserts g preds t. through (t .core) (p g preds t .core) (kept g preds t);
+  agrees = λ g preds t m. inl (refl, kept g preds t .met ∙ m);
+}
+
+drain-limit : LimitLaw (λ insert. drainPass) drainPass
+unfolding drainPass drained
+drain-limit = inserts-none drainPass (λ g preds t. drain-kept (t .core))
+
+functionality-limit : LimitLaw (λ insert. functionalityPass) functionalityPass
+unfolding functionalityPass rewrote
+functionality-limit = inserts-none functionalityPass (λ g preds t. record { met = refl; facts = omega arith })
+
 typed-agree : (t : Turn) (w u : Core) → Agree metCore w u → Agree metTurn (typed w t) (typed u t)
 unfolding typed
 typed-agree t w u (inl h) = inl (ap (λ (x : Core). typed x t) (h .0), h .1)
 typed-agree t w u (inr h) = inr h
 
+typing-limit : LimitLaw typingBy typingPass
+unfolding typingBy typingPass typed
+typing-limit = record {
+  is = λ g preds t. ap (λ (x : Core). typed x t) (is-imposeAll (demands g (t .apps) preds) (t .core));
+  holds = λ insert P through inserts g preds t. imposeAll-holds insert P through inserts (demands g (t .apps) preds) (t .core);
+  agrees = λ g preds t m.
+      let fs = demands g (t .apps) preds in
+      typed-agree t (imposeAllBy insertFact fs (t .core)) (imposeAllBy insertAlways fs (t .core)) (imposeAll-agree fs (t .core) m);
+}
+
+data AllLimited : List PassBy → List Pass → Type 1 where
+  nil : AllLimited [] []
+  cons : {b : PassBy} {p : Pass} {bs : List PassBy} {ps : List Pass} → LimitLaw b p → AllLimited bs ps → AllLimited (b ∷ bs) (p ∷ ps)
+
+all-limited : AllLimited passesBy passes
+unfolding passesBy passes
+all-limited = cons drain-limit (cons functionality-limit (cons typing-limit nil))
+
+run-is : (bs : List PassBy) (ps : List Pass) → AllLimited bs ps → (g : Sig) (preds : List PredApp) (t : Turn)
+    → runPassesBy bs insertFact g preds t ≡ runPasses ps g preds t
+unfolding runPassesBy runPasses
+run-is bs ps nil g preds t = refl
+run-is cs qs (cons {b} {p} {bs} {ps} l ls) g preds t =
+    ap (runPassesBy bs insertFact g preds) (l .is g preds t) ∙ run-is bs ps ls g preds (p g preds t)
+
+module _ (insert : Fact → Core → Core) (P : Core → Type 0) (through : Through P) (inserts : Inserts P insert) where
+  run-holds : (bs : List PassBy) (ps : List Pass) → AllLimited bs ps → (g : Sig) (preds : List PredApp) (t : Turn) → P (t .core)
+      → P (runPassesBy bs insert g preds t .core)
+  unfolding runPassesBy
+  run-holds bs ps nil g preds t h = h
+  run-holds cs qs (cons {b} {p} {bs} {ps} l ls) g preds t h = run-holds bs ps ls g preds (b insert g preds t) (l .holds insert P through inserts g preds t h)
+
+run-agrees : (bs : List PassBy) (ps : List Pass) → AllLimited bs ps → (g : Sig) (preds : List PredApp) (t : Turn) → t .core .met ≡ none
+    → Agree metTurn (runPassesBy bs insertFact g preds t) (runPassesBy bs insertAlways g preds t)
+unfolding runPassesBy
+run-agrees bs ps nil g preds t m = inl (refl, m)
+run-agrees cs qs (cons {b} {p} {bs} {ps} l ls) g preds t m =
+    agree-then metTurn metTurn (runPassesBy bs insertFact g preds) (runPassesBy bs insertAlways g preds) (run-agrees bs ps ls g preds)
+    (run-holds insertFact Met met-through insert-met bs ps ls g preds) (run-holds insertAlways Met met-through always-met bs ps ls g preds)
+    (b insertFact g preds t) (b insertAlways g preds t) (l .agrees g preds t m)
+
+-- The rounds.
+
+pub is-round : (g : Sig) (preds : List PredApp) (apps : List FuncApp) (w : Core) → roundBy insertFact g preds apps w ≡ round g preds apps w
+unfolding roundBy round
+is-round g preds apps w = run-is passesBy passes all-limited g preds (turn w apps false)
+
+pub is-rounds : (n : ℕ) (g : Sig) (preds : List PredApp) (t : Turn) → roundsFromBy insertFact worksUnmet n g preds t ≡ roundsFrom n g preds t
+unfolding roundsFromBy roundsFrom
+is-rounds zero g preds t = refl
+is-rounds (suc n) g preds t = ap
+    (λ (r : Rounds). elim (t .worked && isNone (t .core .met)) as (λ _. Rounds) [ true ↦ oneMore r | false ↦ lastRound t ])
+    (is-rounds n g preds (roundBy insertFact g preds (t .apps) (t .core)) ∙ ap (roundsFrom n g preds) (is-round g preds (t .apps) (t .core)))
+
+module _ (insert : Fact → Core → Core) (P : Core → Type 0) (through : Through P) (inserts : Inserts P insert) where
+  pub round-holds : (g : Sig) (preds : List PredApp) (apps : List FuncApp) (w : Core) → P w → P (roundBy insert g preds apps w .core)
+  unfolding roundBy
+  round-holds g preds apps w = run-holds insert P through inserts passesBy passes all-limited g preds (turn w apps false)
+
+  pub rounds-hold : (more : Turn → Bool) (n : ℕ) (g : Sig) (preds : List PredApp) (t : Turn) → P (t .core)
+      → P (roundsFromBy insert more n g preds t .core)
+  unfolding roundsFromBy lastRound oneMore
+  rounds-hold more zero g preds t h = h
+  rounds-hold more (suc n) g preds t h = go (more t) (rounds-hold more n g preds u (round-holds g preds (t .apps) (t .core) h))
+    where
+      u : Turn
+      u = roundBy insert g preds (t .apps) (t .core)
+
+      go : (b : Bool) → P (roundsFromBy insert more n g preds u .core)
+          → P ((elim b as (λ _. Rounds) [ true ↦ oneMore (roundsFromBy insert more n g preds u) | false ↦ lastRound t ]) .core)
+      go true k = k
+      go false k = h
+
 pub round-agrees : (g : Sig) (preds : List PredApp) (apps : List FuncApp) (w : Core) → w .met ≡ none
     → Agree metTurn (roundBy insertFact g preds apps w) (roundBy insertAlways g preds apps w)
-unfolding roundBy runPasses typingBy
-round-agrees g preds apps w m =
-    let t = before-typing g preds apps w in
-    let fs = demands g (t .apps) preds in
-    typed-agree t (imposeAllBy insertFact fs (t .core)) (imposeAllBy insertAlways fs (t .core))
-    (imposeAll-agree fs (t .core) (before-kept g preds apps w .met ∙ m))
+unfolding roundBy
+round-agrees g preds apps w = run-agrees passesBy passes all-limited g preds (turn w apps false)
 
 more-agree : (r q : Rounds) → Agree metRounds r q → Agree metRounds (oneMore r) (oneMore q)
 unfolding oneMore
@@ -342,6 +378,31 @@ rounds-agree g preds (suc n) t m =
     go true true e {r} {q} next = more-agree r q next
     go true false e next = no-test refl (sym e)
     go false o e next = inl (refl, m)
+
+-- The close.
+
+is-imposed : (r : Rounds) (s : Structure) → imposedBy insertFact r s ≡ imposedAfter r s
+unfolding imposedBy imposedAfter
+is-imposed r s = λ i. record { rounds = r; core = is-imposeAll (s .impositions) (r .core) i }
+
+module _ (g : Sig) (s : Structure) where
+  is-ran : (n : ℕ) → roundsBy insertFact worksUnmet n g s ≡ roundsFrom n g (s .pred-apps) (round g (s .pred-apps) (s .func-apps) (coreOf s))
+  unfolding roundsBy
+  is-ran n =
+      is-rounds n g (s .pred-apps) (roundBy insertFact g (s .pred-apps) (s .func-apps) (coreOf s))
+      ∙ ap (roundsFrom n g (s .pred-apps)) (is-round g (s .pred-apps) (s .func-apps) (coreOf s))
+
+  -- with any number of rounds that leaves what the rounds of the close leave
+  is-close-at : (n : ℕ)
+      → roundsFrom n g (s .pred-apps) (round g (s .pred-apps) (s .func-apps) (coreOf s)) ≡ rounds g (s .pred-apps) (s .func-apps) (coreOf s)
+      → close g s ≡ limited insertFact n g s
+  unfolding close closeRun limited ranBy
+  is-close-at n e =
+      sym (ap (λ (c : CloseRun). closeBy c s) (is-imposed (roundsBy insertFact worksUnmet n g s) s ∙ ap (λ (r : Rounds). imposedAfter r s) (is-ran n ∙ e)))
+
+  pub is-close : close g s ≡ limited insertFact fuel g s
+  unfolding rounds
+  is-close = is-close-at fuel refl
 
 module _ (g : Sig) (s : Structure) where
   -- the whole run, of at most so many rounds after the first

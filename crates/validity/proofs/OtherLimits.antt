@@ -9,13 +9,13 @@ use lib.ListN.{length}
 use lib.Dec.{ltb}
 use Rattle.ids.specs.Answers.{Answered, Outcome, accepted, refused, tooManyFacts}
 use Rattle.ids.specs.Table.{present, placed}
-use Rattle.signature.specs.Model.{Sig, empty as noTypes}
+use Rattle.signature.specs.Model.{empty as noTypes}
 use Rattle.semantics.specs.Structure.{Fact, Structure, compareFact, maxFacts, empty, with-facts, with-impositions, fact}
 use Rattle.semantics.specs.Types.{Core, with-added, with-met}
 use Rattle.semantics.specs.Close.{fuel, Closed, report}
 use Rattle.semantics.proofs.Computes.{everything}
-use Rattle.validity.specs.Unlimited.{imposeBy, imposeAllBy, imposedBy, typingBy, roundBy, roundsFromBy, roundsBy, ranBy, limited}
-use Rattle.validity.specs.Unlimited.{notedIfOver, insertAlways, unlimited, moment, elevenAt, closeOrEleven}
+use Rattle.validity.specs.Unlimited.{imposeBy, imposeAllBy, imposedBy, typingBy, passesBy, runPassesBy, roundBy, roundsFromBy, roundsBy, ranBy}
+use Rattle.validity.specs.Unlimited.{limited, notedIfOver, insertAlways, unlimited, moment, elevenAt, closeOrEleven}
 
 -- `insertFact` with the limit n
 unfoldable pub insertWithin : ℕ → Fact → Core → Core
@@ -46,12 +46,12 @@ differ p q e =
 
 -- "fact 1,024": it is inserted
 pub one-less : limited (insertWithin (maxFacts - 1)) fuel noTypes (crowded (maxFacts - 1)) ≡ closeOrEleven fuel noTypes (crowded (maxFacts - 1)) → ⊥
-unfolding everything imposeBy imposeAllBy imposedBy typingBy roundBy roundsFromBy roundsBy ranBy limited notedIfOver insertAlways unlimited moment elevenAt insertWithin
+unfolding everything imposeBy imposeAllBy imposedBy typingBy passesBy runPassesBy roundBy roundsFromBy roundsBy ranBy limited notedIfOver insertAlways unlimited moment elevenAt insertWithin
     copies crowded
 one-less = differ refl refl
 
 -- "and 1,025": it is not
 pub one-more : limited (insertWithin (maxFacts + 1)) fuel noTypes (crowded maxFacts) ≡ closeOrEleven fuel noTypes (crowded maxFacts) → ⊥
-unfolding everything imposeBy imposeAllBy imposedBy typingBy roundBy roundsFromBy roundsBy ranBy limited notedIfOver insertAlways unlimited moment elevenAt insertWithin
+unfolding everything imposeBy imposeAllBy imposedBy typingBy passesBy runPassesBy roundBy roundsFromBy roundsBy ranBy limited notedIfOver insertAlways unlimited moment elevenAt insertWithin
     copies crowded
 one-more e = differ refl refl (sym e)

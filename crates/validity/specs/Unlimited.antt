@@ -12,8 +12,8 @@ use Rattle.ids.specs.Table.{present, placed}
 use Rattle.signature.specs.Model.{Sig}
 use Rattle.semantics.specs.Structure.{Fact, FuncApp, PredApp, Structure, compareFact, canonicalFact, maxFacts}
 use Rattle.semantics.specs.Types.{Core, with-added, with-met, concreteTypesOf, refineAll}
-use Rattle.semantics.specs.Close.{Turn, Pass, drainPass, functionalityPass, typed, demands, runPasses, Rounds, isNone, lastRound, oneMore}
-use Rattle.semantics.specs.Close.{Closed, coreOf, CloseRun, closeBy, reportOf, afterClose, turn}
+use Rattle.semantics.specs.Close.{Turn, Pass, drainPass, functionalityPass, typed, demands, Rounds, isNone, lastRound, oneMore, Closed, coreOf}
+use Rattle.semantics.specs.Close.{CloseRun, closeBy, reportOf, afterClose, turn}
 
 module _ (insert : Fact → Core → Core) where
   -- `impose`
@@ -35,9 +35,23 @@ module _ (insert : Fact → Core → Core) where
   unfoldable pub typingBy : Pass
   typingBy g preds t = typed (imposeAllBy (demands g (t .apps) preds) (t .core)) t
 
+-- a pass with the insertion that it makes
+abbrev pub PassBy : Type 0
+PassBy = (Fact → Core → Core) → Pass
+
+-- `passes`
+unfoldable pub passesBy : List PassBy
+passesBy = (λ insert. drainPass) ∷ (λ insert. functionalityPass) ∷ typingBy ∷ []
+
+-- `runPasses`
+unfoldable pub runPassesBy : List PassBy → PassBy
+runPassesBy [] insert g preds t = t
+runPassesBy (p ∷ ps) insert g preds t = runPassesBy ps insert g preds (p insert g preds t)
+
+module _ (insert : Fact → Core → Core) where
   -- `round`
   unfoldable pub roundBy : Sig → List PredApp → List FuncApp → Core → Turn
-  roundBy g preds apps w = runPasses (drainPass ∷ functionalityPass ∷ typingBy ∷ []) g preds (turn w apps false)
+  roundBy g preds apps w = runPassesBy passesBy insert g preds (turn w apps false)
 
   module _ (more : Turn → Bool) where
     -- `roundsFrom`
@@ -51,7 +65,7 @@ module _ (insert : Fact → Core → Core) where
 
     -- `closeRun`
     unfoldable pub ranBy : ℕ → Sig → Structure → CloseRun
-    ranBy n g s = imposedBy (roundsBy n g s) s
+    ranBy n g s = imposedBy insert (roundsBy n g s) s
 
 -- The close with a limit, by its insertion: a number that is met ends the rounds, and refuses.
 
@@ -62,8 +76,9 @@ unfoldable pub limited : (Fact → Core → Core) → ℕ → Sig → Structure 
 limited insert n g s = closeBy (ranBy insert worksUnmet n g s) s
 
 -- The close without a limit: every fact that is not stored is inserted, rounds repeat until one in which none reports work, at most n after the
--- first (of a valid structure any number from `fuel` on gives the same, `eleven-valid`), and nothing is refused. That more than `maxFacts` facts are held is only noted, as the number met. The note is taken where a fact is inserted, since nothing
--- else makes more of them (`MetKept` of proofs/Limit.antt).
+-- first (of a valid structure any number from `fuel` on gives the same, `eleven-valid`), and nothing is refused. That more than `maxFacts` facts
+-- are held is only noted, as the number met. The note is taken where a fact is inserted, since nothing else makes more of them (`MetKept` of
+-- proofs/Limit.antt).
 
 unfoldable pub notedIfOver : Core → Core
 notedIfOver w = elim (ltb maxFacts (length (w .facts))) [ true ↦ with-met tooManyFacts w | false ↦ w ]
