@@ -1,6 +1,6 @@
 -- Laws of verdicts: what the code judges cause by cause is the first cause of a list, and what a verdict tells of a call.
 use mathlib.Core.Path.{_≡_, refl, sym, ap, subst, _∙_}
-use mathlib.Core.Bool.{Bool, true, false}
+use mathlib.Core.Bool.{Bool, true, false, _||_}
 use mathlib.Core.List.{List, [], _∷_, _++_, map, List·Memᴰ, List·Memᴰ·head, List·Memᴰ·tail}
 use mathlib.Core.Option.{Option, none, some}
 use Prim.Native.Nat.{ℕ}
@@ -68,6 +68,18 @@ module _ (n : ℕ) (given held : List ℕ) (rest : List ℕ → List Cause) (sam
 
   pub as-given : firstOf (n if tooLong given ∷ rest held) ≡ firstOf (n if tooLong given ∷ rest given)
   as-given = past _ refl
+
+-- two lists, of which one cause says that either is too long
+pub as-given-two : (n : ℕ) (given₁ held₁ given₂ held₂ : List ℕ) (rest : List ℕ → List ℕ → List Cause)
+    → (tooLong given₁ ≡ false → given₁ ≡ held₁) → (tooLong given₂ ≡ false → given₂ ≡ held₂)
+    → firstOf (n if (tooLong given₁ || tooLong given₂) ∷ rest held₁ held₂) ≡ firstOf (n if (tooLong given₁ || tooLong given₂) ∷ rest given₁ given₂)
+as-given-two n given₁ held₁ given₂ held₂ rest same₁ same₂ = go (tooLong given₁) (tooLong given₂) refl refl
+  where
+    go : (a b : Bool) → tooLong given₁ ≡ a → tooLong given₂ ≡ b
+        → firstOf (n if (a || b) ∷ rest held₁ held₂) ≡ firstOf (n if (a || b) ∷ rest given₁ given₂)
+    go true b e₁ e₂ = unfold firstOf in refl
+    go false true e₁ e₂ = unfold firstOf in refl
+    go false false e₁ e₂ = unfold firstOf in λ i. firstOf (rest (sym (same₁ e₁) i) (sym (same₂ e₂) i))
 
 -- What a verdict tells of the call that it is of.
 
