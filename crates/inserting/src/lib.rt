@@ -45,11 +45,7 @@ pub fn impose_type(structure: Structure, signature: Signature, fact: Fact) -> St
 }
 
 // Kind 9: a function application, or the equality of its result with the one that is stored.
-pub fn insert_func_app_or_equate(
-    structure: Structure,
-    signature: Signature,
-    app: FuncApp,
-) -> Stepped
+pub fn insert_func_app_or_equate(structure: Structure, signature: Signature, app: FuncApp) -> Stepped
     ensures { λ r. ⌜ stepOf (sigOf signature) r ≡ step (apply-func (givenFuncApp app)) (machine (sigOf signature) (structureOf structure)) ⌝ }
 {
     let parents = app.parents;
