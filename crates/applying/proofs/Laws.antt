@@ -8,7 +8,7 @@ use native.Mathlib.Omega.{arith}
 use lib.ListN.{length}
 use lib.Dec.{eqb, leb}
 use borrow.Author.Tests.{leb-true, leb-false, eq-eqb, ne-eqb}
-use Rattle.ids.specs.Table.{Grown, present, placed, lookupOf, insertOf}
+use Rattle.ids.specs.Table.{Insertion, present, placed, lookupOf, insertOf}
 use Rattle.ids.proofs.Tests.{chosen, unchosen}
 use Rattle.ids.proofs.Tables.{isSome, present-found, insert-new, insert-full}
 use Rattle.semantics.specs.Structure.{FuncApp, Pair, maxPairs, maxFuncApps, compareFuncApp, canonicalFuncApp}
@@ -74,7 +74,7 @@ module _ (x z : FuncApp) (ls : List ℕ) (ps : List Pair) (apps : List FuncApp) 
   abbrev stored : Applied
   stored = record { links = ls; pairs = ps; apps = placed compareFuncApp z apps; yes = true; full = leb maxFuncApps (length apps) }
 
-  pub app-new : {g : Grown FuncApp} → none ≡ resultOf (lookupOf compareFuncApp z apps) → g ≡ insertOf compareFuncApp z maxFuncApps apps
+  pub app-new : {g : Insertion FuncApp} → none ≡ resultOf (lookupOf compareFuncApp z apps) → g ≡ insertOf compareFuncApp z maxFuncApps apps
       → _≡_ {A = Applied} (record { links = ls; pairs = ps; apps = g .items; yes = g .grew; full = g .full }) (applyIn x ls ps apps)
   unfolding applyAt whereRoom
   app-new {g} h e = by (leb maxFuncApps (length apps)) refl ∙ room (go (lookupOf compareFuncApp z apps) h ∙ meets)
@@ -93,7 +93,7 @@ module _ (x z : FuncApp) (ls : List ℕ) (ps : List Pair) (apps : List FuncApp) 
           (λ i. record { links = ls; pairs = ps; apps = made i .items; yes = made i .grew; full = made i .full }) ∙ chosen stored k
       by false k =
           let made = e ∙ insert-new compareFuncApp z maxFuncApps apps absent (leb-false _ _ k) in
-          (λ i. record { links = ls; pairs = ps; apps = made i .items; yes = made i .grew; full = (ap (λ (w : Grown FuncApp). w .full) made ∙ sym k) i })
+          (λ i. record { links = ls; pairs = ps; apps = made i .items; yes = made i .grew; full = (ap (λ (w : Insertion FuncApp). w .full) made ∙ sym k) i })
           ∙ unchosen _ k
 
   -- nothing changes
