@@ -83,18 +83,6 @@ as-given-two n g₁ h₁ g₂ h₂ rest same₁ same₂ = go (tooLong g₁) (too
     go false true s₁ s₂ = unfold firstOf in refl
     go false false s₁ s₂ = unfold firstOf in λ i. firstOf (rest (sym (s₁ refl) i) (sym (s₂ refl) i))
 
--- two lists, of which one cause says that either is too long
-pub as-given-two : (n : ℕ) (given₁ held₁ given₂ held₂ : List ℕ) (rest : List ℕ → List ℕ → List Cause)
-    → (tooLong given₁ ≡ false → given₁ ≡ held₁) → (tooLong given₂ ≡ false → given₂ ≡ held₂)
-    → firstOf (n if (tooLong given₁ || tooLong given₂) ∷ rest held₁ held₂) ≡ firstOf (n if (tooLong given₁ || tooLong given₂) ∷ rest given₁ given₂)
-as-given-two n given₁ held₁ given₂ held₂ rest same₁ same₂ = go (tooLong given₁) (tooLong given₂) refl refl
-  where
-    go : (a b : Bool) → tooLong given₁ ≡ a → tooLong given₂ ≡ b
-        → firstOf (n if (a || b) ∷ rest held₁ held₂) ≡ firstOf (n if (a || b) ∷ rest given₁ given₂)
-    go true b e₁ e₂ = unfold firstOf in refl
-    go false true e₁ e₂ = unfold firstOf in refl
-    go false false e₁ e₂ = unfold firstOf in λ i. firstOf (rest (sym (same₁ e₁) i) (sym (same₂ e₂) i))
-
 -- What a verdict tells of the call that it is of.
 
 pub none-apply : (cs : List Cause) → firstOf cs ≡ none → NoneApplies cs

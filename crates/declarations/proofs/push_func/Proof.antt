@@ -1,16 +1,17 @@
 -- `push_func` meets its contract.
 use mathlib.Core.Path.{_≡_, refl, sym, ap, _∙_}
-use mathlib.Core.Bool.{not, _&&_, _||_}
+use mathlib.Core.Bool.{false, not, _&&_, _||_}
 use lib.ListN.{length, drop}
 use lib.Dec.{leb}
 use Rattle.ids.specs.Limits.{maxList}
 use Rattle.ids.specs.Answers.{refusing, outcome, malformed, tooLate, undeclared, noRoom}
+use Rattle.ids.specs.Ids.{givenTypes, tooLong}
 use Rattle.ids.specs.Judge.{verdictOf}
 use Rattle.ids.proofs.Answers.{neither}
-use Rattle.ids.proofs.Judging.{SoFar, begin, judge, as-given-two, refused-by}
+use Rattle.ids.proofs.Judging.{SoFar, begin, judge, behind, refused-by}
 use Rattle.ids.proofs.Views.{long}
 use Rattle.ids.proofs.Lists.{held-types}
-use Rattle.signature.specs.Model.{maxFuncs, func-entry, sigOf, givenFunc, with-funcs}
+use Rattle.signature.specs.Model.{maxFuncs, func-entry, sigOf, funcOf, givenFunc, with-funcs}
 use Rattle.signature.specs.Calls.{funcCauses, withFunc, pushFunc}
 use Rattle.declarations.proofs.Laws.{appends}
 use borrow.Author.Needs.{needs}
@@ -59,11 +60,15 @@ cast-refuse-if c = search needs
 refuse-if-requires-4 : tie.Need-refuse-if-requires-4
 refuse-if-requires-4 c κs = search needs
 
-parents-long : (c : tie.Start) → length (c .args .f .parents .ids) ≡ maxList
-parents-long c = search (needs, long)
-
-domain-long : (c : tie.Start) → length (c .args .f .domain .ids) ≡ maxList
-domain-long c = search (needs, long)
+-- the function is held as it was given
+held : (c : tie.Start) → let f = c .args .f in
+    (tooLong (givenTypes (f .parents)) || tooLong (givenTypes (f .domain))) ≡ false → givenFunc f ≡ funcOf f
+held c short =
+    let f = c .args .f in
+    let parents-long : length (f .parents .ids) ≡ maxList = search (needs, long) in
+    let domain-long : length (f .domain .ids) ≡ maxList = search (needs, long) in
+    let both = neither _ _ short in
+    λ k. func-entry (held-types (f .parents) parents-long (both .0) k) (held-types (f .domain) domain-long (both .1) k) (f .codomain .0)
 
 -- the verdict, as the causes decide it
 so-far : (c : tie.After-refuse-if4) → let a = c .before .before .before .before .before .before .before .before .before .before .before .before .before .before .before .before .args in
@@ -86,11 +91,7 @@ so-far c =
     let s2 = judge tooLate s1 (r2 .refuse-if2 .ensures) refl in
     let s3 = judge undeclared s2 (r3 .refuse-if3 .ensures) (ap not known) in
     let s4 = judge noRoom s3 (c .refuse-if4 .ensures) (ap (leb maxFuncs) (sized .size .ensures .is)) in
-    let parents-held = held-types (a .f .parents) (parents-long start) in
-    record {
-      is = s4 .is ∙ as-given-two malformed _ _ _ _
-          (λ ps l. drop 1 (funcCauses (a .started) (sigOf (a .signature)) (func-entry ps l (a .f .codomain .0)))) parents-held (held-types (a .f .domain) (domain-long start));
-    }
+    record { is = s4 .is ∙ behind malformed _ _ _ (λ x. drop 1 (funcCauses (a .started) (sigOf (a .signature)) x)) (held start) }
 
 enum-known-verdict : tie.Need-enum-known-verdict
 enum-known-verdict c = search needs
@@ -114,11 +115,7 @@ returns-2 c =
     let a = start .args in
     let g = sigOf (a .signature) in
     appends maxFuncs (g .funcs) (givenFunc (a .f)) (with-funcs g) g (so-far judged) (ap verdictOf (c .before .enum-told .given .1))
-    (sized .size .ensures .is) (c .push .ensures .0) (λ none.
-    let short = neither _ _ (none .0) in
-    let parents = held-types (a .f .parents) (parents-long start) (short .0) in
-    let domain = held-types (a .f .domain) (domain-long start) (short .1) in
-    (none .1 .1 .1 .0, λ k. func-entry (sym parents k) (sym domain k) (a .f .codomain .0)))
+    (sized .size .ensures .is) (c .push .ensures .0) (λ none. (none .1 .1 .1 .0, sym (held start (none .0))))
 
 pub push-func-spec : {M : Type 1} → statement M
 push-func-spec =

@@ -1,16 +1,17 @@
 -- `push_pred` meets its contract.
 use mathlib.Core.Path.{_≡_, refl, sym, ap, _∙_}
-use mathlib.Core.Bool.{not, _&&_, _||_}
+use mathlib.Core.Bool.{false, not, _&&_, _||_}
 use lib.ListN.{length, drop}
 use lib.Dec.{leb}
 use Rattle.ids.specs.Limits.{maxList}
 use Rattle.ids.specs.Answers.{refusing, outcome, malformed, tooLate, undeclared, noRoom}
+use Rattle.ids.specs.Ids.{givenTypes, tooLong}
 use Rattle.ids.specs.Judge.{verdictOf}
 use Rattle.ids.proofs.Answers.{neither}
-use Rattle.ids.proofs.Judging.{SoFar, begin, judge, as-given-two, refused-by}
+use Rattle.ids.proofs.Judging.{SoFar, begin, judge, behind, refused-by}
 use Rattle.ids.proofs.Views.{long}
 use Rattle.ids.proofs.Lists.{held-types}
-use Rattle.signature.specs.Model.{maxPreds, pred-entry, sigOf, givenPred, with-preds}
+use Rattle.signature.specs.Model.{maxPreds, pred-entry, sigOf, predOf, givenPred, with-preds}
 use Rattle.signature.specs.Calls.{predCauses, withPred, pushPred}
 use Rattle.declarations.proofs.Laws.{appends}
 use borrow.Author.Needs.{needs}
@@ -53,11 +54,15 @@ cast-refuse-if c = search needs
 refuse-if-requires-4 : tie.Need-refuse-if-requires-4
 refuse-if-requires-4 c κs = search needs
 
-parents-long : (c : tie.Start) → length (c .args .p .parents .ids) ≡ maxList
-parents-long c = search (needs, long)
-
-arity-long : (c : tie.Start) → length (c .args .p .arity .ids) ≡ maxList
-arity-long c = search (needs, long)
+-- the predicate is held as it was given
+held : (c : tie.Start) → let p = c .args .p in
+    (tooLong (givenTypes (p .parents)) || tooLong (givenTypes (p .arity))) ≡ false → givenPred p ≡ predOf p
+held c short =
+    let p = c .args .p in
+    let parents-long : length (p .parents .ids) ≡ maxList = search (needs, long) in
+    let arity-long : length (p .arity .ids) ≡ maxList = search (needs, long) in
+    let both = neither _ _ short in
+    λ k. pred-entry (held-types (p .parents) parents-long (both .0) k) (held-types (p .arity) arity-long (both .1) k)
 
 -- the verdict, as the causes decide it
 so-far : (c : tie.After-refuse-if4) → let a = c .before .before .before .before .before .before .before .before .before .before .before .before .before .before .args in
@@ -78,11 +83,7 @@ so-far c =
     let s2 = judge tooLate s1 (r2 .refuse-if2 .ensures) refl in
     let s3 = judge undeclared s2 (r3 .refuse-if3 .ensures) (ap not known) in
     let s4 = judge noRoom s3 (c .refuse-if4 .ensures) (ap (leb maxPreds) (sized .size .ensures .is)) in
-    let parents-held = held-types (a .p .parents) (parents-long start) in
-    record {
-      is = s4 .is ∙ as-given-two malformed _ _ _ _
-          (λ ps l. drop 1 (predCauses (a .started) (sigOf (a .signature)) (pred-entry ps l))) parents-held (held-types (a .p .arity) (arity-long start));
-    }
+    record { is = s4 .is ∙ behind malformed _ _ _ (λ x. drop 1 (predCauses (a .started) (sigOf (a .signature)) x)) (held start) }
 
 enum-known-verdict : tie.Need-enum-known-verdict
 enum-known-verdict c = search needs
@@ -106,11 +107,7 @@ returns-2 c =
     let a = start .args in
     let g = sigOf (a .signature) in
     appends maxPreds (g .preds) (givenPred (a .p)) (with-preds g) g (so-far judged) (ap verdictOf (c .before .enum-told .given .1))
-    (sized .size .ensures .is) (c .push .ensures .0) (λ none.
-    let short = neither _ _ (none .0) in
-    let parents = held-types (a .p .parents) (parents-long start) (short .0) in
-    let arity = held-types (a .p .arity) (arity-long start) (short .1) in
-    (none .1 .1 .1 .0, λ k. pred-entry (sym parents k) (sym arity k)))
+    (sized .size .ensures .is) (c .push .ensures .0) (λ none. (none .1 .1 .1 .0, sym (held start (none .0))))
 
 pub push-pred-spec : {M : Type 1} → statement M
 push-pred-spec =

@@ -1,15 +1,16 @@
 -- `push_type` meets its contract.
 use mathlib.Core.Path.{_≡_, refl, sym, ap, _∙_}
-use mathlib.Core.Bool.{not, _&&_}
+use mathlib.Core.Bool.{false, not, _&&_}
 use lib.ListN.{length, drop}
 use lib.Dec.{leb}
 use Rattle.ids.specs.Limits.{maxList}
 use Rattle.ids.specs.Answers.{refusing, outcome, malformed, tooLate, undeclared, wrongKind, noRoom}
+use Rattle.ids.specs.Ids.{givenTypes, tooLong}
 use Rattle.ids.specs.Judge.{verdictOf}
-use Rattle.ids.proofs.Judging.{SoFar, begin, judge, as-given, refused-by}
+use Rattle.ids.proofs.Judging.{SoFar, begin, judge, behind, refused-by}
 use Rattle.ids.proofs.Views.{long}
 use Rattle.ids.proofs.Lists.{held-types}
-use Rattle.signature.specs.Model.{maxTypes, kindOf, type-entry, sigOf, givenType, with-types}
+use Rattle.signature.specs.Model.{maxTypes, kindOf, type-entry, sigOf, typeOf, givenType, with-types}
 use Rattle.signature.specs.Calls.{typeCauses, withType, pushType}
 use Rattle.declarations.proofs.Laws.{appends}
 use borrow.Author.Needs.{needs}
@@ -52,8 +53,12 @@ cast-refuse-if c = search needs
 refuse-if-requires-5 : tie.Need-refuse-if-requires-5
 refuse-if-requires-5 c κs = search needs
 
-parents-long : (c : tie.Start) → length (c .args .t .parents .ids) ≡ maxList
-parents-long c = search (needs, long)
+-- the type is held as it was given
+held : (c : tie.Start) → let t = c .args .t in tooLong (givenTypes (t .parents)) ≡ false → givenType t ≡ typeOf t
+held c short =
+    let t = c .args .t in
+    let parents-long : length (t .parents .ids) ≡ maxList = search (needs, long) in
+    λ k. type-entry (kindOf (t .kind)) (held-types (t .parents) parents-long short k)
 
 -- the verdict, as the causes decide it
 so-far : (c : tie.After-refuse-if5) → let a = c .before .before .before .before .before .before .before .before .before .before .before .before .before .args in
@@ -74,10 +79,7 @@ so-far c =
     let s3 = judge undeclared s2 (r3 .refuse-if3 .ensures) (ap not known) in
     let s4 = judge wrongKind s3 (r4 .refuse-if4 .ensures) (ap not (r4 .before .model-is-model .ensures)) in
     let s5 = judge noRoom s4 (c .refuse-if5 .ensures) (ap (leb maxTypes) (sized .size .ensures .is)) in
-    record {
-      is = s5 .is ∙ as-given malformed _ _
-          (λ ps. drop 1 (typeCauses (a .started) (sigOf (a .signature)) (type-entry (kindOf (a .t .kind)) ps))) (held-types (a .t .parents) (parents-long start));
-    }
+    record { is = s5 .is ∙ behind malformed _ _ _ (λ x. drop 1 (typeCauses (a .started) (sigOf (a .signature)) x)) (held start) }
 
 enum-known-verdict : tie.Need-enum-known-verdict
 enum-known-verdict c = search needs
@@ -101,10 +103,7 @@ returns-2 c =
     let a = start .args in
     let g = sigOf (a .signature) in
     appends maxTypes (g .types) (givenType (a .t)) (with-types g) g (so-far judged) (ap verdictOf (c .before .enum-told .given .1))
-    (sized .size .ensures .is) (c .push .ensures .0) (λ none. (
-      none .1 .1 .1 .1 .0,
-      λ k. type-entry (kindOf (a .t .kind)) (sym (held-types (a .t .parents) (parents-long start) (none .0)) k),
-    ))
+    (sized .size .ensures .is) (c .push .ensures .0) (λ none. (none .1 .1 .1 .1 .0, sym (held start (none .0))))
 
 pub push-type-spec : {M : Type 1} → statement M
 push-type-spec =
