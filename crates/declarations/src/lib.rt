@@ -45,71 +45,39 @@ fn is_given(signature: Signature, f: FuncId) -> bool
     ensures { λ r. ⌜ r ≡ functionGiven (sigOf signature) (f .0) ⌝ }
 {
     let models = signature.models;
-    if models.has_func(f) {
-        return true;
-    }
     let mor_app_funcs = signature.mor_app_funcs;
-    mor_app_funcs.has_func(f)
+    ids::or(models.has_func(f), mor_app_funcs.has_func(f))
 }
 
 // Whether a function that the model names was given before.
 fn any_is_given(signature: Signature, ids: ModelIds) -> bool
     ensures { λ r. ⌜ r ≡ anyGiven (sigOf signature) (functions (modelOf ids)) ⌝ }
 {
-    if is_given(signature, ids.dom) {
-        return true;
-    }
-    if is_given(signature, ids.cod) {
-        return true;
-    }
-    if is_given(signature, ids.id) {
-        return true;
-    }
-    is_given(signature, ids.comp)
+    let given = ids::or(is_given(signature, ids.id), is_given(signature, ids.comp));
+    let given = ids::or(is_given(signature, ids.cod), given);
+    ids::or(is_given(signature, ids.dom), given)
 }
 
 // Whether the model names a function twice.
 fn repeats(ids: ModelIds) -> bool
     ensures { λ r. ⌜ r ≡ repeats (functions (modelOf ids)) ⌝ }
 {
-    if ids.dom.0 == ids.cod.0 {
-        return true;
-    }
-    if ids.dom.0 == ids.id.0 {
-        return true;
-    }
-    if ids.dom.0 == ids.comp.0 {
-        return true;
-    }
-    if ids.cod.0 == ids.id.0 {
-        return true;
-    }
-    if ids.cod.0 == ids.comp.0 {
-        return true;
-    }
-    ids.id.0 == ids.comp.0
+    let dom = ids::or(ids.dom.0 == ids.id.0, ids.dom.0 == ids.comp.0);
+    let dom = ids::or(ids.dom.0 == ids.cod.0, dom);
+    let cod = ids::or(ids.cod.0 == ids.id.0, ids.cod.0 == ids.comp.0);
+    let later = ids::or(cod, ids.id.0 == ids.comp.0);
+    ids::or(dom, later)
 }
 
 // Whether every number that a model names is declared.
 fn model_ids_are_declared(signature: Signature, ids: ModelIds) -> bool
     ensures { λ r. ⌜ r ≡ modelIdsDeclared (sigOf signature) (modelOf ids) ⌝ }
 {
-    if !signature.is_type(ids.type_) {
-        return false;
-    }
-    if !signature.is_type(ids.mor) {
-        return false;
-    }
-    if !signature.is_func(ids.dom) {
-        return false;
-    }
-    if !signature.is_func(ids.cod) {
-        return false;
-    }
-    if !signature.is_func(ids.id) {
-        return false;
-    }
-    signature.is_func(ids.comp)
+    let known = ids::and(signature.is_func(ids.id), signature.is_func(ids.comp));
+    let known = ids::and(signature.is_func(ids.cod), known);
+    let known = ids::and(signature.is_func(ids.dom), known);
+    let known = ids::and(signature.is_type(ids.mor), known);
+    ids::and(signature.is_type(ids.type_), known)
 }
 
 // Kind 1. `started` says that a call of kinds 6 to 14 was accepted.
