@@ -80,7 +80,7 @@ returns c =
     let a = start judged .args in
     let m = machine (sigOf (a .signature)) (structureOf (a .self)) in
     let none = none-given (c .new .result) (long _ (c .new .result .ids) _ (c .new .ok .1 .1 .0 .1 .0 .1)) (c .new .ensures) in
-    (λ i. beside (refusal m _) (none i)) ∙ ap looking (step-refuses _ m (so-far judged) _ (ap verdictOf (c .before .before .verdict .given .1)))
+    ap (beside (refusal m _)) none ∙ ap looking (step-refuses _ m (so-far judged) _ (ap verdictOf (c .before .before .verdict .given .1)))
 
 enum-told : tie.Need-enum-told
 enum-told c = search needs
