@@ -9,7 +9,7 @@ use Rattle.semantics.specs.Structure.{Structure}
 use Rattle.semantics.specs.Calls.{Rule, declares, machine, leaves, settledBy, acceptance, refusal, stepBy}
 use Rattle.declaring.specs.View.{beside}
 
-module _ {cs : List Cause} {g g′ : Sig} {n : ℕ} (s : Structure) where
+module _ (s : Structure) (cs : List Cause) (g g′ : Sig) (n : ℕ) where
   pub declares-step : {o : Outcome ℕ Sig} → o ≡ outcome cs g n g′ → beside s o ≡ stepBy (declares cs n g′ (machine g s)) (machine g s)
   unfolding outcome stepBy
   declares-step e = ap (beside s) e ∙ go (firstOf cs)
