@@ -88,14 +88,14 @@ pub fn push_type(signature: Signature, started: bool, t: Type) -> Declaring
     let n = types.size();
     let parents = t.parents;
     let kind = t.kind;
-    let known = ids::and(
+    let named = ids::and(
         signature.are_types(parents),
         model_is_declared(signature, kind),
     );
     let verdict = Verdict::Accepted;
     let verdict = verdict.refuse_if(Refusal::MALFORMED, parents.is_too_long());
     let verdict = verdict.refuse_if(Refusal::TOO_LATE, started);
-    let verdict = verdict.refuse_if(Refusal::UNDECLARED, !known);
+    let verdict = verdict.refuse_if(Refusal::UNDECLARED, !named);
     let verdict = verdict.refuse_if(Refusal::WRONG_KIND, !model_is_model(signature, kind));
     let verdict = verdict.refuse_if(Refusal::NO_ROOM, Signature::MAX_TYPES as u16 <= n);
     if let Verdict::Refused(number) = verdict {

@@ -6,7 +6,7 @@ use mathlib.Core.Option.{Option, none, some}
 use Rattle.ids.specs.Answers.{Cause, firstOf, decided, Outcome, outcome, refusing, accepting}
 use Rattle.signature.specs.Model.{Sig}
 use Rattle.semantics.specs.Structure.{Structure}
-use Rattle.semantics.specs.Calls.{Rule, declares, machine, leaves, settledBy, acceptance, refusal, stepBy}
+use Rattle.semantics.specs.Calls.{declares, machine, leaves, settledBy, acceptance, refusal, stepBy}
 use Rattle.declaring.specs.View.{beside}
 
 module _ (s : Structure) (cs : List Cause) (g g′ : Sig) (n : ℕ) where

@@ -1,11 +1,8 @@
 -- The signature (01, "Types from the signature") as the definitions speak of it, and the view of the code's tables.
-use Prim.Native.Nat.{ℕ, _≤_}
-use mathlib.Core.Path.{_≡_}
-use mathlib.Core.List.{List, [], _∷_, map}
-use lib.ListN.{take, length, getD}
+use Prim.Native.Nat.{ℕ}
+use mathlib.Core.List.{List, [], map}
+use lib.ListN.{take, getD}
 use Rattle.ids.specs.Ids.{typesOf, givenTypes}
-use Rattle.ids.specs.declared.TypeId.{TypeId}
-use Rattle.ids.specs.declared.TypeIds.{TypeIds}
 use Rattle.signature.specs.declared.TypeKind.{TypeKind}
 use Rattle.signature.specs.declared.TypeKind.the-variants.{Plain, Model, Enum, Mor}
 use Rattle.signature.specs.declared.Type as code-type
