@@ -12,16 +12,16 @@ use Rattle.ids.specs.Count.{count}
 use Rattle.unification.specs.Roots.{rootOf}
 use Rattle.unification.proofs.Numbers.{same-or}
 use Rattle.unification.proofs.Laws.{root-le, root-root}
-use Rattle.semantics.specs.Structure.{FuncApp, compareFuncApp, canonicalFuncApp}
+use Rattle.semantics.specs.Structure.{FuncApp, func-app, compareFuncApp, canonicalFuncApp}
 use Rattle.semantics.specs.Types.{Core}
 use Rattle.history.specs.Book.{Book, elements, Fits, Shared, Classes}
 use Rattle.history.proofs.Relation.{Equivalence, OneRoot, one-root, one-rooted, Like, like-self, like-respects}
 use Rattle.history.proofs.Elements.{Named, restricted, shared-among-all}
 use Rattle.semantics.proofs.Counts.{roots, isRoot, count-alike}
-use Rattle.history.proofs.Drain.{Even}
+use Rattle.history.proofs.Drain.{HoldsOfPair}
 use Rattle.history.proofs.Functionality.{Canon, settled-agree, meet-images}
-use Rattle.history.proofs.Passes.{Fair}
-use Rattle.history.proofs.Calls.{Told, Tied}
+use Rattle.history.proofs.Passes.{HoldsOfCore}
+use Rattle.history.proofs.Calls.{HoldsOfBook, Tied}
 
 -- an application of the book, or of a table
 abbrev In : List FuncApp → FuncApp → Type 0
@@ -38,41 +38,41 @@ like-image : (ls : List ℕ) (l : List FuncApp) (x : FuncApp) (k : Like (OneRoot
 unfolding canonicalFuncApp
 like-image ls l x k =
     let m = meet-images ls (k .of) x (k .meet) in
-    λ i. record { func = m .func i; parents = m .parents i; args = m .args i; result = k .result i }
+    λ i. func-app (m .func i) (m .parents i) (m .args i) (k .result i)
 
 module _ (b : Book) (w : Core) (xs : List FuncApp) (named : Named b) (g : Tied b w xs) where
   abbrev ls : List ℕ
   ls = w .links
 
   -- a relation that fits the book agrees with the structure
-  fits-fair : (R : ℕ → ℕ → Type 0) → Equivalence R → Fits b R → Fair R (Like R (In (b .apps))) w xs
-  fits-fair R q f =
+  fits-core : (R : ℕ → ℕ → Type 0) → Equivalence R → Fits b R → HoldsOfCore R (Like R (In (b .apps))) w xs
+  fits-core R q f =
       g .on R (Like R (In (b .apps))) q (like-respects R q (In (b .apps)) (f .functional))
-      (all-from (Even R) (b .equalities) (f .equal), all-from (Like R (In (b .apps))) (b .apps) (like-self R q (In (b .apps))))
+      (all-from (HoldsOfPair R) (b .equalities) (f .equal), all-from (Like R (In (b .apps))) (b .apps) (like-self R q (In (b .apps))))
 
   pub shared-if : (x y : ℕ) → x < elements b → OneRoot ls x y → Shared b x y
   shared-if x y h e =
       shared-among-all b named x y h .1 (λ R q f.
-      let r = fits-fair R q f .rooted in q .trans (q .flip (r x)) (subst (λ z. R z y) (sym e) (r y)))
+      let r = fits-core R q f .rooted in q .trans (q .flip (r x)) (subst (λ z. R z y) (sym e) (r y)))
 
   module _ (none : w .pairs ≡ []) (sorted : Sorted compareFuncApp xs) (canon : All (Canon ls) xs) where
-    root-told : Told (OneRoot ls) (Like (OneRoot ls) (In xs)) b
-    root-told =
+    root-holds : HoldsOfBook (OneRoot ls) (Like (OneRoot ls) (In xs)) b
+    root-holds =
         g .back (OneRoot ls) (Like (OneRoot ls) (In xs)) (one-root ls)
         (like-respects (OneRoot ls) (one-root ls) (In xs) (settled-agree ls xs sorted canon))
         (record {
           rooted = one-rooted ls;
-          pairs = subst (All (Even (OneRoot ls))) (sym none) tt;
+          pairs = subst (All (HoldsOfPair (OneRoot ls))) (sym none) tt;
           apps = all-from (Like (OneRoot ls) (In xs)) xs (like-self (OneRoot ls) (one-root ls) (In xs));
         })
 
     -- the partition by roots fits
     root-fits : Fits b (OneRoot ls)
     root-fits = record {
-      equal = all-at (Even (OneRoot ls)) (b .equalities) (root-told .0);
+      equal = all-at (HoldsOfPair (OneRoot ls)) (b .equalities) (root-holds .0);
       functional = λ x y mx my m.
           like-respects (OneRoot ls) (one-root ls) (In xs) (settled-agree ls xs sorted canon) .agree x y m
-          (all-at (Like (OneRoot ls) (In xs)) (b .apps) (root-told .1) x mx) (all-at (Like (OneRoot ls) (In xs)) (b .apps) (root-told .1) y my);
+          (all-at (Like (OneRoot ls) (In xs)) (b .apps) (root-holds .1) x mx) (all-at (Like (OneRoot ls) (In xs)) (b .apps) (root-holds .1) y my);
     }
 
     pub only-shared : (x y : ℕ) → Shared b x y → OneRoot ls x y
@@ -103,13 +103,13 @@ module _ (b : Book) (w : Core) (xs : List FuncApp) (named : Named b) (g : Tied b
     -- each stored application is the root image of one in the book
     pub stored-image : (x : FuncApp) → List·Memᴰ x xs → ImageOf ls (b .apps) x
     stored-image x m =
-        let k = all-at (Like (OneRoot ls) (In (b .apps))) xs (fits-fair (OneRoot ls) (one-root ls) root-fits .apps) x m in
+        let k = all-at (Like (OneRoot ls) (In (b .apps))) xs (fits-core (OneRoot ls) (one-root ls) root-fits .apps) x m in
         record { of = k .of; among = k .has; is = like-image ls (b .apps) x k ∙ all-at (Canon ls) xs canon x m }
 
     -- and conversely
     pub image-stored : (x : FuncApp) → List·Memᴰ x (b .apps) → List·Memᴰ (canonicalFuncApp ls x) xs
     image-stored x m =
-        let k = all-at (Like (OneRoot ls) (In xs)) (b .apps) (root-told .1) x m in
+        let k = all-at (Like (OneRoot ls) (In xs)) (b .apps) (root-holds .1) x m in
         Memᴰ·cast (sym (like-image ls xs x k) ∙ all-at (Canon ls) xs canon (k .of) (k .has)) (k .has)
 
 -- The number of classes is one number.

@@ -1,24 +1,79 @@
 -- A close, where no element is marked.
-use mathlib.Core.Path.{_≡_, refl, sym, subst, _∙_}
-use mathlib.Core.List.{[]}
+use mathlib.Core.Path.{_≡_, refl, sym, subst, ap, _∙_}
+use mathlib.Core.Bool.{true, not}
+use mathlib.Core.List.{[], _∷_}
 use mathlib.Core.Option.{Option, none, some}
 use Prim.Native.Nat.{ℕ, _+_, _≤_, _<_}
 use native.Mathlib.Omega.{arith}
-use Rattle.ids.specs.Answers.{accepted, refused}
-use Rattle.ids.proofs.Sorted.{All, Sorted}
+use Rattle.ids.specs.Answers.{Outcome, outcome, accepted, refused, refusing, accepting, _if_}
+use Rattle.ids.proofs.Judging.{NoneApplies, decided-by, refused-after}
+use Rattle.ids.proofs.Sorted.{All, Sorted, no-test}
 use Rattle.signature.specs.Model.{Sig}
-use Rattle.semantics.specs.Structure.{Structure, compareFuncApp}
+use Rattle.semantics.specs.Structure.{Structure, compareFuncApp, with-flags}
 use Rattle.semantics.specs.Types.{Core, imposeAll}
-use Rattle.semantics.specs.Close.{Rounds, rounds, fuel, Closed, coreOf, canonicaliseRefs, withCore, answerOf, leftBy, closeWith}
-use Rattle.semantics.specs.Close.{closeImposed, closeAfter, close}
+use Rattle.semantics.specs.Close.{Rounds, rounds, fuel, Closed, coreOf, canonicaliseRefs, withCore, CloseRun, imposedAfter, closeRun}
+use Rattle.semantics.specs.Close.{reportOf, afterClose, closeCauses, closeBy, close}
+use Rattle.semantics.specs.Calls as calls
+use Rattle.semantics.specs.Calls.{closed, Machine, machine, Step, closeRule, acceptance, leaves, settledBy}
 use Rattle.semantics.proofs.Counts.{roots}
+use Rattle.semantics.proofs.Judged.{step-by}
 use Rattle.history.proofs.Functionality.{Canon}
-use Rattle.history.proofs.Imposing.{Grown}
+use Rattle.history.proofs.Imposing.{OnlyFactsGrew}
 use Rattle.history.proofs.Passes.{Ready, Sound, sound-then, Passed, passed-then, grown-passed, unmarked-grown}
 use Rattle.history.proofs.Rounds.{Settled, rounds-law}
 
+-- a close that no cause refuses met no number
+pub unmet : (c : CloseRun) → NoneApplies (closeCauses c) → c .core .met ≡ none
+unfolding closeCauses
+unmet c = go (c .core .met)
+  where
+    go : (o : Option ℕ) → NoneApplies (elim o [ none ↦ [] | some n ↦ n if true ∷ [] ]) → o ≡ none
+    go none h = refl
+    go (some n) h = no-test refl (h .0)
+
+-- an accepted close, which answered a
+pub record AcceptedClose (c : CloseRun) (s : Structure) (a : Closed) (v : Structure) : Type 0 where
+  pub met : c .core .met ≡ none
+  pub answer : a ≡ reportOf c
+  pub after : v ≡ afterClose c s
+
+pub record ClosedStep (c : CloseRun) (m : Machine) (a : Closed) (v : Machine) : Type 0 where
+  pub met : c .core .met ≡ none
+  pub answer : a ≡ reportOf c
+  pub after : v ≡ machine (m .sig) (with-flags true (not (a .changed)) (afterClose c (m .structure)))
+
+module _ (g : Sig) (s : Structure) where
+  pub accepted-close : (a : Closed) → close g s .answer ≡ accepted a → AcceptedClose (closeRun g s) s a (close g s .after)
+  unfolding close closeBy outcome
+  accepted-close a =
+      decided-by (λ (o : Outcome Closed Structure). o .answer ≡ accepted a → AcceptedClose run s a (o .after)) (closeCauses run) (refusing s)
+      (accepting (reportOf run) (afterClose run s)) (λ n q e. let z : _≡_ {A = ℕ} 0 1 = cc in absurd (omega arith))
+      (λ none-applies e. record { met = unmet run none-applies; answer = cc; after = refl })
+    where
+      run : CloseRun
+      run = closeRun g s
+
+  -- a refused one leaves all as it was
+  pub refused-close : (k : ℕ) → close g s .answer ≡ refused k → close g s .after ≡ s
+  unfolding close closeBy
+  refused-close = refused-after s (afterClose (closeRun g s) s) (reportOf (closeRun g s)) (closeCauses (closeRun g s))
+
+-- the same of the call
+pub closed-step : (m : Machine) (a : Closed) → calls.step calls.close m .answer ≡ closed a
+    → ClosedStep (closeRun (m .sig) (m .structure)) m a (calls.step calls.close m .after)
+unfolding calls.rule closeRule acceptance leaves settledBy
+closed-step m a =
+    step-by calls.close m (λ (t : Step). t .answer ≡ closed a → ClosedStep run m a (t .after))
+    (λ n q e. let z : _≡_ {A = ℕ} 0 1 = cc in absurd (omega arith))
+    (λ none-applies e.
+    let same : a ≡ reportOf run = cc in
+    record { met = unmet run none-applies; answer = same; after = ap (λ (x : Closed). machine (m .sig) (with-flags true (not (x .changed)) (afterClose run (m .structure)))) (sym same) })
+  where
+    run : CloseRun
+    run = closeRun (m .sig) (m .structure)
+
 -- what an accepted close leaves of s, having answered c
-pub record Shut (n total : ℕ) (s v : Structure) (c : Closed) : Type 1 where
+pub record ClosedSoundly (n total : ℕ) (s v : Structure) (c : Closed) : Type 1 where
   pub ready : Ready n (roots (v .links)) (coreOf v) (v .func-apps)
   pub sound : Sound (coreOf s) (s .func-apps) (coreOf v) (v .func-apps)
   pub pairs : v .pairs ≡ []
@@ -37,7 +92,10 @@ module _ (n total : ℕ) (g : Sig) (s : Structure) (ready : Ready n total (coreO
   abbrev w : Core
   w = imposeAll (s .impositions) (r .core)
 
-  grown : Grown (r .core) w
+  abbrev run : CloseRun
+  run = closeRun g s
+
+  grown : OnlyFactsGrew (r .core) w
   grown = unmarked-grown (s .impositions) (r .core) (settled .passed .ready .plain)
 
   -- the rounds, and the impositions, which alter facts only
@@ -45,23 +103,24 @@ module _ (n total : ℕ) (g : Sig) (s : Structure) (ready : Ready n total (coreO
   passed = passed-then (settled .passed) (grown-passed n total (r .core) w (r .apps) grown (settled .passed .ready))
 
   -- `canonicalise_refs` does not bear on a partition
-  left-sound : Sound w (r .apps) (coreOf (leftBy r w s)) (leftBy r w s .func-apps)
-  unfolding coreOf leftBy canonicaliseRefs withCore
-  left-sound = record {
+  after-sound : Sound w (r .apps) (coreOf (afterClose run s)) (afterClose run s .func-apps)
+  unfolding coreOf afterClose canonicaliseRefs withCore imposedAfter closeRun
+  after-sound = record {
     on = λ R S q law f. record { rooted = f .rooted; pairs = f .pairs; apps = f .apps };
     back = λ R S q law f. record { rooted = f .rooted; pairs = f .pairs; apps = f .apps };
   }
 
-  shut-now : w .met ≡ none → Shut n total s (leftBy r w s) (answerOf r w)
-  unfolding leftBy canonicaliseRefs withCore answerOf coreOf
-  shut-now m = record {
+  -- a close that met no number
+  pub run-soundly : closeRun g s .core .met ≡ none → ClosedSoundly n total s (afterClose (closeRun g s) s) (reportOf (closeRun g s))
+  unfolding afterClose canonicaliseRefs withCore reportOf coreOf imposedAfter closeRun
+  run-soundly m = record {
     ready = record {
       kept = record { formed = passed .ready .kept .formed; long = passed .ready .kept .long; sum = omega arith };
       pairs = passed .ready .pairs;
       results = passed .ready .results;
       plain = passed .ready .plain;
     };
-    sound = sound-then (passed .sound) left-sound;
+    sound = sound-then (passed .sound) after-sound;
     pairs = grown .pairs ∙ settled .pairs (grown .met m);
     sorted = settled .sorted;
     canon = subst (λ ls. All (Canon ls) (r .apps)) (sym (grown .links)) (settled .canon);
@@ -69,25 +128,7 @@ module _ (n total : ℕ) (g : Sig) (s : Structure) (ready : Ready n total (coreO
     few = omega (arith, settled .few, grown .merges);
   }
 
-  pub shut : (c : Closed) → close g s .answer ≡ accepted c → Shut n total s (close g s .left) c
-  unfolding close closeAfter closeImposed closeWith
-  shut c = go (w .met) refl
-    where
-      go : (o : Option ℕ) → w .met ≡ o → closeWith o r w s .answer ≡ accepted c → Shut n total s (closeWith o r w s .left) c
-      go none m e = let z : answerOf r w ≡ c = cc in subst (Shut n total s (leftBy r w s)) z (shut-now m)
-      go (some k) m e = let z : _≡_ {A = ℕ} 0 1 = cc in absurd (omega arith)
-
--- a refused close leaves all as it was
-pub refused-close : (g : Sig) (s : Structure) (k : ℕ) → close g s .answer ≡ refused k → close g s .left ≡ s
-unfolding close closeAfter closeImposed closeWith
-refused-close g s k = go (w .met)
-  where
-    r : Rounds
-    r = rounds g (s .pred-apps) (s .func-apps) (coreOf s)
-
-    w : Core
-    w = imposeAll (s .impositions) (r .core)
-
-    go : (o : Option ℕ) → closeWith o r w s .answer ≡ refused k → closeWith o r w s .left ≡ s
-    go none e = let z : _≡_ {A = ℕ} 0 1 = cc in absurd (omega arith)
-    go (some j) e = refl
+  pub closed-soundly : (c : Closed) → close g s .answer ≡ accepted c → ClosedSoundly n total s (close g s .after) c
+  closed-soundly c e =
+      let a = accepted-close g s c e in
+      rw (a .after) (subst (ClosedSoundly n total s (afterClose run s)) (sym (a .answer)) (run-soundly (a .met)))

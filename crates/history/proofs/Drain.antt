@@ -93,14 +93,14 @@ drain-grows w p ps q h =
 
 -- What a drain keeps of n elements, so many of them roots or merged.
 
-pub record Kept (n total : ℕ) (w : Core) : Type 0 where
+pub record RootsAndMerges (n total : ℕ) (w : Core) : Type 0 where
   pub formed : Formed (w .links)
   pub long : length (w .links) ≡ n
   pub sum : roots (w .links) + w .merges ≡ total
 
 -- a partition puts the two elements of a pair together
-abbrev pub Even : (ℕ → ℕ → Type 0) → Pair → Type 0
-Even R p = R (p .lhs) (p .rhs)
+abbrev pub HoldsOfPair : (ℕ → ℕ → Type 0) → Pair → Type 0
+HoldsOfPair R p = R (p .lhs) (p .rhs)
 
 -- both are elements
 abbrev pub Inside : ℕ → Pair → Type 0
@@ -123,12 +123,12 @@ merged-unmarked l keep drop u =
 
 -- from w to v by joining the pairs for which Q asks
 pub record Joined (n total : ℕ) (w v : Core) (Q : (ℕ → ℕ → Type 0) → Type 0) : Type 1 where
-  pub kept : Kept n total v
+  pub kept : RootsAndMerges n total v
   pub on : (R : ℕ → ℕ → Type 0) → Equivalence R → Rooted R (w .links) → Q R → Rooted R (v .links)
   pub back : (R : ℕ → ℕ → Type 0) → Equivalence R → Rooted R (v .links) → Rooted R (w .links) × Q R
   pub plain : Unmarked (w .marks) → Unmarked (v .marks)
 
-module _ (n total : ℕ) (w : Core) (k : Kept n total w) (keep drop : ℕ) (m : Two (w .links) keep drop) where
+module _ (n total : ℕ) (w : Core) (k : RootsAndMerges n total w) (keep drop : ℕ) (m : Two (w .links) keep drop) where
   merge-rooted : (R : ℕ → ℕ → Type 0) → Equivalence R → Rooted R (w .links) → R keep drop → Rooted R (mergedOf (w .links) keep drop)
   merge-rooted R v r q e =
       rw (merged-root (w .links) keep drop m e)
@@ -165,7 +165,7 @@ module _ (n total : ℕ) (w : Core) (k : Kept n total w) (keep drop : ℕ) (m : 
     plain = merged-unmarked (w .marks) keep drop;
   }
 
-module _ (n total : ℕ) (w : Core) (k : Kept n total w) where
+module _ (n total : ℕ) (w : Core) (k : RootsAndMerges n total w) where
   two : (a b : ℕ) → rootOf (w .links) a < rootOf (w .links) b → b < n → Two (w .links) (rootOf (w .links) a) (rootOf (w .links) b)
   two a b l h = record {
     keeps = root-root (w .links) a;
@@ -174,7 +174,7 @@ module _ (n total : ℕ) (w : Core) (k : Kept n total w) where
     inside = omega (arith, root-le (w .links) b, k .long);
   }
 
-  join-law : (p : Pair) → Inside n p → Joined n total w (join p w) (λ R. Even R p)
+  join-law : (p : Pair) → Inside n p → Joined n total w (join p w) (λ R. HoldsOfPair R p)
   unfolding join joinRoots
   join-law p h = go (eqb a b) refl
     where
@@ -184,7 +184,7 @@ module _ (n total : ℕ) (w : Core) (k : Kept n total w) where
       b : ℕ
       b = rootOf (w .links) (p .rhs)
 
-      go : (t : Bool) → eqb a b ≡ t → Joined n total w (elim t [ true ↦ w | false ↦ merge (min a b) (max a b) w ]) (λ R. Even R p)
+      go : (t : Bool) → eqb a b ≡ t → Joined n total w (elim t [ true ↦ w | false ↦ merge (min a b) (max a b) w ]) (λ R. HoldsOfPair R p)
       go true e = record {
         kept = k;
         on = λ R v r q. r;
@@ -194,18 +194,18 @@ module _ (n total : ℕ) (w : Core) (k : Kept n total w) where
       go false e =
           ⊎-elim (λ (o : (min a b ≡ a) × (max a b ≡ b) × (a < b)).
           rw (o .0, o .1)
-          (merge-joined n total w k a b (two (p .lhs) (p .rhs) (o .2) (h .1)) (λ R. Even R p)
+          (merge-joined n total w k a b (two (p .lhs) (p .rhs) (o .2) (h .1)) (λ R. HoldsOfPair R p)
           (λ R v r q. v .trans (r (p .lhs)) (v .trans q (v .flip (r (p .rhs)))))
           (λ R v r q. v .trans (v .flip (r (p .lhs))) (v .trans q (r (p .rhs))))))
           (λ (o : (min a b ≡ b) × (max a b ≡ a) × (b < a)).
           rw (o .0, o .1)
-          (merge-joined n total w k b a (two (p .rhs) (p .lhs) (o .2) (h .0)) (λ R. Even R p)
+          (merge-joined n total w k b a (two (p .rhs) (p .lhs) (o .2) (h .0)) (λ R. HoldsOfPair R p)
           (λ R v r q. v .trans (r (p .rhs)) (v .trans (v .flip q) (v .flip (r (p .lhs)))))
           (λ R v r q. v .trans (v .flip (r (p .lhs))) (v .trans (v .flip q) (r (p .rhs))))))
           (ordered a b (eqb-false a b e))
 
-pub drainPairs-law : (n total : ℕ) (ps : List Pair) (w : Core) → Kept n total w → All (Inside n) ps
-    → Joined n total w (drainPairs ps w) (λ R. All (Even R) ps)
+pub drainPairs-law : (n total : ℕ) (ps : List Pair) (w : Core) → RootsAndMerges n total w → All (Inside n) ps
+    → Joined n total w (drainPairs ps w) (λ R. All (HoldsOfPair R) ps)
 unfolding drainPairs
 drainPairs-law n total [] w k i =
     record { kept = k; on = λ R v r q. r; back = λ R v r. (r, tt); plain = λ u. u }
@@ -220,8 +220,8 @@ drainPairs-law n total (p ∷ ps) w k i =
     }
 
 -- the whole queue
-pub drain-law : (n total : ℕ) (w : Core) → Kept n total w → All (Inside n) (w .pairs)
-    → Joined n total (with-pairs [] w) (drain w) (λ R. All (Even R) (w .pairs))
+pub drain-law : (n total : ℕ) (w : Core) → RootsAndMerges n total w → All (Inside n) (w .pairs)
+    → Joined n total (with-pairs [] w) (drain w) (λ R. All (HoldsOfPair R) (w .pairs))
 unfolding drain
 drain-law n total w k i =
     drainPairs-law n total (w .pairs) (with-pairs [] w) (record { formed = k .formed; long = k .long; sum = k .sum }) i

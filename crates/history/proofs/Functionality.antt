@@ -13,12 +13,12 @@ use Rattle.ids.proofs.Sorted.{All, all-at, all-map, Sorted, no-test, equal-swap
 use Rattle.ids.proofs.Sorted.{placed-own, placed-rest, placed-last, placed-sorted, all-both, all-join}
 use Rattle.unification.specs.Roots.{rootOf}
 use Rattle.unification.proofs.Laws.{root-root}
-use Rattle.semantics.specs.Structure.{FuncApp, Pair, compareFuncApp, canonicalFuncApp}
-use Rattle.semantics.specs.Close.{Rewritten, enterAt, enter, enterAll}
+use Rattle.semantics.specs.Structure.{FuncApp, Pair, compareFuncApp, canonicalFuncApp, pair, func-app}
+use Rattle.semantics.specs.Close.{Rewritten, enterAt, enter, enterAll, rewriting}
 use Rattle.semantics.proofs.Orders.{func-app-ordered, func-app-same, same-func-app, SameKey}
 use Rattle.history.specs.Book.{Together, none, more, Meet}
 use Rattle.history.proofs.Relation.{Equivalence, Rooted, OneRoot, Respects, meet-key, says-image, image-says}
-use Rattle.history.proofs.Drain.{Even}
+use Rattle.history.proofs.Drain.{HoldsOfPair}
 use Rattle.history.proofs.Tables.{all-of, lookup-past}
 
 -- an application that is looked up, and one with its key
@@ -38,10 +38,10 @@ module _ (R : ℕ → ℕ → Type 0) (S : FuncApp → Type 0) (q : Equivalence 
 
 -- the three ways, for a claim on what is left
 enter-cases {ℓ} : (P : Rewritten → Type ℓ) (x : FuncApp) (t : Rewritten)
-    → (lookupOf compareFuncApp x (t .apps) ≡ none → P (record { apps = placed compareFuncApp x (t .apps); pairs = t .pairs; queued = t .queued }))
+    → (lookupOf compareFuncApp x (t .apps) ≡ none → P (rewriting (placed compareFuncApp x (t .apps)) (t .pairs) (t .queued)))
     → ((y : FuncApp) → lookupOf compareFuncApp x (t .apps) ≡ some y → y .result ≡ x .result → P t)
     → ((y : FuncApp) → lookupOf compareFuncApp x (t .apps) ≡ some y → y .result ≢ x .result
-    → P (record { apps = t .apps; pairs = record { lhs = y .result; rhs = x .result } ∷ t .pairs; queued = true }))
+    → P (rewriting (t .apps) (pair (y .result) (x .result) ∷ t .pairs) true))
     → P (enter x t)
 unfolding enter enterAt
 enter-cases P x t new same other = go (lookupOf compareFuncApp x (t .apps)) refl
@@ -49,7 +49,7 @@ enter-cases P x t new same other = go (lookupOf compareFuncApp x (t .apps)) refl
     by : (y : FuncApp) → lookupOf compareFuncApp x (t .apps) ≡ some y → (b : Bool) → eqb (y .result) (x .result) ≡ b
         → P (elim b [
           | true ↦ t
-          | false ↦ record { apps = t .apps; pairs = record { lhs = y .result; rhs = x .result } ∷ t .pairs; queued = true }
+          | false ↦ rewriting (t .apps) (pair (y .result) (x .result) ∷ t .pairs) true
         ])
     by y e true h = same y e (eqb-true (y .result) (x .result) h)
     by y e false h = other y e (eqb-false (y .result) (x .result) h)
@@ -61,7 +61,7 @@ enter-cases P x t new same other = go (lookupOf compareFuncApp x (t .apps)) refl
 -- what a partition and a claim on applications say of a table
 pub record Agrees (R : ℕ → ℕ → Type 0) (S : FuncApp → Type 0) (t : Rewritten) : Type 0 where
   pub apps : All S (t .apps)
-  pub pairs : All (Even R) (t .pairs)
+  pub pairs : All (HoldsOfPair R) (t .pairs)
 
 module _ (R : ℕ → ℕ → Type 0) (S : FuncApp → Type 0) (q : Equivalence R) (law : Respects R S) where
   enter-on : (x : FuncApp) (t : Rewritten) → Agrees R S t → S x → Agrees R S (enter x t)
@@ -125,7 +125,7 @@ enterAll-pairs P Q f ls (x ∷ xs) t h a b =
     enterAll-pairs P Q f ls xs (enter (canonicalFuncApp ls x) t) (h .1) (enter-all (λ y. P (y .result)) (canonicalFuncApp ls x) t (h .0) a)
     (enter-cases (λ u. All Q (u .pairs)) (canonicalFuncApp ls x) t (λ e. b) (λ y e r. b)
     (λ y e n. (
-      f (record { lhs = y .result; rhs = rootOf ls (x .result) })
+      f (pair (y .result) (rootOf ls (x .result)))
           (all-at (λ z. P (z .result)) (t .apps) a y (lookup-sound compareFuncApp (canonicalFuncApp ls x) (t .apps) e .0)) (h .0) n,
       b,
     )))
@@ -157,7 +157,7 @@ map-root ls (x ∷ xs) = ap₂ _∷_ (root-root ls x) (map-root ls xs)
 pub canon-image : (ls : List ℕ) (x : FuncApp) → Canon ls (canonicalFuncApp ls x)
 unfolding canonicalFuncApp
 canon-image ls x =
-    λ i. record { func = x .func; parents = map-root ls (x .parents) i; args = map-root ls (x .args) i; result = root-root ls (x .result) i }
+    λ i. func-app (x .func) (map-root ls (x .parents) i) (map-root ls (x .args) i) (root-root ls (x .result) i)
 
 roots-equal : (ls k l : List ℕ) → Together (OneRoot ls) k l → map (rootOf ls) k ≡ map (rootOf ls) l
 roots-equal ls k l none = refl
@@ -191,7 +191,7 @@ module _ (ls : List ℕ) (l : List FuncApp) (sorted : Sorted compareFuncApp l) w
 -- it is rewritten into itself
 module _ (ls : List ℕ) (ps : List Pair) (b : Bool) where
   abbrev table : List FuncApp → Rewritten
-  table l = record { apps = l; pairs = ps; queued = b }
+  table l = rewriting l ps b
 
   enter-last : (x : FuncApp) (done : List FuncApp) → lookupOf compareFuncApp x done ≡ none
       → enter x (table done) ≡ table (placed compareFuncApp x done)

@@ -3,9 +3,10 @@ use mathlib.Core.Path.{_≡_}
 use mathlib.Core.Bool.{false}
 use mathlib.Core.List.{List, [], _∷_, _++_, List·Memᴰ}
 use Rattle.semantics.specs.Structure.{FuncApp, Structure, canonicalFuncApp}
+use Rattle.semantics.specs.Types.{anyMarked}
 use Rattle.semantics.specs.Close.{Closed, coreOf}
 use Rattle.semantics.specs.Calls.{Call, close, closed, step}
-use Rattle.history.specs.Book.{Book, someMark, history}
+use Rattle.history.specs.Book.{Book, history}
 use Rattle.history.proofs.Classes.{ImageOf, stored-image, image-stored}
 use Rattle.history.proofs.Histories.{returned}
 
@@ -16,7 +17,7 @@ pub record Mirrored (b : Book) (s : Structure) : Type 0 where
   pub stored : (x : FuncApp) → List·Memᴰ x (b .apps) → List·Memᴰ (canonicalFuncApp (s .links) x) (s .func-apps)
 
 pub mirrored : (before : List Call) (c : Closed) → step close (history before .machine) .answer ≡ closed c
-    → someMark (history (before ++ (close ∷ [])) .book .marks) ≡ false
+    → anyMarked (history (before ++ (close ∷ [])) .book .marks) ≡ false
     → Mirrored (history (before ++ (close ∷ [])) .book) (history (before ++ (close ∷ [])) .machine .structure)
 unfolding coreOf
 mirrored before c e unmarked =

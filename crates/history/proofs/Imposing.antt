@@ -14,7 +14,7 @@ use Rattle.ids.specs.Table.{present, placed}
 use Rattle.ids.proofs.Sorted.{All, placed-there, placed-all}
 use Rattle.unification.specs.Roots.{rootOf}
 use Rattle.unification.proofs.Laws.{root-root}
-use Rattle.semantics.specs.Structure.{Fact, compareFact, canonicalFact, maxFacts}
+use Rattle.semantics.specs.Structure.{Fact, compareFact, canonicalFact, maxFacts, pair}
 use Rattle.semantics.specs.Types.{Core, with-pairs, with-added, with-met, marked, concreteTypesOf, refineRoots, refine, refineParents}
 use Rattle.semantics.specs.Types.{refineAll, insertFact, insertCanonical, impose, imposeAll}
 use Rattle.semantics.proofs.Orders.{fact-ordered}
@@ -34,7 +34,7 @@ module _ (w : Core) (p q : ℕ) where
       let n : rootOf ls p ≢ rootOf ls q =
       eqb-false (rootOf ls p) (rootOf ls q) (not-true (eqb (rootOf ls p) (rootOf ls q)) (and-first _ _ e)) in
       rw (refine, refineRoots, e)
-      (drain-grows (with-pairs (record { lhs = rootOf ls p; rhs = rootOf ls q } ∷ w .pairs) w) (record { lhs = rootOf ls p; rhs = rootOf ls q })
+      (drain-grows (with-pairs (pair (rootOf ls p) (rootOf ls q) ∷ w .pairs) w) (pair (rootOf ls p) (rootOf ls q))
       (w .pairs) refl (λ z. n (sym (root-root ls p) ∙ z ∙ root-root ls q)))
 
   pub refine-none : joins (w .links) (w .marks) p q ≡ false → refine p q w ≡ w
@@ -100,7 +100,7 @@ met-stays none n q = let z : _≡_ {A = ℕ} 0 1 = cc in absurd (omega arith)
 met-stays (some m) n q = let z : _≡_ {A = ℕ} 0 1 = cc in absurd (omega arith)
 
 -- from w to v only the facts grow, and a number may be met
-pub record Grown (w v : Core) : Type 0 where
+pub record OnlyFactsGrew (w v : Core) : Type 0 where
   pub links : v .links ≡ w .links
   pub marks : v .marks ≡ w .marks
   pub pairs : v .pairs ≡ w .pairs
@@ -108,10 +108,10 @@ pub record Grown (w v : Core) : Type 0 where
   pub met : v .met ≡ none → w .met ≡ none
   pub facts : (f : Fact) → present compareFact f (w .facts) ≡ true → present compareFact f (v .facts) ≡ true
 
-pub grown-none : (w : Core) → Grown w w
+pub grown-none : (w : Core) → OnlyFactsGrew w w
 grown-none w = record { links = refl; marks = refl; pairs = refl; merges = refl; met = λ q. q; facts = λ f h. h }
 
-pub grown-then : (w v u : Core) → Grown w v → Grown v u → Grown w u
+pub grown-then : (w v u : Core) → OnlyFactsGrew w v → OnlyFactsGrew v u → OnlyFactsGrew w u
 grown-then w v u a b = record {
   links = b .links ∙ a .links;
   marks = b .marks ∙ a .marks;
@@ -121,9 +121,9 @@ grown-then w v u a b = record {
   facts = λ f h. b .facts f (a .facts f h);
 }
 
-insertFact-grown : (f : Fact) (w : Core) → Grown w (insertFact f w)
+insertFact-grown : (f : Fact) (w : Core) → OnlyFactsGrew w (insertFact f w)
 insertFact-grown f w =
-    insert-cases (Grown w) f w (λ e. grown-none w)
+    insert-cases (OnlyFactsGrew w) f w (λ e. grown-none w)
     (λ e. record {
       links = refl;
       marks = refl;
@@ -148,7 +148,7 @@ abbrev pub Stored : List ℕ → List Fact → Fact → Type 0
 Stored ls fs f = present compareFact (canonicalFact ls f) fs ≡ true
 
 module _ (f : Fact) (w : Core) where
-  pub insert-grown : Grown w (insertCanonical f w)
+  pub insert-grown : OnlyFactsGrew w (insertCanonical f w)
   unfolding insertCanonical
   insert-grown = insertFact-grown (canonicalFact (w .links) f) w
 
@@ -172,7 +172,7 @@ unfoldable pub insertAll : List Fact → Core → Core
 insertAll [] w = w
 insertAll (f ∷ fs) w = insertAll fs (insertCanonical f w)
 
-pub insertAll-grown : (fs : List Fact) (w : Core) → Grown w (insertAll fs w)
+pub insertAll-grown : (fs : List Fact) (w : Core) → OnlyFactsGrew w (insertAll fs w)
 unfolding insertAll
 insertAll-grown [] w = grown-none w
 insertAll-grown (f ∷ fs) w =
@@ -264,8 +264,8 @@ unmarked-inserts (f ∷ fs) w u =
 
 -- What plain insertion leaves, for whichever reason imposing is that.
 module _ (fs : List Fact) (w : Core) (plain : imposeAll fs w ≡ insertAll fs w) where
-  pub plain-grown : Grown w (imposeAll fs w)
-  plain-grown = subst (Grown w) (sym plain) (insertAll-grown fs w)
+  pub plain-grown : OnlyFactsGrew w (imposeAll fs w)
+  plain-grown = subst (OnlyFactsGrew w) (sym plain) (insertAll-grown fs w)
 
   pub plain-there : imposeAll fs w .met ≡ none → All (Stored (w .links) (imposeAll fs w .facts)) fs
   plain-there = subst (λ v. v .met ≡ none → All (Stored (w .links) (v .facts)) fs) (sym plain) (insertAll-there fs w)

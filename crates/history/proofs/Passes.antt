@@ -17,35 +17,35 @@ use Rattle.semantics.specs.Structure.{Fact, FuncApp, PredApp, Pair, compareFunc
 use Rattle.semantics.specs.Types as types
 use Rattle.semantics.specs.Types.{Core, drain, imposeAll, grew}
 use Rattle.semantics.specs.Close.{Rewritten, enterAll, demands, Turn, reports, drained, drainPass, rewrote, functionalityPass, typed}
-use Rattle.semantics.specs.Close.{typingPass, Pass, passes, runPasses, round}
+use Rattle.semantics.specs.Close.{typingPass, Pass, passes, runPasses, round, rewriting, turn}
 use Rattle.semantics.proofs.Queues.{drain-pairs}
 use Rattle.semantics.proofs.Cases.{or-first, or-second}
 use Rattle.history.proofs.Tables.{all-of}
 use Rattle.history.proofs.Relation.{Equivalence, Rooted, Respects}
 use Rattle.semantics.proofs.Counts.{roots}
-use Rattle.history.proofs.Drain.{Kept, Even, Inside, Unmarked, Apart, Joined, drain-law, drain-counted, drain-met, drain-none}
+use Rattle.history.proofs.Drain.{RootsAndMerges, HoldsOfPair, Inside, Unmarked, Apart, Joined, drain-law, drain-counted, drain-met, drain-none}
 use Rattle.history.proofs.Drain.{drain-grows}
 use Rattle.history.proofs.Functionality.{Canon, canon-image, enterAll-on, enterAll-back, enterAll-all, enterAll-sorted}
 use Rattle.history.proofs.Functionality.{enterAll-pairs, enterAll-none, settled-same}
-use Rattle.history.proofs.Imposing.{Grown, Stored, insertAll, insertAll-idle, plain-grown, plain-there, unmarked-inserts}
+use Rattle.history.proofs.Imposing.{OnlyFactsGrew, Stored, insertAll, insertAll-idle, plain-grown, plain-there, unmarked-inserts}
 
 -- what a partition and a claim on applications say of what a round works on
-pub record Fair (R : ℕ → ℕ → Type 0) (S : FuncApp → Type 0) (w : Core) (xs : List FuncApp) : Type 0 where
+pub record HoldsOfCore (R : ℕ → ℕ → Type 0) (S : FuncApp → Type 0) (w : Core) (xs : List FuncApp) : Type 0 where
   pub rooted : Rooted R (w .links)
-  pub pairs : All (Even R) (w .pairs)
+  pub pairs : All (HoldsOfPair R) (w .pairs)
   pub apps : All S xs
 
 -- n elements, so many of them roots or merged, and none marked
 pub record Ready (n total : ℕ) (w : Core) (xs : List FuncApp) : Type 0 where
-  pub kept : Kept n total w
+  pub kept : RootsAndMerges n total w
   pub pairs : All (Inside n) (w .pairs)
   pub results : All (λ x. x .result < n) xs
   pub plain : Unmarked (w .marks)
 
 -- what every partition that agrees with the one agrees with the other, in both directions
 pub record Sound (w : Core) (xs : List FuncApp) (v : Core) (ys : List FuncApp) : Type 1 where
-  pub on : (R : ℕ → ℕ → Type 0) (S : FuncApp → Type 0) → Equivalence R → Respects R S → Fair R S w xs → Fair R S v ys
-  pub back : (R : ℕ → ℕ → Type 0) (S : FuncApp → Type 0) → Equivalence R → Respects R S → Fair R S v ys → Fair R S w xs
+  pub on : (R : ℕ → ℕ → Type 0) (S : FuncApp → Type 0) → Equivalence R → Respects R S → HoldsOfCore R S w xs → HoldsOfCore R S v ys
+  pub back : (R : ℕ → ℕ → Type 0) (S : FuncApp → Type 0) → Equivalence R → Respects R S → HoldsOfCore R S v ys → HoldsOfCore R S w xs
 
 -- from one core and its applications to another
 pub record Passed (n total : ℕ) (w : Core) (xs : List FuncApp) (v : Core) (ys : List FuncApp) : Type 1 where
@@ -110,12 +110,12 @@ module _ (g : Sig) (preds : List PredApp) where
 -- a report of no work by a pass that left all as it was
 reports-none : (t : Turn) (w : Core) (apps : List FuncApp) (work : Bool) → w ≡ t .core → apps ≡ t .apps → work ≡ false → reports w apps work t ≡ t
 reports-none t w apps work p q e =
-    λ i. record { core = p i; apps = q i; worked = (ap (λ (b : Bool). t .worked || b) e ∙ or-false (t .worked)) i }
+    λ i. turn (p i) (q i) ((ap (λ (b : Bool). t .worked || b) e ∙ or-false (t .worked)) i)
 
 -- The drain.
 
 module _ (n total : ℕ) (t : Turn) (r : Ready n total (t .core) (t .apps)) where
-  abbrev law : Joined n total (types.with-pairs [] (t .core)) (drain (t .core)) (λ R. All (Even R) (t .core .pairs))
+  abbrev law : Joined n total (types.with-pairs [] (t .core)) (drain (t .core)) (λ R. All (HoldsOfPair R) (t .core .pairs))
   law = drain-law n total (t .core) (r .kept) (r .pairs)
 
   drain-passed : Passed n total (t .core) (t .apps) (drain (t .core)) (t .apps)
@@ -129,7 +129,7 @@ module _ (n total : ℕ) (t : Turn) (r : Ready n total (t .core) (t .apps)) wher
     sound = record {
       on = λ R S q s f. record {
         rooted = law .on R q (f .rooted) (f .pairs);
-        pairs = subst (All (Even R)) (sym (drain-pairs (t .core))) tt;
+        pairs = subst (All (HoldsOfPair R)) (sym (drain-pairs (t .core))) tt;
         apps = f .apps;
       };
       back = λ R S q s f. let a = law .back R q (f .rooted) in record { rooted = a .0; pairs = a .1; apps = f .apps };
@@ -153,7 +153,7 @@ drain-lawful = record {
 
 module _ (t : Turn) where
   abbrev pub rewritten : Rewritten
-  rewritten = enterAll (t .core .links) (t .apps) (record { apps = []; pairs = t .core .pairs; queued = false })
+  rewritten = enterAll (t .core .links) (t .apps) (rewriting [] (t .core .pairs) false)
 
   functionality-passed : (n total : ℕ) → Ready n total (t .core) (t .apps)
       → Passed n total (t .core) (t .apps) (types.with-pairs (rewritten .pairs) (t .core)) (rewritten .apps)
@@ -173,7 +173,7 @@ module _ (t : Turn) where
               let a = enterAll-on R S q s (t .core .links) (f .rooted) (t .apps) _ (record { apps = tt; pairs = f .pairs }) (f .apps) in
               record { rooted = f .rooted; pairs = a .pairs; apps = a .apps };
           back = λ R S q s f.
-              let a = enterAll-back R S q s (t .core .links) (f .rooted) (t .apps) (record { apps = []; pairs = t .core .pairs; queued = false })
+              let a = enterAll-back R S q s (t .core .links) (f .rooted) (t .apps) (rewriting [] (t .core .pairs) false)
               (record { apps = f .apps; pairs = f .pairs }) in
               record { rooted = f .rooted; pairs = a .0 .pairs; apps = a .1 };
         };
@@ -193,7 +193,7 @@ functionality-lawful = record {
 -- `typing`.
 
 -- where only the facts grow
-module _ (n total : ℕ) (w v : Core) (xs : List FuncApp) (grown : Grown w v) where
+module _ (n total : ℕ) (w v : Core) (xs : List FuncApp) (grown : OnlyFactsGrew w v) where
   pub grown-passed : Ready n total w xs → Passed n total w xs v xs
   grown-passed r = record {
     ready = record {
@@ -209,12 +209,12 @@ module _ (n total : ℕ) (w v : Core) (xs : List FuncApp) (grown : Grown w v) wh
     sound = record {
       on = λ R S q s f. record {
         rooted = subst (Rooted R) (sym (grown .links)) (f .rooted);
-        pairs = subst (All (Even R)) (sym (grown .pairs)) (f .pairs);
+        pairs = subst (All (HoldsOfPair R)) (sym (grown .pairs)) (f .pairs);
         apps = f .apps;
       };
       back = λ R S q s f. record {
         rooted = subst (Rooted R) (grown .links) (f .rooted);
-        pairs = subst (All (Even R)) (grown .pairs) (f .pairs);
+        pairs = subst (All (HoldsOfPair R)) (grown .pairs) (f .pairs);
         apps = f .apps;
       };
     };
@@ -223,7 +223,7 @@ module _ (n total : ℕ) (w v : Core) (xs : List FuncApp) (grown : Grown w v) wh
   }
 
 -- with no mark, imposing is that
-pub unmarked-grown : (fs : List Fact) (w : Core) → Unmarked (w .marks) → Grown w (imposeAll fs w)
+pub unmarked-grown : (fs : List Fact) (w : Core) → Unmarked (w .marks) → OnlyFactsGrew w (imposeAll fs w)
 unmarked-grown fs w u = plain-grown fs w (unmarked-inserts fs w u)
 
 abbrev imposed : Turn → List PredApp → Sig → Core
@@ -297,7 +297,7 @@ pub record Turned (n total : ℕ) (g : Sig) (preds : List PredApp) (t : Turn) : 
 module _ (n total : ℕ) (g : Sig) (preds : List PredApp) where
   module _ (apps : List FuncApp) (w : Core) (r : Ready n total w apps) where
     abbrev begun : Turn
-    begun = record { core = w; apps = apps; worked = false }
+    begun = turn w apps false
 
     pub round-turned : Turned n total g preds (round g preds apps w)
     unfolding round runPasses passes
@@ -328,10 +328,10 @@ module _ (n total : ℕ) (g : Sig) (preds : List PredApp) where
 
   -- after a round that left no pair, the next does nothing
   pub round-idle : (t : Turn) → Turned n total g preds t → t .core .met ≡ none → t .core .pairs ≡ []
-      → round g preds (t .apps) (t .core) ≡ record { core = t .core; apps = t .apps; worked = false }
+      → round g preds (t .apps) (t .core) ≡ turn (t .core) (t .apps) false
   unfolding round
   round-idle t a m e =
-      run-idle g preds passes all-lawful (record { core = t .core; apps = t .apps; worked = false })
+      run-idle g preds passes all-lawful (turn (t .core) (t .apps) false)
       (record {
         pairs = e;
         sorted = a .left .sorted;

@@ -1,6 +1,6 @@
 -- Wrong versions of the rule, each refuted by a short list of calls. Every list has two elements, 0 and 1.
--- A list is data, and what the right definitions say of it is computed and follows from the rule (`Worked`, `Right`). A version is the rule
--- with one part replaced (`Rule` of Versions). `table` has the versions, each with its list.
+-- A list is data, and what the right definitions say of it is computed and follows from the rule (`WorkedList`, `Right`). A version is the rule
+-- with one part replaced (`ConservationBy` of Versions). `table` has the versions, each with its list.
 use mathlib.Core.Path.{_≡_, refl, sym, subst, ap, _∙_}
 use mathlib.Core.Logic.{_↔_, Lift}
 use mathlib.Core.Bool.{Bool, true, false}
@@ -12,15 +12,16 @@ use lib.Dec.{T}
 use Rattle.ids.specs.Count.{count}
 use Rattle.unification.specs.Roots.{rootOf}
 use Rattle.signature.specs.Model.{plain}
-use Rattle.semantics.specs.Structure.{Pair, FuncApp}
-use Rattle.semantics.specs.Close.{Closed}
+use Rattle.semantics.specs.Structure.{Pair, pair, FuncApp, func-app}
+use Rattle.semantics.specs.Types.{anyMarked}
+use Rattle.semantics.specs.Close.{Closed, report}
 use Rattle.semantics.specs.Calls.{Call, equate-els, close, Answer, closed, step}
 use Rattle.semantics.proofs.ProvedCases.{typ, func, plainEl, markedEl, impose, app}
-use Rattle.history.specs.Book.{Book, elements, taken, fed, history, Together, none, Meet, Shared, Classes, someMark, Conserved}
-use Rattle.history.specs.Book.{Conservation}
+use Rattle.history.specs.Book.{Book, book, with-equalities, with-apps, elements, taken, fed, history, Together, none, Meet, Shared}
+use Rattle.history.specs.Book.{Classes, Conserved, Conservation}
 use Rattle.history.proofs.Conservation.{conservation}
 use Rattle.history.proofs.Worked.{computed}
-use Rattle.history.proofs.Versions.{after, linksAfter, Feeds, bookBy, bookAfter, Meets, Sharing, SharedBy, ConservedBy, Rule, unmarked}
+use Rattle.history.proofs.Versions.{after, linksAfter, Feeds, bookBy, bookAfter, Meets, Sharing, SharedBy, ConservedBy, ConservationBy, unmarked}
 use Rattle.history.proofs.Versions.{merges, meets-right}
 
 -- The lists.
@@ -30,76 +31,65 @@ pub record Shown : Type 0 where
   pub book : Book
   pub roots : List ℕ
 
+abbrev pub showing : Answer → Book → List ℕ → Shown
+showing a b rs = record { answer = a; book = b; roots = rs }
+
 unfoldable pub shown : List Call → Shown
-shown ks = record {
-  answer = step close (history ks .machine) .answer;
-  book = after ks .book;
-  roots = map (rootOf (linksAfter ks)) (0 ∷ 1 ∷ []);
-}
+shown ks = showing (step close (history ks .machine) .answer) (after ks .book) (map (rootOf (linksAfter ks)) (0 ∷ 1 ∷ []))
 
 -- a list: what the close after it answers, and the book and the root of element 1 when that close returns; the root of 0 is 0
-pub record Worked : Type 0 where
+pub record WorkedList : Type 0 where
   pub calls : List Call
   pub answer : Closed
   pub book : Book
   pub root : ℕ
   pub two : elements book ≡ 2
-  pub shows : shown calls ≡ record { answer = closed answer; book = book; roots = 0 ∷ root ∷ [] }
-
--- changed, merges, rounds
-abbrev told : Bool → ℕ → ℕ → Closed
-told c m r = record { changed = c; merges = m; rounds = r }
+  pub shows : shown calls ≡ showing (closed answer) book (0 ∷ root ∷ [])
 
 -- a book of two elements with no mark: equalities, applications, merges
 abbrev plainBook : List Pair → List FuncApp → ℕ → Book
-plainBook es xs n = record { marks = false ∷ false ∷ []; equalities = es; apps = xs; merges = n }
+plainBook es xs n = book (false ∷ false ∷ []) es xs n
 
-abbrev zeroOne : Pair
-zeroOne = record { lhs = 0; rhs = 1 }
-
-abbrev application : ℕ → List ℕ → List ℕ → ℕ → FuncApp
-application f ps xs r = record { func = f; parents = ps; args = xs; result = r }
-
-apart : Worked
+apart : WorkedList
 unfolding computed shown
 apart = record {
   calls = plainEl ∷ plainEl ∷ [];
-  answer = told false 0 1;
+  answer = report false 0 1;
   book = plainBook [] [] 0;
   root = 1;
   two = refl;
   shows = refl;
 }
 
-equal : Worked
+equal : WorkedList
 unfolding computed shown
 equal = record {
   calls = plainEl ∷ plainEl ∷ equate-els 0 1 ∷ [];
-  answer = told true 1 2;
-  book = plainBook (zeroOne ∷ []) [] 1;
+  answer = report true 1 2;
+  book = plainBook (pair 0 1 ∷ []) [] 1;
   root = 0;
   two = refl;
   shows = refl;
 }
 
 -- the same, closed before
-equal-before : Worked
+equal-before : WorkedList
 unfolding computed shown
 equal-before = record {
   calls = plainEl ∷ plainEl ∷ equate-els 0 1 ∷ close ∷ [];
-  answer = told false 0 1;
-  book = plainBook (zeroOne ∷ []) [] 1;
+  answer = report false 0 1;
+  book = plainBook (pair 0 1 ∷ []) [] 1;
   root = 0;
   two = refl;
   shows = refl;
 }
 
 -- the equality is refused, since there is no 1 yet
-refused-equal : Worked
+refused-equal : WorkedList
 unfolding computed shown
 refused-equal = record {
   calls = plainEl ∷ equate-els 0 1 ∷ plainEl ∷ [];
-  answer = told false 0 1;
+  answer = report false 0 1;
   book = plainBook [] [] 0;
   root = 1;
   two = refl;
@@ -107,60 +97,60 @@ refused-equal = record {
 }
 
 -- one application with two results
-two-results : Worked
+two-results : WorkedList
 unfolding computed shown
 two-results = record {
   calls = typ plain [] ∷ func [] [] 0 ∷ plainEl ∷ plainEl ∷ app 0 [] [] 0 ∷ app 0 [] [] 1 ∷ [];
-  answer = told true 1 2;
-  book = plainBook [] (application 0 [] [] 1 ∷ application 0 [] [] 0 ∷ []) 1;
+  answer = report true 1 2;
+  book = plainBook [] (func-app 0 [] [] 1 ∷ func-app 0 [] [] 0 ∷ []) 1;
   root = 0;
   two = refl;
   shows = refl;
 }
 
 -- two applications that differ in parents
-two-parents : Worked
+two-parents : WorkedList
 unfolding computed shown
 two-parents = record {
   calls = typ plain [] ∷ func [] [] 0 ∷ plainEl ∷ plainEl ∷ app 0 (0 ∷ []) [] 0 ∷ app 0 (1 ∷ []) [] 1 ∷ [];
-  answer = told true 0 2;
-  book = plainBook [] (application 0 (1 ∷ []) [] 1 ∷ application 0 (0 ∷ []) [] 0 ∷ []) 0;
+  answer = report true 0 2;
+  book = plainBook [] (func-app 0 (1 ∷ []) [] 1 ∷ func-app 0 (0 ∷ []) [] 0 ∷ []) 0;
   root = 1;
   two = refl;
   shows = refl;
 }
 
 -- in the function
-two-functions : Worked
+two-functions : WorkedList
 unfolding computed shown
 two-functions = record {
   calls = typ plain [] ∷ func [] [] 0 ∷ func [] [] 0 ∷ plainEl ∷ plainEl ∷ app 0 [] [] 0 ∷ app 1 [] [] 1 ∷ [];
-  answer = told true 0 2;
-  book = plainBook [] (application 1 [] [] 1 ∷ application 0 [] [] 0 ∷ []) 0;
+  answer = report true 0 2;
+  book = plainBook [] (func-app 1 [] [] 1 ∷ func-app 0 [] [] 0 ∷ []) 0;
   root = 1;
   two = refl;
   shows = refl;
 }
 
 -- in how many arguments they have
-two-lengths : Worked
+two-lengths : WorkedList
 unfolding computed shown
 two-lengths = record {
   calls = typ plain [] ∷ func [] [] 0 ∷ plainEl ∷ plainEl ∷ app 0 [] [] 0 ∷ app 0 [] (0 ∷ []) 1 ∷ [];
-  answer = told true 0 2;
-  book = plainBook [] (application 0 [] (0 ∷ []) 1 ∷ application 0 [] [] 0 ∷ []) 0;
+  answer = report true 0 2;
+  book = plainBook [] (func-app 0 [] (0 ∷ []) 1 ∷ func-app 0 [] [] 0 ∷ []) 0;
   root = 1;
   two = refl;
   shows = refl;
 }
 
 -- element 1 is marked: one type imposed on 0 with parent 0 and with parent 1 merges them
-marked-parent : Worked
+marked-parent : WorkedList
 unfolding computed shown
 marked-parent = record {
   calls = typ plain [] ∷ plainEl ∷ markedEl ∷ impose 0 0 (0 ∷ []) ∷ impose 0 0 (1 ∷ []) ∷ [];
-  answer = told true 1 1;
-  book = record { marks = false ∷ true ∷ []; equalities = []; apps = []; merges = 1 };
+  answer = report true 1 1;
+  book = book (false ∷ true ∷ []) [] [] 1;
   root = 0;
   two = refl;
   shows = refl;
@@ -168,7 +158,7 @@ marked-parent = record {
 
 -- What the right definitions say of them.
 
-module _ (w : Worked) where
+module _ (w : WorkedList) where
   accepts : step close (history (w .calls) .machine) .answer ≡ closed (w .answer)
   unfolding shown
   accepts = ap (λ (s : Shown). s .answer) (w .shows)
@@ -188,12 +178,12 @@ module _ (w : Worked) where
   root-one = cc rooted
 
 -- no element is marked: 0 and 1 share a class exactly when 0 is the root of 1, and the classes are the elements that no merge took
-pub record Right (w : Worked) : Type 1 where
+pub record Right (w : WorkedList) : Type 1 where
   pub conserved : Conserved (w .book) (linksAfter (w .calls)) (w .answer)
   pub shared : Shared (w .book) 0 1 ↔ (w .root ≡ 0)
   pub classes : Classes (w .book) (elements (w .book) - w .book .merges)
 
-right : (w : Worked) → unmarked (w .book .marks) → Right w
+right : (w : WorkedList) → unmarked (w .book .marks) → Right w
 unfolding Conservation
 right w u =
     let s = c .one-root 0 1 (omega (arith, w .two)) (omega (arith, w .two)) in
@@ -206,7 +196,7 @@ right w u =
     c : Conserved (w .book) (linksAfter (w .calls)) (w .answer)
     c =
         subst (λ (b : Book). Conserved b (linksAfter (w .calls)) (w .answer)) (book-after w)
-        (conservation (w .calls) (w .answer) (accepts w) (ap (λ (b : Book). someMark (b .marks)) (book-after w) ∙ u))
+        (conservation (w .calls) (w .answer) (accepts w) (ap (λ (b : Book). anyMarked (b .marks)) (book-after w) ∙ u))
 
 -- How a version is refuted by a list.
 
@@ -225,7 +215,7 @@ only-first p (suc n) t f = go (p (suc n)) (f (suc n) (omega arith) (omega arith)
     go false f e = e
 
 module _ {feeds : Feeds} {Admits : List Bool → Type 0} {Share : Sharing} {counts : Book → ℕ} {merged : Book → Closed → ℕ} {Low : ℕ → ℕ → Type 0}
-    {more : ℕ} (h : Rule feeds Admits Share counts merged Low more) (w : Worked) (b : Book) (made : bookAfter feeds (w .calls) ≡ b)
+    {more : ℕ} (h : ConservationBy feeds Admits Share counts merged Low more) (w : WorkedList) (b : Book) (made : bookAfter feeds (w .calls) ≡ b)
     (two : elements b ≡ 2) (admitted : Admits (b .marks)) where
   -- what it says of the list
   said : ConservedBy Share counts merged Low more b (linksAfter (w .calls)) (w .answer)
@@ -274,9 +264,9 @@ module _ {feeds : Feeds} {Admits : List Bool → Type 0} {Share : Sharing} {coun
 
 -- Elements that share a class, and that do not.
 
-equal-shared : (b : Book) → List·Memᴰ zeroOne (b .equalities) → Shared b 0 1
+equal-shared : (b : Book) → List·Memᴰ (pair 0 1) (b .equalities) → Shared b 0 1
 unfolding Shared
-equal-shared b m R q f = f .equal zeroOne m
+equal-shared b m R q f = f .equal (pair 0 1) m
 
 met-shared : (M : Meets) (b : Book) (x y : FuncApp) → List·Memᴰ x (b .apps) → List·Memᴰ y (b .apps) → ((R : ℕ → ℕ → Type 0) → M R x y)
     → SharedBy M b (x .result) (y .result)
@@ -301,18 +291,13 @@ bare b e a s =
 -- The wrong parts.
 
 abbrev refusedTaken : Feeds
-refusedTaken k t n b = record {
-  marks = fed k t n b .marks;
-  equalities = taken k n b .equalities;
-  apps = fed k t n b .apps;
-  merges = fed k t n b .merges;
-}
+refusedTaken k t n b = with-equalities (taken k n b .equalities) (fed k t n b)
 
 abbrev noEqualities : Feeds
-noEqualities k t n b = record { marks = fed k t n b .marks; equalities = []; apps = fed k t n b .apps; merges = fed k t n b .merges }
+noEqualities k t n b = with-equalities [] (fed k t n b)
 
 abbrev noApplications : Feeds
-noApplications k t n b = record { marks = fed k t n b .marks; equalities = fed k t n b .equalities; apps = []; merges = fed k t n b .merges }
+noApplications k t n b = with-apps [] (fed k t n b)
 
 abbrev never : Meets
 never R x y = ⊥
@@ -333,17 +318,17 @@ abbrev shorter : Meets
 shorter R x y = (x .func ≡ y .func) × Prefix R (x .parents) (y .parents) × Prefix R (x .args) (y .args)
 
 -- What the right definitions say of the list of a row.
-pub data Fact (w : Worked) : Type 1 where
+pub data Fact (w : WorkedList) : Type 1 where
   -- the claim of the rule
   conserved : Right w → Fact w
   -- an element is marked, so that the rule claims nothing: 0 and 1 have one root and share no class
-  outside : someMark (w .book .marks) ≡ true → w .root ≡ 0 → (Shared (w .book) 0 1 → ⊥) → Fact w
+  outside : anyMarked (w .book .marks) ≡ true → w .root ≡ 0 → (Shared (w .book) 0 1 → ⊥) → Fact w
 
 -- The table: a version's name, the rule with one part replaced, the list, what the right definitions say of it, and that the version is false.
 pub record Refuted : Type 2 where
   pub name : String
   pub version : Type 1
-  pub list : Worked
+  pub list : WorkedList
   pub fact : Fact list
   pub wrong : version → ⊥
 
@@ -352,114 +337,114 @@ unfolding computed shown bookBy apart equal equal-before refused-equal two-resul
 table =
     record {
       name = "refused equalities taken";
-      version = Rule refusedTaken unmarked Shared elements merges _≤_ 2;
+      version = ConservationBy refusedTaken unmarked Shared elements merges _≤_ 2;
       list = refused-equal;
       fact = conserved (right refused-equal refl);
-      wrong = λ h. joins h refused-equal (plainBook (zeroOne ∷ []) [] 0) refl refl refl refl (equal-shared _ (List·Memᴰ·head refl));
+      wrong = λ h. joins h refused-equal (plainBook (pair 0 1 ∷ []) [] 0) refl refl refl refl (equal-shared _ (List·Memᴰ·head refl));
     }
     ∷ record {
       name = "equality dropped";
-      version = Rule noEqualities unmarked Shared elements merges _≤_ 2;
+      version = ConservationBy noEqualities unmarked Shared elements merges _≤_ 2;
       list = equal;
       fact = conserved (right equal refl);
       wrong = λ h. parts h equal (plainBook [] [] 1) refl refl refl refl (bare _ refl refl);
     }
     ∷ record {
       name = "application dropped";
-      version = Rule noApplications unmarked Shared elements merges _≤_ 2;
+      version = ConservationBy noApplications unmarked Shared elements merges _≤_ 2;
       list = two-results;
       fact = conserved (right two-results refl);
       wrong = λ h. parts h two-results (plainBook [] [] 1) refl refl refl refl (bare _ refl refl);
     }
     ∷ record {
       name = "merges twice";
-      version = Rule fed unmarked Shared elements (λ b c. b .merges + b .merges) _≤_ 2;
+      version = ConservationBy fed unmarked Shared elements (λ b c. b .merges + b .merges) _≤_ 2;
       list = equal;
       fact = conserved (right equal refl);
       wrong = λ h. miscounts h equal (equal .book) refl refl refl 1 refl (omega arith) (λ l. refl) (λ z. omega (arith, z));
     }
     ∷ record {
       name = "merges of the last close only";
-      version = Rule fed unmarked Shared elements (λ b c. c .merges) _≤_ 2;
+      version = ConservationBy fed unmarked Shared elements (λ b c. c .merges) _≤_ 2;
       list = equal-before;
       fact = conserved (right equal-before refl);
       wrong = λ h. miscounts h equal-before (equal-before .book) refl refl refl 1 refl (omega arith) (λ l. refl) (λ z. omega (arith, z));
     }
     ∷ record {
       name = "classes over one element fewer";
-      version = Rule fed unmarked Shared (λ b. elements b - 1) merges _≤_ 2;
+      version = ConservationBy fed unmarked Shared (λ b. elements b - 1) merges _≤_ 2;
       list = apart;
       fact = conserved (right apart refl);
       wrong = λ h. miscounts h apart (apart .book) refl refl refl 0 refl (omega arith) (λ l. absurd (omega (arith, l))) (λ z. omega (arith, z));
     }
     ∷ record {
       name = "highest root";
-      version = Rule fed unmarked Shared elements merges (λ r y. y ≤ r) 2;
+      version = ConservationBy fed unmarked Shared elements merges (λ r y. y ≤ r) 2;
       list = equal;
       fact = conserved (right equal refl);
       wrong = λ h. misplaces h equal (equal .book) refl refl refl refl (λ l. omega (arith, l));
     }
     ∷ record {
       name = "rounds at most merges and one";
-      version = Rule fed unmarked Shared elements merges _≤_ 1;
+      version = ConservationBy fed unmarked Shared elements merges _≤_ 1;
       list = two-functions;
       fact = conserved (right two-functions refl);
       wrong = λ h. short-of-rounds h two-functions (two-functions .book) refl refl refl (λ l. omega (arith, l));
     }
     ∷ record {
       name = "all in one class";
-      version = Rule fed unmarked (λ b x y. Unit {1}) elements merges _≤_ 2;
+      version = ConservationBy fed unmarked (λ b x y. Unit {1}) elements merges _≤_ 2;
       list = apart;
       fact = conserved (right apart refl);
       wrong = λ h. joins h apart (apart .book) refl refl refl refl tt;
     }
     ∷ record {
       name = "each alone";
-      version = Rule fed unmarked (λ b x y. Lift {0, 1} (x ≡ y)) elements merges _≤_ 2;
+      version = ConservationBy fed unmarked (λ b x y. Lift {0, 1} (x ≡ y)) elements merges _≤_ 2;
       list = equal;
       fact = conserved (right equal refl);
       wrong = λ h. parts h equal (equal .book) refl refl refl refl (λ s. omega (arith, s .lower));
     }
     ∷ record {
       name = "no functionality";
-      version = Rule fed unmarked (SharedBy never) elements merges _≤_ 2;
+      version = ConservationBy fed unmarked (SharedBy never) elements merges _≤_ 2;
       list = two-results;
       fact = conserved (right two-results refl);
       wrong = λ h. parts h two-results (two-results .book) refl refl refl refl (unmet never _ refl (λ R x y m t. t));
     }
     ∷ record {
       name = "Meet without parents";
-      version = Rule fed unmarked (SharedBy anyParents) elements merges _≤_ 2;
+      version = ConservationBy fed unmarked (SharedBy anyParents) elements merges _≤_ 2;
       list = two-parents;
       fact = conserved (right two-parents refl);
       wrong = λ h.
           joins h two-parents (two-parents .book) refl refl refl refl
-          (met-shared anyParents _ (application 0 (0 ∷ []) [] 0) (application 0 (1 ∷ []) [] 1) (List·Memᴰ·tail (List·Memᴰ·head refl)) (List·Memᴰ·head refl)
+          (met-shared anyParents _ (func-app 0 (0 ∷ []) [] 0) (func-app 0 (1 ∷ []) [] 1) (List·Memᴰ·tail (List·Memᴰ·head refl)) (List·Memᴰ·head refl)
           (λ R. (refl, none)));
     }
     ∷ record {
       name = "Meet without the function";
-      version = Rule fed unmarked (SharedBy anyFunction) elements merges _≤_ 2;
+      version = ConservationBy fed unmarked (SharedBy anyFunction) elements merges _≤_ 2;
       list = two-functions;
       fact = conserved (right two-functions refl);
       wrong = λ h.
           joins h two-functions (two-functions .book) refl refl refl refl
-          (met-shared anyFunction _ (application 0 [] [] 0) (application 1 [] [] 1) (List·Memᴰ·tail (List·Memᴰ·head refl)) (List·Memᴰ·head refl)
+          (met-shared anyFunction _ (func-app 0 [] [] 0) (func-app 1 [] [] 1) (List·Memᴰ·tail (List·Memᴰ·head refl)) (List·Memᴰ·head refl)
           (λ R. (none, none)));
     }
     ∷ record {
       name = "shorter lists together";
-      version = Rule fed unmarked (SharedBy shorter) elements merges _≤_ 2;
+      version = ConservationBy fed unmarked (SharedBy shorter) elements merges _≤_ 2;
       list = two-lengths;
       fact = conserved (right two-lengths refl);
       wrong = λ h.
           joins h two-lengths (two-lengths .book) refl refl refl refl
-          (met-shared shorter _ (application 0 [] [] 0) (application 0 [] (0 ∷ []) 1) (List·Memᴰ·tail (List·Memᴰ·head refl)) (List·Memᴰ·head refl)
+          (met-shared shorter _ (func-app 0 [] [] 0) (func-app 0 [] (0 ∷ []) 1) (List·Memᴰ·tail (List·Memᴰ·head refl)) (List·Memᴰ·head refl)
           (λ R. (refl, tt, tt)));
     }
     ∷ record {
       name = "marks allowed";
-      version = Rule fed (λ ms. Unit {0}) Shared elements merges _≤_ 2;
+      version = ConservationBy fed (λ ms. Unit {0}) Shared elements merges _≤_ 2;
       list = marked-parent;
       fact = outside refl refl (bare _ refl refl);
       wrong = λ h. parts h marked-parent (marked-parent .book) refl refl tt refl (bare _ refl refl);

@@ -6,21 +6,25 @@ use mathlib.Core.Option.{Option, none, some}
 use Prim.Native.Nat.{ℕ, zero, suc, _≤_, _<_}
 use native.Mathlib.Omega.{arith}
 use lib.ListN.{length, length-map}
-use Rattle.ids.specs.Answers.{accepted}
+use Rattle.ids.specs.Answers.{Outcome, outcome, accepted, refusing, accepting}
 use Rattle.ids.specs.Table.{rewriteInto}
 use Rattle.ids.proofs.Sorted.{All, all-map, all-join, all-left, all-right, all-image, Sorted, rewrite-all}
+use Rattle.ids.proofs.Judging.{decided-accepts}
 use Rattle.ids.proofs.Views.{map-take}
 use Rattle.unification.specs.Roots.{rootOf}
 use Rattle.unification.proofs.Laws.{root-root}
 use Rattle.signature.specs.Model.{Sig, predAt}
 use Rattle.signature.specs.Calls.{TypedM, at, absent, concreteTypeAt}
 use Rattle.semantics.specs.Structure.{Fact, FuncApp, PredApp, Pair, Structure, compareFuncApp, comparePredApp, canonicalFact}
-use Rattle.semantics.specs.Structure.{canonicalPredApp}
+use Rattle.semantics.specs.Structure.{canonicalPredApp, fact, with-flags}
 use Rattle.semantics.specs.Types.{Core, drain, insertCanonical, imposeAll, grew}
 use Rattle.semantics.specs.Close.{demanded, demandedAt, demandedArgs, funcArgs, predArgs, funcResults, demands, Turn, drained, drainPass}
 use Rattle.semantics.specs.Close.{rewrote, functionalityPass, typed, typingPass, passes, runPasses, round, Rounds, isNone, lastRound}
-use Rattle.semantics.specs.Close.{oneMore, roundsFrom, rounds, fuel, Closed, coreOf, canonicaliseRefs, withCore, answerOf, leftBy}
-use Rattle.semantics.specs.Close.{closeWith, closeImposed, closeAfter, close}
+use Rattle.semantics.specs.Close.{oneMore, roundsFrom, rounds, fuel, Closed, coreOf, canonicaliseRefs, withCore, imposedAfter}
+use Rattle.semantics.specs.Close.{closeRun, reportOf, afterClose, closeBy, close, turn, report}
+use Rattle.semantics.specs.Calls as calls
+use Rattle.semantics.specs.Calls.{closed, machine, Step, rule, closeRule, acceptance, refusal, stepBy, step}
+use Rattle.semantics.proofs.Judged.{close-first}
 use Rattle.semantics.proofs.Queues.{drain-pairs}
 use Rattle.semantics.proofs.Cases.{and-second}
 use Rattle.history.proofs.Drain.{Apart, drain-counted, drain-grows, drain-met}
@@ -28,6 +32,7 @@ use Rattle.history.proofs.Functionality.{Canon}
 use Rattle.history.proofs.Imposing.{insertAll, insert-all, insert-grown, impose-inserts, imposeAll-counts, plain-grown}
 use Rattle.history.proofs.Passes.{Left, after-drain, run-idle, all-lawful}
 use Rattle.history.proofs.Rounds.{stop, isNone-none, none-isNone}
+use Rattle.history.proofs.Closing.{accepted-close}
 use Rattle.history.proofs.Unjoined.{Safe, OnRoots, imposed-safe, safe-idle, rewrittenFacts, safe-rewritten, safe-image, safe-moved}
 
 -- What `typing` demands of rewritten predicate applications are the images of what it demanded.
@@ -36,7 +41,7 @@ module _ (g : Sig) (ls : List ℕ) where
   demanded-image : (r : TypedM) (ps : List ℕ) (e : ℕ) → demanded r (map (rootOf ls) ps) (rootOf ls e) ≡ map (canonicalFact ls) (demanded r ps e)
   unfolding demanded canonicalFact
   demanded-image absent ps e = refl
-  demanded-image (at t n) ps e = let p = sym (map-take (rootOf ls) n ps) in λ i. record { el = rootOf ls e; typ = t; parents = p i } ∷ []
+  demanded-image (at t n) ps e = let p = sym (map-take (rootOf ls) n ps) in λ i. fact (rootOf ls e) t (p i) ∷ []
 
   demandedAt-image : (t : ℕ) (ps : List ℕ) (e : ℕ) → demandedAt g t (map (rootOf ls) ps) (rootOf ls e) ≡ map (canonicalFact ls) (demandedAt g t ps e)
   unfolding demandedAt
@@ -107,7 +112,7 @@ module _ (g : Sig) (preds : List PredApp) where
 
   module _ (apps : List FuncApp) (w : Core) where
     abbrev t : Turn
-    t = drainPass g preds (record { core = w; apps = apps; worked = false })
+    t = drainPass g preds (turn w apps false)
 
     -- the core that `typing` finds, and what it imposes
     abbrev before : Core
@@ -174,10 +179,10 @@ module _ (g : Sig) (preds : List PredApp) where
     v = round g preds (u .apps) (u .core)
 
     -- a round after it does no work
-    no-work : u .core .met ≡ none → u .core .pairs ≡ [] → v ≡ record { core = u .core; apps = u .apps; worked = false }
+    no-work : u .core .met ≡ none → u .core .pairs ≡ [] → v ≡ turn (u .core) (u .apps) false
     unfolding round
     no-work m e =
-        run-idle g preds passes all-lawful (record { core = u .core; apps = u .apps; worked = false })
+        run-idle g preds passes all-lawful (turn (u .core) (u .apps) false)
         (record { pairs = e; sorted = left .sorted; canon = left .canon; typed = safe-idle (demands g (u .apps) preds) (u .core) (safe m) })
 
     -- or has merged
@@ -215,41 +220,61 @@ module _ (g : Sig) (preds : List PredApp) where
 
 -- "close 0 0 1"
 abbrev pub noChange : Closed
-noChange = record { changed = false; merges = 0; rounds = 1 }
+noChange = report false 0 1
 
--- a structure in which nothing is left to do
-record Idle (g : Sig) (s : Structure) : Type 0 where
-  pairs : s .pairs ≡ []
-  sorted : Sorted compareFuncApp (s .func-apps)
-  canon : All (Canon (s .links)) (s .func-apps)
-  demanded : All (Safe (s .links) (s .marks) (s .facts)) (demands g (s .func-apps) (s .pred-apps))
-  imposed : All (Safe (s .links) (s .marks) (s .facts)) (s .impositions)
+-- a structure in which nothing remains to do
+pub record Idle (g : Sig) (s : Structure) : Type 0 where
+  pub pairs : s .pairs ≡ []
+  pub sorted : Sorted compareFuncApp (s .func-apps)
+  pub canon : All (Canon (s .links)) (s .func-apps)
+  pub demanded : All (Safe (s .links) (s .marks) (s .facts)) (demands g (s .func-apps) (s .pred-apps))
+  pub imposed : All (Safe (s .links) (s .marks) (s .facts)) (s .impositions)
 
-idle-close : (g : Sig) (s : Structure) → Idle g s → close g s .answer ≡ accepted noChange
-unfolding close rounds coreOf closeAfter lastRound
-idle-close g s i =
-    ap (λ (r : Rounds). closeAfter r s .answer) (ap (roundsFrom fuel g preds) rest ∙ stop g preds fuel begun refl)
-    ∙ ap (λ (v : Core). closeImposed (lastRound begun) v s .answer) (safe-idle (s .impositions) (coreOf s) (i .imposed))
-    ∙ last
-  where
-    preds : List PredApp
-    preds = s .pred-apps
+module _ (g : Sig) (s : Structure) (i : Idle g s) where
+  abbrev begun : Turn
+  begun = turn (coreOf s) (s .func-apps) false
 
-    begun : Turn
-    begun = record { core = coreOf s; apps = s .func-apps; worked = false }
+  rest : round g (s .pred-apps) (s .func-apps) (coreOf s) ≡ begun
+  unfolding round coreOf
+  rest =
+      run-idle g (s .pred-apps) passes all-lawful begun
+      (record {
+        pairs = i .pairs;
+        sorted = i .sorted;
+        canon = i .canon;
+        typed = safe-idle (demands g (s .func-apps) (s .pred-apps)) (coreOf s) (i .demanded);
+      })
 
-    rest : round g (s .pred-apps) (s .func-apps) (coreOf s) ≡ begun
-    rest = (unfold round in
-        run-idle g (s .pred-apps) passes all-lawful begun
-        (record {
-          pairs = i .pairs;
-          sorted = i .sorted;
-          canon = i .canon;
-          typed = safe-idle (demands g (s .func-apps) (s .pred-apps)) (coreOf s) (i .demanded);
-        }))
+  -- its close runs one round, which does nothing
+  idle-run : closeRun g s ≡ record { rounds = lastRound begun; core = coreOf s }
+  unfolding closeRun rounds imposedAfter lastRound coreOf
+  idle-run =
+      ap (λ (r : Rounds). imposedAfter r s) (ap (roundsFrom fuel g (s .pred-apps)) rest ∙ stop g (s .pred-apps) fuel begun refl)
+      ∙ (λ j. record { rounds = lastRound begun; core = safe-idle (s .impositions) (coreOf s) (i .imposed) j })
 
-    last : closeImposed (lastRound begun) (coreOf s) s .answer ≡ accepted noChange
-    last = (unfold closeImposed closeWith answerOf grew lastRound coreOf in refl)
+  pub idle-met : closeRun g s .core .met ≡ none
+  idle-met = rw idle-run (unfold coreOf in refl)
+
+  pub idle-report : reportOf (closeRun g s) ≡ noChange
+  idle-report = rw idle-run (unfold reportOf lastRound grew coreOf in refl)
+
+  idle-close : close g s .answer ≡ accepted noChange
+  unfolding close closeBy outcome
+  idle-close =
+      let c = closeRun g s in
+      ap (λ (o : Outcome Closed Structure). o .answer)
+      (decided-accepts (refusing s) (accepting (reportOf c) (afterClose c s)) (close-first c ∙ idle-met))
+      ∙ ap (λ (r : Closed). accepted r) idle-report
+
+-- and the call that closes it, whatever its flags
+pub idle-step : (g : Sig) (s : Structure) (x y : Bool) → Idle g s → step calls.close (machine g (with-flags x y s)) .answer ≡ closed noChange
+unfolding step stepBy rule closeRule acceptance
+idle-step g s x y i =
+    let s′ = with-flags x y s in
+    let i′ : Idle g s′ = record { pairs = i .pairs; sorted = i .sorted; canon = i .canon; demanded = i .demanded; imposed = i .imposed } in
+    let m = machine g s′ in
+    ap (λ (t : Step). t .answer) (decided-accepts (refusal m) (acceptance (closeRule (closeRun g s′) m)) (close-first (closeRun g s′) ∙ idle-met g s′ i′))
+    ∙ ap closed (idle-report g s′ i′)
 
 module _ (g : Sig) (s : Structure) (on : OnRoots (s .links) (s .facts)) where
   abbrev preds : List PredApp
@@ -266,9 +291,9 @@ module _ (g : Sig) (s : Structure) (on : OnRoots (s .links) (s .facts)) where
   w = imposeAll (s .impositions) (r .core)
 
   -- what a close leaves that merged nothing
-  left-idle : w .met ≡ none → w .merges ≡ 0 → Idle g (leftBy r w s)
-  unfolding leftBy canonicaliseRefs withCore coreOf rounds fuel
-  left-idle m z =
+  pub after-idle : closeRun g s .core .met ≡ none → closeRun g s .core .merges ≡ 0 → Idle g (afterClose (closeRun g s) s)
+  unfolding closeRun imposedAfter afterClose canonicaliseRefs withCore coreOf rounds fuel
+  after-idle m z =
       let a = imposeAll-counts (s .impositions) (r .core) in
       let b = rounds-count g (s .pred-apps) fuel first in
       let none-first : first .core .merges ≡ 0 = omega (arith, a, b, z) in
@@ -304,14 +329,8 @@ module _ (g : Sig) (s : Structure) (on : OnRoots (s .links) (s .facts)) where
       }
 
   -- For every signature and every structure whose facts stand on roots, as in every valid one.
-  pub second-close : (c : Closed) → close g s .answer ≡ accepted c → c .merges ≡ 0 → close g (close g s .left) .answer ≡ accepted noChange
-  unfolding close closeAfter closeImposed closeWith answerOf
-  second-close c = go (w .met) refl
-    where
-      go : (o : Option ℕ) → w .met ≡ o → closeWith o r w s .answer ≡ accepted c → c .merges ≡ 0
-          → close g (closeWith o r w s .left) .answer ≡ accepted noChange
-      go none m e z = (unfold closeWith in idle-close g (leftBy r w s) (left-idle m (merged e ∙ z)))
-        where
-          merged : closeWith none r w s .answer ≡ accepted c → w .merges ≡ c .merges
-          merged e = (unfold closeWith answerOf in let q : answerOf r w ≡ c = cc in ap (λ (x : Closed). x .merges) q)
-      go (some n) m e z = let q : _≡_ {A = ℕ} 0 1 = cc in absurd (omega arith)
+  pub second-close : (c : Closed) → close g s .answer ≡ accepted c → c .merges ≡ 0 → close g (close g s .after) .answer ≡ accepted noChange
+  second-close c e z =
+      let a = accepted-close g s c e in
+      let merged : closeRun g s .core .merges ≡ 0 = (unfold reportOf in sym (ap (λ (x : Closed). x .merges) (a .answer)) ∙ z) in
+      rw (a .after) (idle-close g (afterClose (closeRun g s) s) (after-idle (a .met) merged))

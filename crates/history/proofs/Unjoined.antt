@@ -13,7 +13,7 @@ use Rattle.ids.proofs.Sorted.{All, all-at, all-from, all-map, no-test, present-
 use Rattle.unification.specs.Roots.{rootOf}
 use Rattle.unification.proofs.Numbers.{same-or}
 use Rattle.unification.proofs.Laws.{root-root}
-use Rattle.semantics.specs.Structure.{Fact, compareFact, canonicalFact}
+use Rattle.semantics.specs.Structure.{Fact, compareFact, canonicalFact, fact}
 use Rattle.semantics.specs.Types.{Core, marked, factsAt, concreteTypesOf, refine, refineParents, refineAll, insertCanonical, impose}
 use Rattle.semantics.specs.Types.{imposeAll}
 use Rattle.semantics.specs.Valid.{OnRoot}
@@ -262,7 +262,7 @@ OnRoots ls fs = All (OnRoot ls) fs
 
 canon-fact : (ls : List ℕ) (f : Fact) → canonicalFact ls (canonicalFact ls f) ≡ canonicalFact ls f
 unfolding canonicalFact
-canon-fact ls f = λ i. record { el = root-root ls (f .el) i; typ = f .typ; parents = map-root ls (f .parents) i }
+canon-fact ls f = λ i. fact (root-root ls (f .el) i) (f .typ) (map-root ls (f .parents) i)
 
 module _ (ls : List ℕ) (ms : List Bool) (fs : List Fact) where
   abbrev pub rewrittenFacts : List Fact

@@ -9,10 +9,11 @@ use lib.Dec.{T}
 use Rattle.ids.specs.Count.{count}
 use Rattle.unification.specs.Roots.{rootOf}
 use Rattle.semantics.specs.Structure.{Pair, FuncApp}
+use Rattle.semantics.specs.Types.{anyMarked}
 use Rattle.semantics.specs.Close.{Closed}
-use Rattle.semantics.specs.Calls.{Call, close, closed, Machine, start, step}
-use Rattle.history.specs.Book.{Book, blank, elements, fed, isAccepted, mergesOf, History, noted, next, run, begin, history}
-use Rattle.history.specs.Book.{Partition, Meet, Shared, someMark, Conserved, Conservation}
+use Rattle.semantics.specs.Calls.{Call, close, closed, isAccepted, Machine, start, step}
+use Rattle.history.specs.Book.{Book, blank, elements, fed, mergesOf, History, noted, next, run, begin, history}
+use Rattle.history.specs.Book.{Partition, Meet, Shared, Conserved, Conservation}
 
 -- where a list has come to when the close after it returns
 abbrev pub after : List Call → History
@@ -65,7 +66,7 @@ pub record ConservedBy (Share : Sharing) (counts : Book → ℕ) (merged : Book 
   pub lowest : (x y : ℕ) → x < elements b → y < elements b → Share b x y → Low (rootOf links x) y
   pub few : c .rounds ≤ c .merges + more
 
-pub record Rule (feeds : Feeds) (Admits : List Bool → Type 0) (Share : Sharing) (counts : Book → ℕ) (merged : Book → Closed → ℕ)
+pub record ConservationBy (feeds : Feeds) (Admits : List Bool → Type 0) (Share : Sharing) (counts : Book → ℕ) (merged : Book → Closed → ℕ)
     (Low : ℕ → ℕ → Type 0) (more : ℕ) : Type 1 where
   pub says : (before : List Call) (c : Closed) → step close (history before .machine) .answer ≡ closed c → Admits (bookAfter feeds before .marks)
       → ConservedBy Share counts merged Low more (bookAfter feeds before) (linksAfter before) c
@@ -74,7 +75,7 @@ pub record Rule (feeds : Feeds) (Admits : List Bool → Type 0) (Share : Sharing
 
 -- the hypothesis of the rule
 abbrev pub unmarked : List Bool → Type 0
-unmarked ms = someMark ms ≡ false
+unmarked ms = anyMarked ms ≡ false
 
 abbrev pub merges : Book → Closed → ℕ
 merges b c = b .merges
@@ -95,9 +96,9 @@ meets-right b x y = (
   λ s R q f. s R q (record { equal = f .equal; functional = f .functional }),
 )
 
-pub rule-right : Rule fed unmarked Shared elements merges _≤_ 2 ↔ Conservation
+pub conservation-right : ConservationBy fed unmarked Shared elements merges _≤_ 2 ↔ Conservation
 unfolding Conservation
-rule-right = (
+conservation-right = (
   λ h before c e u.
       let r = h .says before c e (rw (book-right before) u) in
       subst (λ (b : Book). Conserved b (linksAfter before) c) (book-right before) (record {

@@ -6,29 +6,32 @@ use Prim.Native.Nat.{ℕ}
 use native.Mathlib.Omega.{arith}
 use Rattle.unification.specs.Roots.{rootOf}
 use Rattle.signature.specs.Model.{plain}
-use Rattle.semantics.specs.Close.{Closed}
-use Rattle.semantics.specs.Calls.{Call, push-type, push-func, push-el, equate-els, apply-func, close, root, closed, step}
+use Rattle.semantics.specs.Structure.{pair}
+use Rattle.semantics.specs.Types.{anyMarked}
+use Rattle.semantics.specs.Close.{Closed, report}
+use Rattle.semantics.specs.Calls.{Call, equate-els, close, root, closed, isAccepted, step}
 use Rattle.semantics.proofs.Computes.{everything}
-use Rattle.history.specs.Book.{blank, elements, taken, fed, isAccepted, mergesOf, noted, next, run, begin, History, history, Shared}
-use Rattle.history.specs.Book.{Classes, someMark, Conserved, Conservation}
+use Rattle.semantics.proofs.ProvedCases.{typ, func, plainEl, app}
+use Rattle.history.specs.Book.{blank, elements, taken, fed, mergesOf, noted, next, run, begin, History, history, Shared}
+use Rattle.history.specs.Book.{Classes, Conserved, Conservation}
 use Rattle.history.proofs.Conservation.{conservation}
 
 -- the definitions that a list and its book compute with
 unfoldable pub computed : ℕ
-unfolding everything blank taken fed isAccepted mergesOf noted next run begin history someMark
+unfolding everything blank taken fed isAccepted mergesOf noted next run begin history anyMarked
 computed = 0
 
 -- f of 0 is 2 and f of 1 is 3; 0 and 9 are refused, since there is no 9; 0 and 1 are one
 worked : List Call
 worked =
-    push-type (record { kind = plain; parents = [] })
-    ∷ push-func (record { parents = []; domain = 0 ∷ []; codomain = 0 })
-    ∷ push-el false
-    ∷ push-el false
-    ∷ push-el false
-    ∷ push-el false
-    ∷ apply-func (record { func = 0; parents = []; args = 0 ∷ []; result = 2 })
-    ∷ apply-func (record { func = 0; parents = []; args = 1 ∷ []; result = 3 })
+    typ plain []
+    ∷ func [] (0 ∷ []) 0
+    ∷ plainEl
+    ∷ plainEl
+    ∷ plainEl
+    ∷ plainEl
+    ∷ app 0 [] (0 ∷ []) 2
+    ∷ app 0 [] (1 ∷ []) 3
     ∷ equate-els 0 9
     ∷ equate-els 0 1
     ∷ root 3
@@ -36,7 +39,7 @@ worked =
 
 -- "close 1 2 3"
 answered : Closed
-answered = record { changed = true; merges = 2; rounds = 3 }
+answered = report true 2 3
 
 is-accepted : step close (history worked .machine) .answer ≡ closed answered
 unfolding computed worked answered
@@ -46,20 +49,20 @@ is-accepted = refl
 after : History
 after = history (worked ++ (close ∷ []))
 
-is-unmarked : someMark (after .book .marks) ≡ false
+is-unmarked : anyMarked (after .book .marks) ≡ false
 unfolding computed worked after
 is-unmarked = refl
 
 -- so the rule says of it what it says
-rule : Conserved (after .book) (after .machine .structure .links) answered
-rule = (unfold Conservation after in conservation worked answered is-accepted is-unmarked)
+conserves : Conserved (after .book) (after .machine .structure .links) answered
+conserves = (unfold Conservation after in conservation worked answered is-accepted is-unmarked)
 
 -- the book, computed: four elements, one equality, since the other was refused, and two merges
 four : elements (after .book) ≡ 4
 unfolding computed worked after
 four = refl
 
-one-equality : after .book .equalities ≡ record { lhs = 0; rhs = 1 } ∷ []
+one-equality : after .book .equalities ≡ pair 0 1 ∷ []
 unfolding computed worked after
 one-equality = refl
 
@@ -69,19 +72,19 @@ two-merges = refl
 
 -- there are two classes
 two-classes : Classes (after .book) 2
-two-classes = rw two at (rule .counted)
+two-classes = rw two at (conserves .counted)
   where
-    two : rule .classes ≡ 2
-    two = omega (arith, rule .sum, four, two-merges)
+    two : conserves .classes ≡ 2
+    two = omega (arith, conserves .sum, four, two-merges)
 
 -- 2 and 3 share one, by the two applications
 two-three : Shared (after .book) 2 3
-two-three = rule .one-root 2 3 (omega (arith, four)) (omega (arith, four)) .0 same
+two-three = conserves .one-root 2 3 (omega (arith, four)) (omega (arith, four)) .0 same
   where
     same : rootOf (after .machine .structure .links) 2 ≡ rootOf (after .machine .structure .links) 3
     same = (unfold computed worked after in refl)
 
 -- the second close reports no change
-second : step close (after .machine) .answer ≡ closed (record { changed = false; merges = 0; rounds = 1 })
+second : step close (after .machine) .answer ≡ closed (report false 0 1)
 unfolding computed worked after
 second = refl

@@ -1,19 +1,20 @@
 -- The conservation rule (01, "The conservation rule (demand 3)"): the book, the classes and the claim.
 use mathlib.Core.Path.{_≡_}
 use mathlib.Core.Logic.{_↔_}
-use mathlib.Core.Bool.{Bool, true, false, _||_}
+use mathlib.Core.Bool.{Bool, true, false}
 use mathlib.Core.List.{List, [], _∷_, _++_, List·Memᴰ}
 use Prim.Native.Nat.{ℕ, _+_, _≤_, _<_}
 use lib.ListN.{length}
 use lib.Dec.{T}
 use Rattle.ids.specs.Count.{count}
 use Rattle.unification.specs.Roots.{rootOf}
-use Rattle.semantics.specs.Structure.{Pair, FuncApp}
+use Rattle.semantics.specs.Structure.{Pair, pair, FuncApp}
+use Rattle.semantics.specs.Types.{anyMarked}
 use Rattle.semantics.specs.Close.{Closed}
 use Rattle.semantics.specs.Calls.{Call, push-type, push-pred, push-func, push-model, push-mor-app, push-el, equate-els, impose-type}
 use Rattle.semantics.specs.Calls.{apply-func, apply-pred, bind-var, bind-ambient, close, type-conflicts, root, root-const, lookup-type}
 use Rattle.semantics.specs.Calls.{ambient-parents, Answer, number, says, done, closed, conflicting, found, typed, els, refuse, Machine}
-use Rattle.semantics.specs.Calls.{Step, start, step}
+use Rattle.semantics.specs.Calls.{isAccepted, Step, start, step}
 
 -- The book: "it reads no structure".
 
@@ -27,9 +28,27 @@ pub record Book : Type 0 where
   -- "the merges of an accepted 13", summed
   pub merges : ℕ
 
+-- The one place that builds a book: the fields in their order.
+abbrev pub book : List Bool → List Pair → List FuncApp → ℕ → Book
+book ms es xs n = record { marks = ms; equalities = es; apps = xs; merges = n }
+
+-- A field replaced, the others as they were.
+
+abbrev pub with-marks : List Bool → Book → Book
+with-marks x b = book x (b .equalities) (b .apps) (b .merges)
+
+abbrev pub with-equalities : List Pair → Book → Book
+with-equalities x b = book (b .marks) x (b .apps) (b .merges)
+
+abbrev pub with-apps : List FuncApp → Book → Book
+with-apps x b = book (b .marks) (b .equalities) x (b .merges)
+
+abbrev pub with-merges : ℕ → Book → Book
+with-merges x b = book (b .marks) (b .equalities) (b .apps) x
+
 -- "Empty at first"
 unfoldable pub blank : Book
-blank = record { marks = []; equalities = []; apps = []; merges = 0 }
+blank = book [] [] [] 0
 
 -- the book's elements are the numbers below this
 abbrev pub elements : Book → ℕ
@@ -42,15 +61,14 @@ taken (push-pred p) n b = b
 taken (push-func f) n b = b
 taken (push-model x) n b = b
 taken (push-mor-app x) n b = b
-taken (push-el mark) n b = record { marks = b .marks ++ (mark ∷ []); equalities = b .equalities; apps = b .apps; merges = b .merges }
-taken (equate-els x y) n b =
-    record { marks = b .marks; equalities = record { lhs = x; rhs = y } ∷ b .equalities; apps = b .apps; merges = b .merges }
+taken (push-el mark) n b = with-marks (b .marks ++ (mark ∷ [])) b
+taken (equate-els x y) n b = with-equalities (pair x y ∷ b .equalities) b
 taken (impose-type f) n b = b
-taken (apply-func x) n b = record { marks = b .marks; equalities = b .equalities; apps = x ∷ b .apps; merges = b .merges }
+taken (apply-func x) n b = with-apps (x ∷ b .apps) b
 taken (apply-pred x) n b = b
 taken (bind-var v) n b = b
 taken (bind-ambient a) n b = b
-taken close n b = record { marks = b .marks; equalities = b .equalities; apps = b .apps; merges = n + b .merges }
+taken close n b = with-merges (n + b .merges) b
 taken type-conflicts n b = b
 taken (root e) n b = b
 taken (root-const e) n b = b
@@ -60,18 +78,6 @@ taken (ambient-parents ts) n b = b
 -- "A book is fed each call's arguments, whether it was accepted, and a close's merges"; "Every other call, and every refused one, leaves the book as it was."
 unfoldable pub fed : Call → Bool → ℕ → Book → Book
 fed k accepted n b = elim accepted [ true ↦ taken k n b | false ↦ b ]
-
--- "whether it was accepted"
-unfoldable pub isAccepted : Answer → Bool
-isAccepted (number n) = true
-isAccepted (says b) = true
-isAccepted done = true
-isAccepted (closed c) = true
-isAccepted (conflicting l) = true
-isAccepted (found f) = true
-isAccepted (typed t) = true
-isAccepted (els l) = true
-isAccepted (refuse n) = false
 
 -- "a close's merges"
 unfoldable pub mergesOf : Answer → ℕ
@@ -92,9 +98,12 @@ pub record History : Type 0 where
   pub machine : Machine
   pub book : Book
 
+abbrev pub reached : Machine → Book → History
+reached m b = record { machine = m; book = b }
+
 -- what a call leaves, and the book fed with the call and its answer
 unfoldable pub noted : Call → Step → Book → History
-noted k s b = record { machine = s .after; book = fed k (isAccepted (s .answer)) (mergesOf (s .answer)) b }
+noted k s b = reached (s .after) (fed k (isAccepted (s .answer)) (mergesOf (s .answer)) b)
 
 -- "each call gets both, or the one it takes, as the calls before it returned or left them"
 unfoldable pub next : Call → History → History
@@ -107,7 +116,7 @@ run (k ∷ ks) h = run ks (next k h)
 
 -- "A list begins at the empty signature and structure"
 unfoldable pub begin : History
-begin = record { machine = start; book = blank }
+begin = reached start blank
 
 -- a list from its beginning
 unfoldable pub history : List Call → History
@@ -149,11 +158,6 @@ pub record Classes (b : Book) (k : ℕ) : Type 1 where
 
 -- The claim.
 
--- an element was added with a mark
-unfoldable pub someMark : List Bool → Bool
-someMark [] = false
-someMark (m ∷ ms) = m || someMark ms
-
 -- what holds at the return of an accepted close that answered c, of the book and the links that it leaves
 pub record Conserved (b : Book) (links : List ℕ) (c : Closed) : Type 1 where
   -- there are as many links as elements
@@ -175,5 +179,5 @@ pub record Conserved (b : Book) (links : List ℕ) (c : Closed) : Type 1 where
 unfoldable pub Conservation : Type 1
 Conservation =
     (before : List Call) (c : Closed) → step close (history before .machine) .answer ≡ closed c
-    → someMark (history (before ++ (close ∷ [])) .book .marks) ≡ false
+    → anyMarked (history (before ++ (close ∷ [])) .book .marks) ≡ false
     → Conserved (history (before ++ (close ∷ [])) .book) (history (before ++ (close ∷ [])) .machine .structure .links) c

@@ -13,7 +13,7 @@ use Rattle.ids.specs.Order.{orderOf, thenOf, lexOf}
 use Rattle.ids.proofs.Orders.{less, greater, equal}
 use Rattle.ids.proofs.Sorted.{Ordered, swapped, less-equal, less-greater, equal-greater, alike-right}
 use Rattle.semantics.specs.Structure.{Fact, FuncApp, PredApp, Var, Ambient, compareFact, compareFuncApp, comparePredApp, compareVar}
-use Rattle.semantics.specs.Structure.{compareAmbient}
+use Rattle.semantics.specs.Structure.{compareAmbient, fact}
 
 -- Numbers.
 
@@ -165,7 +165,7 @@ fact-same f g e =
     let a = order-equal (f .el) (g .el) (h .0) in
     let b = order-equal (f .typ) (g .typ) (k .0) in
     let c = lex-equal (f .parents) (g .parents) (k .1) in
-    λ i. record { el = a i; typ = b i; parents = c i }
+    λ i. fact (a i) (b i) (c i)
 
 pub record SameKey (x y : FuncApp) : Type 0 where
   pub func : x .func ≡ y .func

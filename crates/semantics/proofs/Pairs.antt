@@ -9,7 +9,7 @@ use lib.ListN.{length, length-append}
 use Rattle.signature.specs.Model.{Sig}
 use Rattle.semantics.specs.Structure.{Fact, FuncApp, Structure, maxPairs, maxFuncApps}
 use Rattle.semantics.specs.Types.{Core, drain, refineParents, refineAll, imposeAll}
-use Rattle.semantics.specs.Close.{Turn, round, Rounds, isNone, lastRound, oneMore, roundsFrom, rounds, fuel, coreOf, enterAll}
+use Rattle.semantics.specs.Close.{Turn, round, Rounds, isNone, lastRound, oneMore, roundsFrom, rounds, fuel, coreOf, enterAll, turn}
 use Rattle.semantics.proofs.Queues.{Room, still-room, refineParents-queue, refineAll-queue, imposeAll-queue, fresh, pairs-room}
 use Rattle.semantics.proofs.Parts.{asked, asked-room, round-parts, typed-room, rewritten-few}
 
@@ -28,7 +28,7 @@ imposes w r fs f gs ps qs =
 module _ (g : Sig) (s : Structure) where
   -- what k rounds leave, were no round the last
   unfoldable pub after : ℕ → Turn
-  after zero = record { core = coreOf s; apps = s .func-apps; worked = false }
+  after zero = turn (coreOf s) (s .func-apps) false
   after (suc k) = round g (s .pred-apps) (after k .apps) (after k .core)
 
   -- the rounds of a close leave what some number of rounds leaves

@@ -10,7 +10,7 @@ use Rattle.signature.specs.Model.{Sig}
 use Rattle.semantics.specs.Structure.{FuncApp, PredApp, Pair, maxFuncApps}
 use Rattle.semantics.specs.Types.{Core, with-pairs, drain, imposeAll, grew}
 use Rattle.semantics.specs.Close.{Rewritten, enterAll, demands, drained, drainPass, rewrote, functionalityPass, typed, typingPass}
-use Rattle.semantics.specs.Close.{passes, runPasses, round}
+use Rattle.semantics.specs.Close.{passes, runPasses, round, rewriting, turn}
 use Rattle.semantics.proofs.Queues.{fresh, drain-pairs, Room, still-room, imposeAll-queue, pairs-room, apps-few}
 
 module _ (xs : List FuncApp) (w : Core) where
@@ -42,8 +42,8 @@ module _ (g : Sig) (preds : List PredApp) (xs : List FuncApp) (w : Core) where
   unfolding round runPasses passes drainPass drained functionalityPass rewrote typingPass typed typedAll asked rewritten
   round-parts =
       ap (λ (ps : List Pair). runPasses (typingPass ∷ []) g preds
-      (rewrote (enterAll (drain w .links) xs (record { apps = []; pairs = ps; queued = false }))
-      (drained (drain w) (record { core = w; apps = xs; worked = false }))))
+      (rewrote (enterAll (drain w .links) xs (rewriting [] ps false))
+      (drained (drain w) (turn w xs false))))
       (drain-pairs w)
 
   -- and when a round ends

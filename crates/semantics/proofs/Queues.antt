@@ -14,11 +14,11 @@ use Rattle.ids.specs.Table.{present, placed, lookupOf}
 use Rattle.ids.proofs.Sorted.{placed-absent, lookup-sound, lookup-none}
 use Rattle.unification.specs.Roots.{rootOf}
 use Rattle.semantics.specs.Structure.{Fact, FuncApp, Pair, maxPairs, maxFuncApps, maxFacts, compareFact, compareFuncApp}
-use Rattle.semantics.specs.Structure.{canonicalFact, canonicalFuncApp}
+use Rattle.semantics.specs.Structure.{canonicalFact, canonicalFuncApp, pair}
 use Rattle.semantics.specs.Types.{Core, with-pairs, with-added, with-met, marked, merge, joinRoots, join, drainPairs, drain}
 use Rattle.semantics.specs.Types.{refineRoots, refine, refineParents, refineAll, insertFact, insertCanonical, concreteTypesOf}
 use Rattle.semantics.specs.Types.{impose, imposeAll}
-use Rattle.semantics.specs.Close.{Rewritten, enterAt, enter, enterAll}
+use Rattle.semantics.specs.Close.{Rewritten, enterAt, enter, enterAll, rewriting}
 
 -- A drain leaves no pair.
 
@@ -61,8 +61,8 @@ refineRoots-queue : (a b : ℕ) (w : Core) → SameOrNone w (refineRoots a b w)
 unfolding refineRoots
 refineRoots-queue a b w = go (not (eqb a b) && (marked (w .marks) a || marked (w .marks) b))
   where
-    go : (t : Bool) → SameOrNone w (elim t [ true ↦ drain (with-pairs (record { lhs = a; rhs = b } ∷ w .pairs) w) | false ↦ w ])
-    go true = inr (drain-pairs (with-pairs (record { lhs = a; rhs = b } ∷ w .pairs) w))
+    go : (t : Bool) → SameOrNone w (elim t [ true ↦ drain (with-pairs (pair a b ∷ w .pairs) w) | false ↦ w ])
+    go true = inr (drain-pairs (with-pairs (pair a b ∷ w .pairs) w))
     go false = inl refl
 
 pub refine-queue : (a b : ℕ) (w : Core) → SameOrNone w (refine a b w)
@@ -112,7 +112,7 @@ imposeAll-queue (f ∷ fs) w = same-then w (impose f w) (imposeAll fs (impose f 
 
 -- `functionality` makes of each application one more entry or one more pair, or neither.
 
-pub record Grown (n : ℕ) (t u : Rewritten) : Type 0 where
+pub record EnteredMost (n : ℕ) (t u : Rewritten) : Type 0 where
   pub both : length (u .pairs) + length (u .apps) ≤ n + (length (t .pairs) + length (t .apps))
   pub apps : length (t .apps) ≤ length (u .apps)
 
@@ -120,48 +120,48 @@ some-entry : {A : Type 0} {x : A} (l : List A) → List·Memᴰ x l → 1 ≤ le
 some-entry [] m = absurd (List·Memᴰ·not-nil m)
 some-entry (y ∷ ys) m = omega arith
 
-pub enter-grown : (x : FuncApp) (t : Rewritten) → Grown 1 t (enter x t) × (1 ≤ length (enter x t .apps))
+pub enter-most : (x : FuncApp) (t : Rewritten) → EnteredMost 1 t (enter x t) × (1 ≤ length (enter x t .apps))
 unfolding enter enterAt
-enter-grown x t = go (lookupOf compareFuncApp x (t .apps)) refl
+enter-most x t = go (lookupOf compareFuncApp x (t .apps)) refl
   where
     pairs : FuncApp → List Pair
-    pairs y = record { lhs = y .result; rhs = x .result } ∷ t .pairs
+    pairs y = pair (y .result) (x .result) ∷ t .pairs
 
     clash : (y : FuncApp) → 1 ≤ length (t .apps) → (b : Bool)
-        → Grown 1 t (elim b [ true ↦ t | false ↦ record { apps = t .apps; pairs = pairs y; queued = true } ])
-        × (1 ≤ length ((elim b as (λ _. Rewritten) [ true ↦ t | false ↦ record { apps = t .apps; pairs = pairs y; queued = true } ]) .apps))
+        → EnteredMost 1 t (elim b [ true ↦ t | false ↦ rewriting (t .apps) (pairs y) true ])
+        × (1 ≤ length ((elim b as (λ _. Rewritten) [ true ↦ t | false ↦ rewriting (t .apps) (pairs y) true ]) .apps))
     clash y l true = (record { both = omega arith; apps = omega arith }, l)
     clash y l false = (record { both = omega arith; apps = omega arith }, l)
 
-    go : (o : Option FuncApp) → lookupOf compareFuncApp x (t .apps) ≡ o → Grown 1 t (enterAt o x t) × (1 ≤ length (enterAt o x t .apps))
+    go : (o : Option FuncApp) → lookupOf compareFuncApp x (t .apps) ≡ o → EnteredMost 1 t (enterAt o x t) × (1 ≤ length (enterAt o x t .apps))
     go none q =
         let more = placed-absent compareFuncApp x (t .apps) (lookup-none compareFuncApp x (t .apps) q) in
         (record { both = omega arith; apps = omega arith }, omega arith)
     go (some y) q = clash y (some-entry (t .apps) (lookup-sound compareFuncApp x (t .apps) q .0)) (eqb (y .result) (x .result))
 
-pub enterAll-grown : (ls : List ℕ) (xs : List FuncApp) (t : Rewritten) → Grown (length xs) t (enterAll ls xs t)
+pub enterAll-most : (ls : List ℕ) (xs : List FuncApp) (t : Rewritten) → EnteredMost (length xs) t (enterAll ls xs t)
 unfolding enterAll
-enterAll-grown ls [] t = record { both = omega arith; apps = omega arith }
-enterAll-grown ls (x ∷ xs) t =
-    let a = enter-grown (canonicalFuncApp ls x) t .0 in
-    let b = enterAll-grown ls xs (enter (canonicalFuncApp ls x) t) in
+enterAll-most ls [] t = record { both = omega arith; apps = omega arith }
+enterAll-most ls (x ∷ xs) t =
+    let a = enter-most (canonicalFuncApp ls x) t .0 in
+    let b = enterAll-most ls xs (enter (canonicalFuncApp ls x) t) in
     record { both = omega (arith, a .both, b .both); apps = omega (arith, a .apps, b .apps) }
 
 -- what it begins with after a drain
 abbrev pub fresh : Rewritten
-fresh = record { apps = []; pairs = []; queued = false }
+fresh = rewriting [] [] false
 
 -- the first application makes no pair, each other at most one
 pub pairs-few : (ls : List ℕ) (xs : List FuncApp) → length (enterAll ls xs fresh .pairs) ≤ length xs - 1
 unfolding enterAll
 pairs-few ls [] = omega arith
 pairs-few ls (x ∷ xs) =
-    let a = enter-grown (canonicalFuncApp ls x) fresh in
-    let b = enterAll-grown ls xs (enter (canonicalFuncApp ls x) fresh) in
+    let a = enter-most (canonicalFuncApp ls x) fresh in
+    let b = enterAll-most ls xs (enter (canonicalFuncApp ls x) fresh) in
     omega (arith, a .0 .both, a .1, b .both, b .apps)
 
 pub apps-few : (ls : List ℕ) (xs : List FuncApp) → length (enterAll ls xs fresh .apps) ≤ length xs
-apps-few ls xs = omega (arith, enterAll-grown ls xs fresh .both)
+apps-few ls xs = omega (arith, enterAll-most ls xs fresh .both)
 
 -- so that there is room for the pair of a refinement: `maxFuncApps` is at most `maxPairs`
 pub pairs-room : (ls : List ℕ) (xs : List FuncApp) → length xs ≤ maxFuncApps → length (enterAll ls xs fresh .pairs) < maxPairs

@@ -8,9 +8,10 @@ use lib.Dec.{eqb}
 use Rattle.ids.specs.Table.{lookupOf}
 use Rattle.ids.proofs.Sorted.{All, placed-all}
 use Rattle.signature.specs.Model.{Sig}
-use Rattle.semantics.specs.Structure.{FuncApp, PredApp, compareFuncApp, canonicalFuncApp}
+use Rattle.semantics.specs.Structure.{FuncApp, PredApp, compareFuncApp, canonicalFuncApp, pair}
 use Rattle.semantics.specs.Types.{Core}
 use Rattle.semantics.specs.Close.{Rewritten, enterAt, enter, enterAll, Turn, Rounds, round, isNone, lastRound, oneMore, roundsFrom, rounds, fuel}
+use Rattle.semantics.specs.Close.{rewriting}
 use Rattle.semantics.proofs.Parts.{rewritten, round-parts}
 
 module _ (P : ℕ → Type 0) where
@@ -24,7 +25,7 @@ module _ (P : ℕ → Type 0) where
     where
       clash : (y : FuncApp) (b : Bool) → AppliedTo ((elim b as (λ _. Rewritten) [
         | true ↦ t
-        | false ↦ record { apps = t .apps; pairs = record { lhs = y .result; rhs = x .result } ∷ t .pairs; queued = true }
+        | false ↦ rewriting (t .apps) (pair (y .result) (x .result) ∷ t .pairs) true
       ]) .apps)
       clash y true = h
       clash y false = h

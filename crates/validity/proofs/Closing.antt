@@ -1,45 +1,49 @@
--- A close of a valid structure: it is refused with 11 or accepted, leaves no pair that waits where it is accepted, and leaves a valid structure.
+-- A close of a valid structure: it is refused with a number of `closeNumbers` or accepted, leaves no pair that waits where it is accepted, and leaves a valid structure.
 use mathlib.Core.Path.{_≡_, refl, sym, ap, subst, _∙_}
 use mathlib.Core.Logic.{_⊎_, inl, inr}
 use mathlib.Core.Bool.{Bool, true, false, _&&_}
-use mathlib.Core.List.{List, [], map}
+use mathlib.Core.List.{List, [], map, List·Memᴰ}
 use mathlib.Core.Option.{Option, none, some}
 use Prim.Native.Nat.{ℕ, _+_}
 use native.Mathlib.Omega.{arith}
 use lib.ListN.{length, length-map}
-use Rattle.ids.specs.Answers.{Outcome, accepted, refused, tooManyFacts}
+use Rattle.ids.specs.Answers.{Outcome, outcome, accepted, refused, refusing, accepting}
 use Rattle.ids.specs.Table.{rewriteInto}
-use Rattle.ids.proofs.Sorted.{All, all-map, all-image, no-test, rewrite-all, rewrite-sorted, rewrite-length, sorted-image}
+use Rattle.ids.proofs.Judging.{decided-refuses, decided-accepts, decided-by}
+use Rattle.ids.proofs.Sorted.{All, all-map, all-image, rewrite-all, rewrite-sorted, rewrite-length, sorted-image}
 use Rattle.unification.proofs.Laws.{root-le}
 use Rattle.signature.specs.Model.{Sig}
 use Rattle.semantics.specs.Structure.{Fact, PredApp, Var, Structure, compareFact, comparePredApp, compareVar, compareFuncApp, maxFuncApps}
-use Rattle.semantics.specs.Structure.{canonicalFact, canonicalPredApp, canonicalVar}
-use Rattle.semantics.specs.Types.{Core, imposeAll}
-use Rattle.semantics.specs.Close.{Turn, Rounds, Closed, round, rounds, roundsFrom, isNone, fuel, coreOf, canonicaliseRefs, withCore}
-use Rattle.semantics.specs.Close.{answerOf, leftBy, closeWith, closeImposed, closeAfter, close}
+use Rattle.semantics.specs.Structure.{canonicalFact, canonicalPredApp, canonicalVar, empty}
+use Rattle.semantics.specs.Types.{Core}
+use Rattle.semantics.specs.Close.{Turn, CloseRun, Closed, round, rounds, roundsFrom, isNone, fuel, coreOf, canonicaliseRefs, withCore}
+use Rattle.semantics.specs.Close.{imposedAfter, closeRun, closeCauses, reportOf, afterClose, closeBy, close}
 use Rattle.semantics.specs.Calls.{isReserved}
 use Rattle.semantics.specs.Valid.{Counts, countsOf, FactValid, PredAppValid, VarValid, FuncAppValid, OnRoot, Queue, Table, ValidStructure}
 use Rattle.semantics.specs.Valid.{Unreserved, Valid}
 use Rattle.semantics.proofs.Orders.{fact-ordered, pred-app-ordered}
+use Rattle.semantics.proofs.Computes.{everything}
+use Rattle.semantics.proofs.Judged.{close-first}
 use Rattle.semantics.proofs.Queues.{Room}
 use Rattle.semantics.proofs.Pairs.{Imposes, Fits, rounds-fit, impositions-fit}
-use Rattle.validity.proofs.Drain.{Whole}
-use Rattle.validity.proofs.Imposing.{Imposed, imposeAll-went, roots-listed, canonical-valid, canonical-rooted}
-use Rattle.validity.proofs.Turns.{Turned}
-use Rattle.validity.proofs.Fuel.{goesOn, Last, more-fuel, rounds-end, rounds-turned}
+use Rattle.validity.specs.Numbers.{closeNumbers, MayMeet}
+use Rattle.validity.proofs.Drain.{ValidCore}
+use Rattle.validity.proofs.Imposing.{Imposed, imposeAll-advances, roots-listed, canonical-valid, canonical-rooted}
+use Rattle.validity.proofs.Turns.{AfterRound}
+use Rattle.validity.proofs.Fuel.{goesOn, Last, more-fuel, rounds-end, rounds-after}
 use Rattle.validity.proofs.Applied.{rounds-applied}
 use Rattle.validity.proofs.Growing.{counted}
 
-pub core-whole : (c : Counts) (s : Structure) → ValidStructure c s → Whole c (coreOf s)
+pub core-valid : (c : Counts) (s : Structure) → ValidStructure c s → ValidCore c (coreOf s)
 unfolding coreOf
-core-whole c s v = record {
+core-valid c s v = record {
   els = v .els;
   links = v .links;
   marks = v .marks;
   facts = v .facts;
   rooted = v .facts-rooted;
   pairs = v .pairs;
-  met = inl refl;
+  met = tt;
 }
 
 -- What `canonicalise_refs` leaves.
@@ -100,6 +104,10 @@ idle-if false o q e = refl
 idle-if true none q e = e
 idle-if true (some m) q e = let z : _≡_ {A = ℕ} 0 1 = cc in absurd (omega arith)
 
+-- of the empty structure a close leaves the empty structure
+close-nothing : (g : Sig) (s : Structure) → s ≡ empty → afterClose (closeRun g s) s ≡ empty
+close-nothing g s e = ap (λ (x : Structure). afterClose (closeRun g x) x) e ∙ (unfold everything in refl)
+
 module _ (g : Sig) (s : Structure) (v : Valid g s) where
   abbrev c : Counts
   c = countsOf g s
@@ -115,72 +123,67 @@ module _ (g : Sig) (s : Structure) (v : Valid g s) where
   unfolding rounds
   close-fuel =
       more-fuel g (v .sig) (c .els) (s .pred-apps) (vs .pred-apps .each) (vs .els-most) (coreOf s) (s .func-apps)
-      (core-whole c s vs) (vs .func-apps)
-
-  ran : Rounds
-  ran = rounds g (s .pred-apps) (s .func-apps) (coreOf s)
+      (core-valid c s vs) (vs .func-apps)
 
   pub close-ends : Last g (s .pred-apps) (rounds g (s .pred-apps) (s .func-apps) (coreOf s))
   close-ends =
       rounds-end g (v .sig) (c .els) (s .pred-apps) (vs .pred-apps .each) (vs .els-most) (coreOf s) (s .func-apps)
-      (core-whole c s vs) (vs .func-apps)
+      (core-valid c s vs) (vs .func-apps)
 
   last : Turn
   last = close-ends .turn
 
-  last-turned : Turned c last
+  last-after : AfterRound c last
   unfolding last close-ends
-  last-turned =
-      rounds-turned g (v .sig) (c .els) (s .pred-apps) (vs .pred-apps .each) (vs .els-most) (coreOf s) (s .func-apps)
-      (core-whole c s vs) (vs .func-apps)
-
-  ran-core : ran .core ≡ last .core
-  unfolding ran last
-  ran-core = close-ends .core
-
-  ran-apps : ran .apps ≡ last .apps
-  unfolding ran last
-  ran-apps = close-ends .apps
+  last-after =
+      rounds-after g (v .sig) (c .els) (s .pred-apps) (vs .pred-apps .each) (vs .els-most) (coreOf s) (s .func-apps)
+      (core-valid c s vs) (vs .func-apps)
 
   last-ends : goesOn last ≡ false
   unfolding last
   last-ends = close-ends .ends
 
-  ran-table : Table (FuncAppValid c) compareFuncApp maxFuncApps (ran .apps)
-  ran-table = subst (Table (FuncAppValid c) compareFuncApp maxFuncApps) (sym ran-apps) (last-turned .apps)
+  -- the whole run: the rounds, and what the impositions leave
+  ran : CloseRun
+  ran = closeRun g s
 
-  -- after the impositions
-  end : Core
-  end = imposeAll (s .impositions) (ran .core)
+  ran-core : ran .rounds .core ≡ last .core
+  unfolding ran last closeRun imposedAfter
+  ran-core = close-ends .core
 
-  to-end : Imposed c (ran .core) end
-  unfolding end
-  to-end = imposeAll-went c (s .impositions) (ran .core) (vs .impositions .each) (subst (Whole c) (sym ran-core) (last-turned .whole))
-      (subst Room (sym ran-core) (last-turned .room))
+  ran-apps : ran .rounds .apps ≡ last .apps
+  unfolding ran last closeRun imposedAfter
+  ran-apps = close-ends .apps
+
+  to-end : Imposed c (ran .rounds .core) (ran .core)
+  unfolding ran closeRun imposedAfter
+  to-end =
+      imposeAll-advances c (s .impositions) (ran .rounds .core) (vs .impositions .each) (subst (ValidCore c) (sym ran-core) (last-after .valid))
+      (subst Room (sym ran-core) (last-after .room))
 
   -- no number met: the last round did not work, so that no pair waits
-  end-empty : end .met ≡ none → end .pairs ≡ []
+  end-empty : ran .core .met ≡ none → ran .core .pairs ≡ []
   end-empty q =
-      let m : last .core .met ≡ none = sym (ap (λ (w : Core). w .met) ran-core) ∙ to-end .went .met q in
-      let p : ran .core .pairs ≡ [] = ap (λ (w : Core). w .pairs) ran-core ∙ last-turned .idle (idle m) in
+      let m : last .core .met ≡ none = sym (ap (λ (w : Core). w .met) ran-core) ∙ to-end .advances .met q in
+      let p : ran .rounds .core .pairs ≡ [] = ap (λ (w : Core). w .pairs) ran-core ∙ last-after .idle (idle m) in
       elim (to-end .place) [ inl z ↦ z .1 ∙ p | inr z ↦ z .0 ]
     where
       idle : last .core .met ≡ none → last .worked ≡ false
       idle m = idle-if (last .worked) (last .core .met) m last-ends
 
-  left-valid : ValidStructure c (leftBy ran end s)
-  unfolding leftBy canonicaliseRefs withCore
-  left-valid =
-      let w = to-end .went .whole in
-      let ls = end .links in
+  after-valid : ValidStructure c (afterClose ran s)
+  unfolding afterClose canonicaliseRefs withCore
+  after-valid =
+      let w = to-end .advances .valid in
+      let ls = ran .core .links in
       record {
         els = w .els;
         els-most = vs .els-most;
         links = w .links;
         marks = w .marks;
-        facts = facts-table c ls _ (end .facts) (w .facts);
-        facts-rooted = facts-rooted c ls (end .facts) (w .facts .each);
-        func-apps = ran-table;
+        facts = facts-table c ls _ (ran .core .facts) (w .facts);
+        facts-rooted = facts-rooted c ls (ran .core .facts) (w .facts .each);
+        func-apps = subst (Table (FuncAppValid c) compareFuncApp maxFuncApps) (sym ran-apps) (last-after .apps);
         pred-apps = preds-table c ls _ (s .pred-apps) (vs .pred-apps);
         vars = vars-table c ls _ (s .vars) (vs .vars);
         ambients = vs .ambients;
@@ -189,61 +192,76 @@ module _ (g : Sig) (s : Structure) (v : Valid g s) where
       }
 
   -- the applications are rewritten, their functions are not
-  ran-unreserved : All (Unreserved g) (ran .apps)
-  unfolding ran
+  ran-unreserved : All (Unreserved g) (ran .rounds .apps)
+  unfolding ran closeRun imposedAfter
   ran-unreserved = rounds-applied (λ f. isReserved g f ≡ false) g (s .pred-apps) (s .func-apps) (coreOf s) (v .unreserved)
 
-  left-over : Valid g (leftBy ran end s)
-  left-over = record {
+  -- what a close leaves where it is accepted
+  pub after-close : Valid g (afterClose (closeRun g s) s)
+  unfolding ran
+  after-close = record {
     sig = v .sig;
-    structure = counted g (c .els) (leftBy ran end s) left-valid;
-    unreserved = (unfold leftBy canonicaliseRefs withCore in ran-unreserved);
-    of-models = (unfold leftBy canonicaliseRefs withCore in v .of-models);
-    unstarted = λ q. (unfold leftBy in no-test refl q);
+    structure = counted g (c .els) (afterClose ran s) after-valid;
+    unreserved = (unfold afterClose canonicaliseRefs withCore in ran-unreserved);
+    of-models = (unfold afterClose canonicaliseRefs withCore in v .of-models);
+    unstarted = λ q. close-nothing g s (v .unstarted (unfold afterClose canonicaliseRefs withCore in q));
   }
 
-  accepts : end .met ≡ none → close g s ≡ record { answer = accepted (answerOf ran end); after = leftBy ran end s }
-  unfolding close closeAfter closeImposed closeWith end ran
-  accepts q = ap (λ (o : Option ℕ). closeWith o ran end s) q
+  accepts : ran .core .met ≡ none → close g s ≡ accepting (reportOf ran) (afterClose ran s)
+  unfolding close closeBy outcome ran
+  accepts q = decided-accepts (refusing s) (accepting (reportOf ran) (afterClose ran s)) (close-first ran ∙ q)
 
-  refuses : end .met ≡ some tooManyFacts → close g s ≡ record { answer = refused tooManyFacts; after = s }
-  unfolding close closeAfter closeImposed closeWith end ran
-  refuses q = ap (λ (o : Option ℕ). closeWith o ran end s) q
+  refuses : (n : ℕ) → ran .core .met ≡ some n → close g s ≡ refusing s n
+  unfolding close closeBy outcome ran
+  refuses n q = decided-refuses (refusing s) (accepting (reportOf ran) (afterClose ran s)) (close-first ran ∙ q)
 
-  -- number 11, "structure before the close"
+  -- one of the numbers that refuse a close, "structure before the close"
   pub record Refused : Type 0 where
-    pub answer : close g s .answer ≡ refused tooManyFacts
-    pub left : close g s .left ≡ s
+    pub number : ℕ
+    pub listed : List·Memᴰ number closeNumbers
+    pub answer : close g s .answer ≡ refused number
+    pub after : close g s .after ≡ s
 
   pub record Accepted : Type 0 where
     pub closed : Closed
     pub answer : close g s .answer ≡ accepted closed
     -- no pair waits afterwards
-    pub drained : close g s .left .pairs ≡ []
+    pub drained : close g s .after .pairs ≡ []
 
-  -- a close is refused with 11 or not at all
+  -- a close is refused with one of those numbers or not at all
   pub close-answers : Refused ⊎ Accepted
-  close-answers = elim (to-end .went .whole .met) [
-    | inl q ↦ inr (record {
-      closed = answerOf ran end;
-      answer = ap (λ (o : Outcome Closed Structure). o .answer) (accepts q);
-      drained = ap (λ (o : Outcome Closed Structure). o .left .pairs) (accepts q) ∙ left-pairs ∙ end-empty q;
-    })
-    | inr q ↦ inl (record {
-      answer = ap (λ (o : Outcome Closed Structure). o .answer) (refuses q);
-      left = ap (λ (o : Outcome Closed Structure). o .left) (refuses q);
-    })
-  ]
+  close-answers = go (ran .core .met) refl (to-end .advances .valid .met)
     where
-      left-pairs : leftBy ran end s .pairs ≡ end .pairs
-      left-pairs = (unfold leftBy canonicaliseRefs withCore in refl)
+      pairs : afterClose ran s .pairs ≡ ran .core .pairs
+      pairs = (unfold afterClose canonicaliseRefs withCore in refl)
+
+      go : (o : Option ℕ) → ran .core .met ≡ o → MayMeet o → Refused ⊎ Accepted
+      go none q m = inr (record {
+        closed = reportOf ran;
+        answer = ap (λ (o : Outcome Closed Structure). o .answer) (accepts q);
+        drained = ap (λ (o : Outcome Closed Structure). o .after .pairs) (accepts q) ∙ pairs ∙ end-empty q;
+      })
+      go (some n) q m = inl (record {
+        number = n;
+        listed = m;
+        answer = ap (λ (o : Outcome Closed Structure). o .answer) (refuses n q);
+        after = ap (λ (o : Outcome Closed Structure). o .after) (refuses n q);
+      })
+
+  -- what holds before the close, and where it is accepted, holds after it
+  by-close : (P : Structure → Type 0) → P s → P (afterClose (closeRun g s) s) → P (close g s .after)
+  unfolding close closeBy outcome
+  by-close P before after =
+      decided-by (λ (o : Outcome Closed Structure). P (o .after)) (closeCauses (closeRun g s)) (refusing s)
+      (accepting (reportOf (closeRun g s)) (afterClose (closeRun g s) s)) (λ n m. before) (λ none-applies. after)
 
   -- a close adds no element
-  pub close-els : length (close g s .left .links) ≡ c .els
-  close-els = elim (to-end .went .whole .met) [ inl q ↦ rw (accepts q) (left-valid .els) | inr q ↦ rw (refuses q) refl ]
+  pub close-els : length (close g s .after .links) ≡ c .els
+  unfolding ran
+  close-els = by-close (λ x. length (x .links) ≡ c .els) refl (after-valid .els)
 
-  pub close-valid : Valid g (close g s .left)
-  close-valid = elim (to-end .went .whole .met) [ inl q ↦ rw (accepts q) left-over | inr q ↦ rw (refuses q) v ]
+  pub close-valid : Valid g (close g s .after)
+  close-valid = by-close (Valid g) v after-close
 
   -- at every moment of the close at most `maxPairs` pairs wait: in each round, and while the impositions are imposed, also those of a close
   -- that 11 refuses

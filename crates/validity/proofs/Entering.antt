@@ -11,8 +11,8 @@ use Rattle.ids.specs.Table.{lookupOf}
 use Rattle.ids.proofs.Sorted.{All, Sorted, all-at, placed-all, placed-sorted, lookup-sound}
 use Rattle.unification.specs.Roots.{rootOf}
 use Rattle.unification.proofs.Laws.{root-le, root-root}
-use Rattle.semantics.specs.Structure.{FuncApp, Pair, compareFuncApp, canonicalFuncApp}
-use Rattle.semantics.specs.Close.{Rewritten, enterAt, enter, enterAll}
+use Rattle.semantics.specs.Structure.{FuncApp, Pair, compareFuncApp, canonicalFuncApp, pair}
+use Rattle.semantics.specs.Close.{Rewritten, enterAt, enter, enterAll, rewriting}
 use Rattle.semantics.specs.Valid.{Counts, FuncAppValid, PairValid}
 use Rattle.semantics.proofs.Orders.{func-app-ordered}
 use Rattle.semantics.proofs.Queues.{fresh}
@@ -48,7 +48,7 @@ module _ (c : Counts) (ls : List ℕ) where
     where
       clash : (y : FuncApp) → Entry y → (b : Bool) → eqb (y .result) (x .result) ≡ b → Entered (elim b [
         | true ↦ t
-        | false ↦ record { apps = t .apps; pairs = record { lhs = y .result; rhs = x .result } ∷ t .pairs; queued = true }
+        | false ↦ rewriting (t .apps) (pair (y .result) (x .result) ∷ t .pairs) true
       ])
       clash y f true q = h
       clash y f false q = record {

@@ -13,8 +13,8 @@ use Rattle.semantics.specs.Types.{Core}
 use Rattle.semantics.specs.Close.{Turn, Rounds, rounds, round, isNone, lastRound, oneMore, roundsFrom, fuel}
 use Rattle.semantics.specs.Valid.{countsAt, FuncAppValid, PredAppValid, Table, ValidSig}
 use Rattle.semantics.proofs.Cases.{test, and-first}
-use Rattle.validity.proofs.Drain.{Whole}
-use Rattle.validity.proofs.Turns.{Turned, measure, measure-fuel, measure-falls, round-turned}
+use Rattle.validity.proofs.Drain.{ValidCore}
+use Rattle.validity.proofs.Turns.{AfterRound, measure, measure-fuel, measure-falls, round-after}
 
 -- another round follows
 abbrev pub goesOn : Turn → Bool
@@ -75,17 +75,17 @@ pub record Last (g : Sig) (preds : List PredApp) (r : Rounds) : Type 0 where
   pub ends : goesOn turn ≡ false
 
 module _ (g : Sig) (v : ValidSig g) (n : ℕ) (preds : List PredApp) (pv : All (PredAppValid (countsAt g n)) preds) where
-  on : (t : Turn) → Turned (countsAt g n) t → Turned (countsAt g n) (round g preds (t .apps) (t .core))
-  on t h = round-turned g v n preds pv (t .core) (t .apps) (h .whole) (h .apps)
+  on : (t : Turn) → AfterRound (countsAt g n) t → AfterRound (countsAt g n) (round g preds (t .apps) (t .core))
+  on t h = round-after g v n preds pv (t .core) (t .apps) (h .valid) (h .apps)
 
-  less : (k : ℕ) (t : Turn) → Turned (countsAt g n) t → measure t < suc k
+  less : (k : ℕ) (t : Turn) → AfterRound (countsAt g n) t → measure t < suc k
       → goesOn (round g preds (t .apps) (t .core)) ≡ true → measure (round g preds (t .apps) (t .core)) < k
   less k t h l e =
       let u = round g preds (t .apps) (t .core) in
       omega (arith, measure-falls g v n preds pv t h (and-first (u .worked) (isNone (u .core .met)) e))
 
   -- any fuel above the measure of a round will do
-  pub rounds-enough : (k j : ℕ) (t : Turn) → Turned (countsAt g n) t → (goesOn t ≡ true → measure t < k) → (goesOn t ≡ true → measure t < j)
+  pub rounds-enough : (k j : ℕ) (t : Turn) → AfterRound (countsAt g n) t → (goesOn t ≡ true → measure t < k) → (goesOn t ≡ true → measure t < j)
       → roundsFrom k g preds t ≡ roundsFrom j g preds t
   rounds-enough zero j t h p q = elim (test (goesOn t)) [
     | inl e ↦ absurd (omega (arith, p e))
@@ -104,7 +104,7 @@ module _ (g : Sig) (v : ValidSig g) (n : ℕ) (preds : List PredApp) (pv : All (
   ]
 
   -- after the last round none follows
-  pub last-ends : (k : ℕ) (t : Turn) → Turned (countsAt g n) t → (goesOn t ≡ true → measure t < k) → goesOn (lastFrom k g preds t) ≡ false
+  pub last-ends : (k : ℕ) (t : Turn) → AfterRound (countsAt g n) t → (goesOn t ≡ true → measure t < k) → goesOn (lastFrom k g preds t) ≡ false
   unfolding next
   last-ends zero t h p = elim (test (goesOn t)) [ inl e ↦ absurd (omega (arith, p e)) | inr e ↦ rw (last-stop g preds zero t e) e ]
   last-ends (suc k) t h p = elim (test (goesOn t)) [
@@ -112,11 +112,11 @@ module _ (g : Sig) (v : ValidSig g) (n : ℕ) (preds : List PredApp) (pv : All (
     | inr e ↦ rw (last-stop g preds (suc k) t e) e
   ]
 
-  pub last-turned : (k : ℕ) (t : Turn) → Turned (countsAt g n) t → Turned (countsAt g n) (lastFrom k g preds t)
+  pub last-after : (k : ℕ) (t : Turn) → AfterRound (countsAt g n) t → AfterRound (countsAt g n) (lastFrom k g preds t)
   unfolding next
-  last-turned zero t h = (unfold lastFrom in h)
-  last-turned (suc k) t h = elim (test (goesOn t)) [
-    | inl e ↦ rw (last-on g preds k t e) (last-turned k (round g preds (t .apps) (t .core)) (on t h))
+  last-after zero t h = (unfold lastFrom in h)
+  last-after (suc k) t h = elim (test (goesOn t)) [
+    | inl e ↦ rw (last-on g preds k t e) (last-after k (round g preds (t .apps) (t .core)) (on t h))
     | inr e ↦ rw (last-stop g preds (suc k) t e) h
   ]
 
@@ -132,10 +132,10 @@ module _ (g : Sig) (v : ValidSig g) (n : ℕ) (preds : List PredApp) (pv : All (
 
   -- The rounds of a close.
 
-  module _ (few : n ≤ maxEls) (w : Core) (xs : List FuncApp) (h : Whole (countsAt g n) w)
+  module _ (few : n ≤ maxEls) (w : Core) (xs : List FuncApp) (h : ValidCore (countsAt g n) w)
       (a : Table (FuncAppValid (countsAt g n)) compareFuncApp maxFuncApps xs) where
-    begin : Turned (countsAt g n) (round g preds xs w)
-    begin = round-turned g v n preds pv w xs h a
+    begin : AfterRound (countsAt g n) (round g preds xs w)
+    begin = round-after g v n preds pv w xs h a
 
     -- more fuel changes nothing
     pub more-fuel : (j : ℕ) → roundsFrom (fuel + j) g preds (round g preds xs w) ≡ roundsFrom fuel g preds (round g preds xs w)
@@ -159,6 +159,6 @@ module _ (g : Sig) (v : ValidSig g) (n : ℕ) (preds : List PredApp) (pv : All (
           ends = last-ends fuel t begin (λ e. measure-fuel (countsAt g n) t few begin);
         }
 
-    pub rounds-turned : Turned (countsAt g n) (rounds-end .turn)
+    pub rounds-after : AfterRound (countsAt g n) (rounds-end .turn)
     unfolding rounds-end
-    rounds-turned = last-turned fuel (round g preds xs w) begin
+    rounds-after = last-after fuel (round g preds xs w) begin

@@ -2,7 +2,7 @@
 use mathlib.Core.Path.{_≡_, refl, sym, _∙_}
 use mathlib.Core.Logic.{_⊎_, inl, inr}
 use mathlib.Core.Bool.{Bool, true, false, not, _&&_, _||_}
-use mathlib.Core.List.{List, [], _∷_, map}
+use mathlib.Core.List.{List, [], _∷_, map, List·Memᴰ·head}
 use mathlib.Core.Option.{Option, none, some}
 use Prim.Native.Nat.{ℕ, _<_}
 use native.Mathlib.Omega.{arith}
@@ -14,14 +14,15 @@ use Rattle.ids.specs.Table.{present, placed}
 use Rattle.ids.proofs.Sorted.{All, all-map, all-image, placed-all, placed-sorted, placed-absent, rewrite-all}
 use Rattle.unification.specs.Roots.{rootOf}
 use Rattle.unification.proofs.Laws.{root-le, root-root}
-use Rattle.semantics.specs.Structure.{Fact, compareFact, canonicalFact, maxFacts}
+use Rattle.semantics.specs.Structure.{Fact, compareFact, canonicalFact, maxFacts, pair}
 use Rattle.semantics.specs.Types.{Core, with-pairs, with-added, with-met, marked, drain, factsAt, concreteTypesOf, refineRoots, refine}
-use Rattle.semantics.specs.Types.{refineParents, refineAll, insertFact, insertCanonical, impose, imposeAll}
+use Rattle.semantics.specs.Types.{refineParents, refineAll, insertFact, insertCanonical, impose, imposeAll, firstMet}
 use Rattle.semantics.specs.Valid.{Counts, FactValid, OnRoot, Below, Listed}
 use Rattle.semantics.proofs.Orders.{fact-ordered}
 use Rattle.semantics.proofs.Cases.{and-first}
 use Rattle.semantics.proofs.Queues.{Room, still-room, drain-pairs, refine-queue, refineParents-queue, impose-queue}
-use Rattle.validity.proofs.Drain.{Whole, Went, left, stays, went-went, requeued, drain-went, drain-merges}
+use Rattle.validity.specs.Numbers.{MayMeet}
+use Rattle.validity.proofs.Drain.{ValidCore, Advances, remaining, stays, advances-then, requeued, drain-advances, drain-merges}
 
 -- Roots of what is valid.
 
@@ -63,95 +64,95 @@ abbrev pub Placed : Core → Core → Type 0
 Placed w v = ((v .links ≡ w .links) × (v .pairs ≡ w .pairs)) ⊎ ((v .pairs ≡ []) × (w .merges < v .merges))
 
 pub record Imposed (c : Counts) (w v : Core) : Type 0 where
-  pub went : Went c w v
+  pub advances : Advances c w v
   pub place : Placed w v
 
-pub idle : (c : Counts) (w : Core) → Whole c w → Imposed c w w
-idle c w h = record { went = stays c w h; place = inl (refl, refl) }
+pub idle : (c : Counts) (w : Core) → ValidCore c w → Imposed c w w
+idle c w h = record { advances = stays c w h; place = inl (refl, refl) }
 
 pub then : (c : Counts) (w v u : Core) → Imposed c w v → Imposed c v u → Imposed c w u
-then c w v u a b = record { went = went-went c w v u (a .went) (b .went); place = go (a .place) (b .place) }
+then c w v u a b = record { advances = advances-then c w v u (a .advances) (b .advances); place = go (a .place) (b .place) }
   where
     go : Placed w v → Placed v u → Placed w u
     go (inl p) (inl q) = inl (q .0 ∙ p .0, q .1 ∙ p .1)
-    go (inl p) (inr q) = inr (q .0, omega (arith, a .went .merges, q .1))
-    go (inr p) (inl q) = inr (q .1 ∙ p .0, omega (arith, b .went .merges, p .1))
-    go (inr p) (inr q) = inr (q .0, omega (arith, a .went .merges, q .1))
+    go (inl p) (inr q) = inr (q .0, omega (arith, a .advances .merges, q .1))
+    go (inr p) (inl q) = inr (q .1 ∙ p .0, omega (arith, b .advances .merges, p .1))
+    go (inr p) (inr q) = inr (q .0, omega (arith, a .advances .merges, q .1))
 
 -- Parents are refined.
 
 module _ (c : Counts) where
   -- the pair of two elements, queued in front
   abbrev pub queued : ℕ → ℕ → Core → Core
-  queued a b w = with-pairs (record { lhs = a; rhs = b } ∷ w .pairs) w
+  queued a b w = with-pairs (pair a b ∷ w .pairs) w
 
   -- the queue that is drained at once has at most `maxPairs` pairs
-  pub queued-whole : (a b : ℕ) (w : Core) → a < c .els → b < c .els → Whole c w → Room w → Went c w (queued a b w)
-  queued-whole a b w la lb h r = requeued c (record { lhs = a; rhs = b } ∷ w .pairs) w h (record {
+  pub queued-advances : (a b : ℕ) (w : Core) → a < c .els → b < c .els → ValidCore c w → Room w → Advances c w (queued a b w)
+  queued-advances a b w la lb h r = requeued c (pair a b ∷ w .pairs) w h (record {
     each = (record { lhs = la; rhs = lb }, h .pairs .each);
     most = r;
   })
 
-  refineRoots-went : (a b : ℕ) (w : Core) → a < c .els → b < c .els → rootOf (w .links) a ≡ a → rootOf (w .links) b ≡ b
-      → Whole c w → Room w → Imposed c w (refineRoots a b w)
+  refineRoots-advances : (a b : ℕ) (w : Core) → a < c .els → b < c .els → rootOf (w .links) a ≡ a → rootOf (w .links) b ≡ b
+      → ValidCore c w → Room w → Imposed c w (refineRoots a b w)
   unfolding refineRoots
-  refineRoots-went a b w la lb ra rb h r = go (not (eqb a b) && (marked (w .marks) a || marked (w .marks) b)) refl
+  refineRoots-advances a b w la lb ra rb h r = go (not (eqb a b) && (marked (w .marks) a || marked (w .marks) b)) refl
     where
       go : (t : Bool) → (not (eqb a b) && (marked (w .marks) a || marked (w .marks) b)) ≡ t
           → Imposed c w (elim t [ true ↦ drain (queued a b w) | false ↦ w ])
       go false t = idle c w h
       go true t =
-          let q = queued-whole a b w la lb h r in
+          let q = queued-advances a b w la lb h r in
           let n = eqb-false a b (not-true (eqb a b) (and-first (not (eqb a b)) (marked (w .marks) a || marked (w .marks) b) t)) in
           record {
-            went = went-went c w (queued a b w) (drain (queued a b w)) q (drain-went c (queued a b w) (q .whole));
+            advances = advances-then c w (queued a b w) (drain (queued a b w)) q (drain-advances c (queued a b w) (q .valid));
             place = inr (
               drain-pairs (queued a b w),
-              drain-merges c (queued a b w) (q .whole) (record { lhs = a; rhs = b }) (w .pairs) refl (λ z. n (sym ra ∙ z ∙ rb)),
+              drain-merges c (queued a b w) (q .valid) (pair a b) (w .pairs) refl (λ z. n (sym ra ∙ z ∙ rb)),
             );
           }
 
-  refine-went : (a b : ℕ) (w : Core) → a < c .els → b < c .els → Whole c w → Room w → Imposed c w (refine a b w)
+  refine-advances : (a b : ℕ) (w : Core) → a < c .els → b < c .els → ValidCore c w → Room w → Imposed c w (refine a b w)
   unfolding refine
-  refine-went a b w la lb h r =
-      refineRoots-went (rootOf (w .links) a) (rootOf (w .links) b) w (omega (arith, root-le (w .links) a)) (omega (arith, root-le (w .links) b))
+  refine-advances a b w la lb h r =
+      refineRoots-advances (rootOf (w .links) a) (rootOf (w .links) b) w (omega (arith, root-le (w .links) a)) (omega (arith, root-le (w .links) b))
       (root-root (w .links) a) (root-root (w .links) b) h r
 
-  refineParents-went : (ps qs : List ℕ) (w : Core) → Below (c .els) ps → Below (c .els) qs → Whole c w → Room w → Imposed c w (refineParents ps qs w)
+  refineParents-advances : (ps qs : List ℕ) (w : Core) → Below (c .els) ps → Below (c .els) qs → ValidCore c w → Room w → Imposed c w (refineParents ps qs w)
   unfolding refineParents
-  refineParents-went [] qs w lp lq h r = idle c w h
-  refineParents-went (p ∷ ps) [] w lp lq h r = idle c w h
-  refineParents-went (p ∷ ps) (q ∷ qs) w lp lq h r =
-      let a = refine-went p q w (lp .0) (lq .0) h r in
+  refineParents-advances [] qs w lp lq h r = idle c w h
+  refineParents-advances (p ∷ ps) [] w lp lq h r = idle c w h
+  refineParents-advances (p ∷ ps) (q ∷ qs) w lp lq h r =
+      let a = refine-advances p q w (lp .0) (lq .0) h r in
       then c w (refine p q w) (refineParents ps qs (refine p q w)) a
-      (refineParents-went ps qs (refine p q w) (lp .1) (lq .1) (a .went .whole) (still-room w (refine p q w) (refine-queue p q w) r))
+      (refineParents-advances ps qs (refine p q w) (lp .1) (lq .1) (a .advances .valid) (still-room w (refine p q w) (refine-queue p q w) r))
 
-  refineAll-went : (gs : List Fact) (f : Fact) (w : Core) → All (FactValid c) gs → FactValid c f → Whole c w → Room w → Imposed c w (refineAll gs f w)
+  refineAll-advances : (gs : List Fact) (f : Fact) (w : Core) → All (FactValid c) gs → FactValid c f → ValidCore c w → Room w → Imposed c w (refineAll gs f w)
   unfolding refineAll
-  refineAll-went [] f w lg lf h r = idle c w h
-  refineAll-went (g ∷ gs) f w lg lf h r = go (eqb (g .typ) (f .typ)) (λ v. refineAll-went gs f v (lg .1) lf)
+  refineAll-advances [] f w lg lf h r = idle c w h
+  refineAll-advances (g ∷ gs) f w lg lf h r = go (eqb (g .typ) (f .typ)) (λ v. refineAll-advances gs f v (lg .1) lf)
     where
-      go : (t : Bool) → ((v : Core) → Whole c v → Room v → Imposed c v (refineAll gs f v))
+      go : (t : Bool) → ((v : Core) → ValidCore c v → Room v → Imposed c v (refineAll gs f v))
           → Imposed c w (refineAll gs f (elim t [ true ↦ refineParents (g .parents) (f .parents) w | false ↦ w ]))
       go true rest =
           let v = refineParents (g .parents) (f .parents) w in
-          let a = refineParents-went (g .parents) (f .parents) w (lg .0 .parents .below) (lf .parents .below) h r in
-          then c w v (refineAll gs f v) a (rest v (a .went .whole) (still-room w v (refineParents-queue (g .parents) (f .parents) w) r))
+          let a = refineParents-advances (g .parents) (f .parents) w (lg .0 .parents .below) (lf .parents .below) h r in
+          then c w v (refineAll gs f v) a (rest v (a .advances .valid) (still-room w v (refineParents-queue (g .parents) (f .parents) w) r))
       go false rest = rest w h r
 
   -- A fact is inserted.
 
-  with-met-only : (w : Core) → Whole c w → Went c w (with-met tooManyFacts w)
-  unfolding left
+  with-met-only : (w : Core) → ValidCore c w → Advances c w (with-met tooManyFacts w)
+  unfolding remaining
   with-met-only w h = record {
-    whole = record {
+    valid = record {
       els = h .els;
       links = h .links;
       marks = h .marks;
       facts = h .facts;
       rooted = h .rooted;
       pairs = h .pairs;
-      met = elim (h .met) [ inl q ↦ inr (met-first (w .met) q) | inr q ↦ inr (met-again (w .met) q) ];
+      met = met-first (w .met) (h .met);
     };
     merges = omega arith;
     added = omega arith;
@@ -159,19 +160,17 @@ module _ (c : Counts) where
     met = met-back (w .met);
   }
     where
-      met-first : (o : Option ℕ) → o ≡ none → _≡_ {A = Option ℕ} (elim o [ none ↦ some tooManyFacts | some m ↦ some m ]) (some tooManyFacts)
-      met-first o q = rw q refl
+      met-first : (o : Option ℕ) → MayMeet o → MayMeet (firstMet tooManyFacts o)
+      met-first none m = List·Memᴰ·head refl
+      met-first (some n) m = m
 
-      met-again : (o : Option ℕ) → o ≡ some tooManyFacts → _≡_ {A = Option ℕ} (elim o [ none ↦ some tooManyFacts | some m ↦ some m ]) (some tooManyFacts)
-      met-again o q = rw q refl
-
-      met-back : (o : Option ℕ) → _≡_ {A = Option ℕ} (elim o [ none ↦ some tooManyFacts | some m ↦ some m ]) none → o ≡ none
+      met-back : (o : Option ℕ) → firstMet tooManyFacts o ≡ none → o ≡ none
       met-back none q = refl
       met-back (some m) q = q
 
-  pub insertFact-went : (f : Fact) (w : Core) → FactValid c f → OnRoot (w .links) f → Whole c w → Imposed c w (insertFact f w)
-  unfolding insertFact left
-  insertFact-went f w v o h = go (present compareFact f (w .facts)) (ltb (length (w .facts)) maxFacts) refl refl
+  pub insertFact-advances : (f : Fact) (w : Core) → FactValid c f → OnRoot (w .links) f → ValidCore c w → Imposed c w (insertFact f w)
+  unfolding insertFact remaining
+  insertFact-advances f w v o h = go (present compareFact f (w .facts)) (ltb (length (w .facts)) maxFacts) refl refl
     where
       go : (t u : Bool) → present compareFact f (w .facts) ≡ t → ltb (length (w .facts)) maxFacts ≡ u
           → Imposed c w (elim t [ true ↦ w | false ↦ elim u [ true ↦ with-added (placed compareFact f (w .facts)) w | false ↦ with-met tooManyFacts w ] ])
@@ -180,8 +179,8 @@ module _ (c : Counts) where
           let few = ltb-true (length (w .facts)) maxFacts q in
           let more = placed-absent compareFact f (w .facts) p in
           record {
-            went = record {
-              whole = record {
+            advances = record {
+              valid = record {
                 els = h .els;
                 links = h .links;
                 marks = h .marks;
@@ -201,24 +200,24 @@ module _ (c : Counts) where
             };
             place = inl (refl, refl);
           }
-      go false false p q = record { went = with-met-only w h; place = inl (refl, refl) }
+      go false false p q = record { advances = with-met-only w h; place = inl (refl, refl) }
 
-  insertCanonical-went : (f : Fact) (w : Core) → FactValid c f → Whole c w → Imposed c w (insertCanonical f w)
+  insertCanonical-advances : (f : Fact) (w : Core) → FactValid c f → ValidCore c w → Imposed c w (insertCanonical f w)
   unfolding insertCanonical
-  insertCanonical-went f w v h =
-      insertFact-went (canonicalFact (w .links) f) w (canonical-valid c (w .links) f v) (canonical-rooted (w .links) f) h
+  insertCanonical-advances f w v h =
+      insertFact-advances (canonicalFact (w .links) f) w (canonical-valid c (w .links) f v) (canonical-rooted (w .links) f) h
 
-  pub impose-went : (f : Fact) (w : Core) → FactValid c f → Whole c w → Room w → Imposed c w (impose f w)
+  pub impose-advances : (f : Fact) (w : Core) → FactValid c f → ValidCore c w → Room w → Imposed c w (impose f w)
   unfolding impose
-  impose-went f w v h r =
+  impose-advances f w v h r =
       let gs = concreteTypesOf (w .links) (w .facts) (f .el) in
-      let a = refineAll-went gs f w (types-valid c (w .links) (w .facts) (f .el) (h .facts .each)) v h r in
-      then c w (refineAll gs f w) (insertCanonical f (refineAll gs f w)) a (insertCanonical-went f (refineAll gs f w) v (a .went .whole))
+      let a = refineAll-advances gs f w (types-valid c (w .links) (w .facts) (f .el) (h .facts .each)) v h r in
+      then c w (refineAll gs f w) (insertCanonical f (refineAll gs f w)) a (insertCanonical-advances f (refineAll gs f w) v (a .advances .valid))
 
-  pub imposeAll-went : (fs : List Fact) (w : Core) → All (FactValid c) fs → Whole c w → Room w → Imposed c w (imposeAll fs w)
+  pub imposeAll-advances : (fs : List Fact) (w : Core) → All (FactValid c) fs → ValidCore c w → Room w → Imposed c w (imposeAll fs w)
   unfolding imposeAll
-  imposeAll-went [] w v h r = idle c w h
-  imposeAll-went (f ∷ fs) w v h r =
-      let a = impose-went f w (v .0) h r in
+  imposeAll-advances [] w v h r = idle c w h
+  imposeAll-advances (f ∷ fs) w v h r =
+      let a = impose-advances f w (v .0) h r in
       then c w (impose f w) (imposeAll fs (impose f w)) a
-      (imposeAll-went fs (impose f w) (v .1) (a .went .whole) (still-room w (impose f w) (impose-queue f w) r))
+      (imposeAll-advances fs (impose f w) (v .1) (a .advances .valid) (still-room w (impose f w) (impose-queue f w) r))

@@ -10,19 +10,21 @@ use native.Mathlib.Omega.{arith}
 use lib.ListN.{length}
 use lib.Dec.{eqb, ltb}
 use borrow.Author.Tests.{ltb-true, ltb-false}
-use Rattle.ids.specs.Answers.{Outcome, refused, tooManyFacts}
+use Rattle.ids.specs.Answers.{Outcome, outcome, refused, refusing, accepting, tooManyFacts}
 use Rattle.ids.specs.Table.{present, placed}
+use Rattle.ids.proofs.Judging.{decided-refuses, decided-accepts}
 use Rattle.ids.proofs.Sorted.{placed-absent, rewrite-length, no-test}
 use Rattle.unification.specs.Roots.{rootOf}
 use Rattle.signature.specs.Model.{Sig}
-use Rattle.semantics.specs.Structure.{Fact, FuncApp, PredApp, Pair, Structure, compareFact, canonicalFact, factAt, maxFacts}
+use Rattle.semantics.specs.Structure.{Fact, FuncApp, PredApp, Pair, Structure, compareFact, canonicalFact, factAt, maxFacts, pair}
 use Rattle.semantics.specs.Types.{Core, with-pairs, with-added, with-met, marked, movedFacts, merge, joinRoots, join, drainPairs, drain}
 use Rattle.semantics.specs.Types.{concreteTypesOf, refineRoots, refine, refineParents, refineAll, insertFact, insertCanonical, impose, imposeAll}
 use Rattle.semantics.specs.Close.{Turn, drained, drainPass, rewrote, functionalityPass, typed, typingPass, demands, passes, runPasses, round}
-use Rattle.semantics.specs.Close.{Rounds, isNone, lastRound, oneMore, roundsFrom, rounds, fuel, Closed, coreOf, closeWith, closeImposed}
-use Rattle.semantics.specs.Close.{closeAfter, close}
+use Rattle.semantics.specs.Close.{Rounds, isNone, lastRound, oneMore, roundsFrom, rounds, fuel, Closed, coreOf, CloseRun, imposedAfter}
+use Rattle.semantics.specs.Close.{closeRun, reportOf, afterClose, closeBy, close, turn}
 use Rattle.semantics.specs.Valid.{Valid}
-use Rattle.validity.specs.Unlimited.{RanRounds, imposeBy, imposeAllBy, typingBy, roundBy, roundsFromBy, roundsBy, ranBy, worksUnmet, limited}
+use Rattle.semantics.proofs.Judged.{close-first}
+use Rattle.validity.specs.Unlimited.{imposeBy, imposeAllBy, imposedBy, typingBy, roundBy, roundsFromBy, roundsBy, ranBy, worksUnmet, limited}
 use Rattle.validity.specs.Unlimited.{notedIfOver, insertAlways, works, ranFree, unlimited, moment, elevenAt, closeOrEleven}
 use Rattle.validity.proofs.Closing.{close-fuel}
 
@@ -36,7 +38,7 @@ is-imposeAll (f ∷ fs) w = is-imposeAll fs (impose f w)
 pub is-round : (g : Sig) (preds : List PredApp) (apps : List FuncApp) (w : Core) → roundBy insertFact g preds apps w ≡ round g preds apps w
 unfolding roundBy round passes runPasses typingBy typingPass
 is-round g preds apps w =
-    let t = functionalityPass g preds (drainPass g preds (record { core = w; apps = apps; worked = false })) in
+    let t = functionalityPass g preds (drainPass g preds (turn w apps false)) in
     ap (λ (x : Core). typed x t) (is-imposeAll (demands g (t .apps) preds) (t .core))
 
 pub is-rounds : (n : ℕ) (g : Sig) (preds : List PredApp) (t : Turn) → roundsFromBy insertFact worksUnmet n g preds t ≡ roundsFrom n g preds t
@@ -45,6 +47,10 @@ is-rounds zero g preds t = refl
 is-rounds (suc n) g preds t = ap
     (λ (r : Rounds). elim (t .worked && isNone (t .core .met)) as (λ _. Rounds) [ true ↦ oneMore r | false ↦ lastRound t ])
     (is-rounds n g preds (roundBy insertFact g preds (t .apps) (t .core)) ∙ ap (roundsFrom n g preds) (is-round g preds (t .apps) (t .core)))
+
+is-imposed : (r : Rounds) (s : Structure) → imposedBy insertFact r s ≡ imposedAfter r s
+unfolding imposedBy imposedAfter
+is-imposed r s = λ i. record { rounds = r; core = is-imposeAll (s .impositions) (r .core) i }
 
 module _ (g : Sig) (s : Structure) where
   is-ran : (n : ℕ) → roundsBy insertFact worksUnmet n g s ≡ roundsFrom n g (s .pred-apps) (round g (s .pred-apps) (s .func-apps) (coreOf s))
@@ -57,10 +63,9 @@ module _ (g : Sig) (s : Structure) where
   is-close-at : (n : ℕ)
       → roundsFrom n g (s .pred-apps) (round g (s .pred-apps) (s .func-apps) (coreOf s)) ≡ rounds g (s .pred-apps) (s .func-apps) (coreOf s)
       → close g s ≡ limited insertFact n g s
-  unfolding close closeAfter closeImposed limited ranBy
+  unfolding close closeRun limited ranBy
   is-close-at n e =
-      sym (ap (λ (r : Rounds). closeWith (imposeAll (s .impositions) (r .core) .met) r (imposeAll (s .impositions) (r .core)) s) (is-ran n ∙ e))
-      ∙ sym (ap (λ (w : Core). closeWith (w .met) (roundsBy insertFact worksUnmet n g s) w s) (is-imposeAll (s .impositions) (roundsBy insertFact worksUnmet n g s .core)))
+      sym (ap (λ (c : CloseRun). closeBy c s) (is-imposed (roundsBy insertFact worksUnmet n g s) s ∙ ap (λ (r : Rounds). imposedAfter r s) (is-ran n ∙ e)))
 
   pub is-close : close g s ≡ limited insertFact fuel g s
   unfolding rounds
@@ -68,24 +73,24 @@ module _ (g : Sig) (s : Structure) where
 
 -- What merges and refinements keep: the number that is met, and no more facts than there were.
 
-pub record Kept (w v : Core) : Type 0 where
+pub record MetKept (w v : Core) : Type 0 where
   pub met : v .met ≡ w .met
   pub facts : length (v .facts) ≤ length (w .facts)
 
-same : (w : Core) → Kept w w
+same : (w : Core) → MetKept w w
 same w = record { met = refl; facts = omega arith }
 
-then : (w v u : Core) → Kept w v → Kept v u → Kept w u
+then : (w v u : Core) → MetKept w v → MetKept v u → MetKept w u
 then w v u a b = record { met = b .met ∙ a .met; facts = omega (arith, a .facts, b .facts) }
 
-merge-kept : (keep drop : ℕ) (w : Core) → Kept w (merge keep drop w)
+merge-kept : (keep drop : ℕ) (w : Core) → MetKept w (merge keep drop w)
 unfolding merge movedFacts
 merge-kept keep drop w = record {
   met = refl;
   facts = omega (arith, rewrite-length compareFact (λ f. elim (eqb (f .el) drop) [ true ↦ factAt keep f | false ↦ f ]) (w .facts) []);
 }
 
-join-kept : (p : Pair) (w : Core) → Kept w (join p w)
+join-kept : (p : Pair) (w : Core) → MetKept w (join p w)
 unfolding join joinRoots
 join-kept p w = go (eqb a b)
   where
@@ -95,20 +100,20 @@ join-kept p w = go (eqb a b)
     b : ℕ
     b = rootOf (w .links) (p .rhs)
 
-    go : (t : Bool) → Kept w (elim t [ true ↦ w | false ↦ merge (min a b) (max a b) w ])
+    go : (t : Bool) → MetKept w (elim t [ true ↦ w | false ↦ merge (min a b) (max a b) w ])
     go true = same w
     go false = merge-kept (min a b) (max a b) w
 
-drainPairs-kept : (ps : List Pair) (w : Core) → Kept w (drainPairs ps w)
+drainPairs-kept : (ps : List Pair) (w : Core) → MetKept w (drainPairs ps w)
 unfolding drainPairs
 drainPairs-kept [] w = same w
 drainPairs-kept (p ∷ ps) w = then w (join p w) (drainPairs ps (join p w)) (join-kept p w) (drainPairs-kept ps (join p w))
 
-drain-kept : (w : Core) → Kept w (drain w)
+drain-kept : (w : Core) → MetKept w (drain w)
 unfolding drain
 drain-kept w = let k = drainPairs-kept (w .pairs) (with-pairs [] w) in record { met = k .met; facts = k .facts }
 
-refine-kept : (p q : ℕ) (w : Core) → Kept w (refine p q w)
+refine-kept : (p q : ℕ) (w : Core) → MetKept w (refine p q w)
 unfolding refine refineRoots
 refine-kept p q w = go (not (eqb a b) && (marked (w .marks) a || marked (w .marks) b))
   where
@@ -118,23 +123,23 @@ refine-kept p q w = go (not (eqb a b) && (marked (w .marks) a || marked (w .mark
     b : ℕ
     b = rootOf (w .links) q
 
-    go : (t : Bool) → Kept w (elim t [ true ↦ drain (with-pairs (record { lhs = a; rhs = b } ∷ w .pairs) w) | false ↦ w ])
-    go true = let k = drain-kept (with-pairs (record { lhs = a; rhs = b } ∷ w .pairs) w) in record { met = k .met; facts = k .facts }
+    go : (t : Bool) → MetKept w (elim t [ true ↦ drain (with-pairs (pair a b ∷ w .pairs) w) | false ↦ w ])
+    go true = let k = drain-kept (with-pairs (pair a b ∷ w .pairs) w) in record { met = k .met; facts = k .facts }
     go false = same w
 
-refineParents-kept : (ps qs : List ℕ) (w : Core) → Kept w (refineParents ps qs w)
+refineParents-kept : (ps qs : List ℕ) (w : Core) → MetKept w (refineParents ps qs w)
 unfolding refineParents
 refineParents-kept [] qs w = same w
 refineParents-kept (p ∷ ps) [] w = same w
 refineParents-kept (p ∷ ps) (q ∷ qs) w = then w (refine p q w) (refineParents ps qs (refine p q w)) (refine-kept p q w) (refineParents-kept ps qs (refine p q w))
 
-refineAll-kept : (gs : List Fact) (f : Fact) (w : Core) → Kept w (refineAll gs f w)
+refineAll-kept : (gs : List Fact) (f : Fact) (w : Core) → MetKept w (refineAll gs f w)
 unfolding refineAll
 refineAll-kept [] f w = same w
 refineAll-kept (g ∷ gs) f w = go (eqb (g .typ) (f .typ)) (λ v. refineAll-kept gs f v)
   where
-    go : (t : Bool) → ((v : Core) → Kept v (refineAll gs f v))
-        → Kept w (refineAll gs f (elim t [ true ↦ refineParents (g .parents) (f .parents) w | false ↦ w ]))
+    go : (t : Bool) → ((v : Core) → MetKept v (refineAll gs f v))
+        → MetKept w (refineAll gs f (elim t [ true ↦ refineParents (g .parents) (f .parents) w | false ↦ w ]))
     go true rest =
         let v = refineParents (g .parents) (f .parents) w in
         then w v (refineAll gs f v) (refineParents-kept (g .parents) (f .parents) w) (rest v)
@@ -142,14 +147,14 @@ refineAll-kept (g ∷ gs) f w = go (eqb (g .typ) (f .typ)) (λ v. refineAll-kept
 
 -- the two passes before `typing`
 abbrev before-typing : Sig → List PredApp → List FuncApp → Core → Turn
-before-typing g preds apps w = functionalityPass g preds (drainPass g preds (record { core = w; apps = apps; worked = false }))
+before-typing g preds apps w = functionalityPass g preds (drainPass g preds (turn w apps false))
 
-before-kept : (g : Sig) (preds : List PredApp) (apps : List FuncApp) (w : Core) → Kept w (before-typing g preds apps w .core)
+before-kept : (g : Sig) (preds : List PredApp) (apps : List FuncApp) (w : Core) → MetKept w (before-typing g preds apps w .core)
 unfolding functionalityPass rewrote drainPass drained
 before-kept g preds apps w = let k = drain-kept w in record { met = k .met; facts = k .facts }
 
 -- What holds through merges and insertions holds through a close, whatever ends its rounds.
-module _ (insert : Fact → Core → Core) (P : Core → Type 0) (through : (w v : Core) → Kept w v → P w → P v)
+module _ (insert : Fact → Core → Core) (P : Core → Type 0) (through : (w v : Core) → MetKept w v → P w → P v)
     (inserts : (f : Fact) (w : Core) → P w → P (insert f w)) where
   impose-holds : (f : Fact) (w : Core) → P w → P (imposeBy insert f w)
   unfolding imposeBy
@@ -204,14 +209,14 @@ metTurn t = t .core .met
 abbrev metRounds : Rounds → Option ℕ
 metRounds r = r .core .met
 
-abbrev metRan : RanRounds → Option ℕ
+abbrev metRan : CloseRun → Option ℕ
 metRan r = r .core .met
 
 -- 11 is met
 abbrev Met : Core → Type 0
 Met w = w .met ≡ some tooManyFacts
 
-met-through : (w v : Core) → Kept w v → Met w → Met v
+met-through : (w v : Core) → MetKept w v → Met w → Met v
 met-through w v k h = k .met ∙ h
 
 -- what is met once 11 is: the number that was met before, if one was
@@ -341,10 +346,9 @@ rounds-agree g preds (suc n) t m =
 module _ (g : Sig) (s : Structure) where
   -- the whole run, of at most so many rounds after the first
   pub ran-agrees : (n : ℕ) → Agree metRan (ranBy insertFact worksUnmet n g s) (ranFree n g s)
-  unfolding ranBy roundsBy
+  unfolding ranBy roundsBy imposedBy
   ran-agrees n =
-      agree-then metRounds metRan (λ r. record { rounds = r; core = imposeAllBy insertFact (s .impositions) (r .core) })
-      (λ r. record { rounds = r; core = imposeAllBy insertAlways (s .impositions) (r .core) }) imposed
+      agree-then metRounds metRan (λ r. imposedBy insertFact r s) (λ r. imposedBy insertAlways r s) imposed
       (λ r. imposeAll-holds insertFact Met met-through insert-met (s .impositions) (r .core))
       (λ r. imposeAll-holds insertAlways Met met-through always-met (s .impositions) (r .core)) _ _
       (agree-then metTurn metRounds (roundsFromBy insertFact worksUnmet n g (s .pred-apps)) (roundsFromBy insertAlways works n g (s .pred-apps))
@@ -352,10 +356,8 @@ module _ (g : Sig) (s : Structure) where
       (rounds-hold insertAlways Met met-through always-met works n g (s .pred-apps)) _ _
       (round-agrees g (s .pred-apps) (s .func-apps) (coreOf s) (unfold coreOf in refl)))
     where
-      imposed : (r : Rounds) → r .core .met ≡ none → Agree metRan
-          (record { rounds = r; core = imposeAllBy insertFact (s .impositions) (r .core) })
-          (record { rounds = r; core = imposeAllBy insertAlways (s .impositions) (r .core) })
-      imposed r m = go (imposeAll-agree (s .impositions) (r .core) m)
+      imposed : (r : Rounds) → r .core .met ≡ none → Agree metRan (imposedBy insertFact r s) (imposedBy insertAlways r s)
+      imposed r m = (unfold imposedBy in go (imposeAll-agree (s .impositions) (r .core) m))
         where
           go : {w u : Core} → Agree metCore w u → Agree metRan (record { rounds = r; core = w }) (record { rounds = r; core = u })
           go (inl h) = inl (ap (λ (x : Core). record { rounds = r; core = x }) (h .0), h .1)
@@ -363,21 +365,19 @@ module _ (g : Sig) (s : Structure) where
 
   -- for any number of rounds
   pub limited-exactly : (n : ℕ) → limited insertFact n g s ≡ closeOrEleven n g s
-  unfolding limited unlimited moment elevenAt isNone closeWith
+  unfolding limited unlimited moment elevenAt isNone closeBy outcome
   limited-exactly n = go (ranBy insertFact worksUnmet n g s) (ranFree n g s) (ran-agrees n)
     where
-      free : RanRounds → Outcome Closed Structure
-      free r = closeWith none (r .rounds) (r .core) s
+      free : CloseRun → Outcome Closed Structure
+      free c = accepting (reportOf c) (afterClose c s)
 
-      go : (a b : RanRounds) → Agree metRan a b → closeWith (a .core .met) (a .rounds) (a .core) s ≡ elevenAt (not (isNone (b .core .met))) (free b) s
+      go : (a b : CloseRun) → Agree metRan a b → closeBy a s ≡ elevenAt (not (isNone (b .core .met))) (free b) s
       go a b (inl h) =
           let m : b .core .met ≡ none = sym (ap metRan (h .0)) ∙ h .1 in
-          ap (λ (o : Option ℕ). closeWith o (a .rounds) (a .core) s) (h .1)
-          ∙ ap free (h .0)
+          decided-accepts (refusing s) (free a) (close-first a ∙ h .1) ∙ ap free (h .0)
           ∙ sym (ap (λ (o : Option ℕ). elevenAt (not (isNone o)) (free b) s) m)
       go a b (inr h) =
-          ap (λ (o : Option ℕ). closeWith o (a .rounds) (a .core) s) (h .0)
-          ∙ sym (ap (λ (o : Option ℕ). elevenAt (not (isNone o)) (free b) s) (h .1))
+          decided-refuses (refusing s) (free a) (close-first a ∙ h .0) ∙ sym (ap (λ (o : Option ℕ). elevenAt (not (isNone o)) (free b) s) (h .1))
 
   -- The theorem: the close is the one without a limit, refused with 11 if that one would at some moment hold more than `maxFacts` facts.
   pub eleven-exactly : close g s ≡ closeOrEleven fuel g s
@@ -392,7 +392,7 @@ module _ (g : Sig) (s : Structure) where
   by-moment : {b : Bool} → moment fuel g s ≡ b → close g s ≡ elevenAt b (unlimited fuel g s) s
   by-moment e = eleven-exactly ∙ ap (λ (b : Bool). elevenAt b (unlimited fuel g s) s) e
 
-  pub eleven-if : moment fuel g s ≡ true → close g s ≡ record { answer = refused tooManyFacts; after = s }
+  pub eleven-if : moment fuel g s ≡ true → close g s ≡ refusing s tooManyFacts
   unfolding elevenAt
   eleven-if e = by-moment e
 
@@ -404,7 +404,7 @@ module _ (g : Sig) (s : Structure) where
   eleven-only e = go (moment fuel g s) refl
     where
       accepts : {X : Type 0} → unlimited fuel g s .answer ≡ refused tooManyFacts → X
-      accepts h = let z : _≡_ {A = ℕ} 0 1 = (unfold unlimited closeWith in cc h) in absurd (omega arith)
+      accepts h = let z : _≡_ {A = ℕ} 0 1 = (unfold unlimited in cc h) in absurd (omega arith)
 
       go : (b : Bool) → moment fuel g s ≡ b → b ≡ true
       go true m = refl
@@ -416,7 +416,7 @@ module _ (g : Sig) (s : Structure) where
 abbrev WithinLimit : Core → Type 0
 WithinLimit w = length (w .facts) ≤ maxFacts
 
-held-through : (w v : Core) → Kept w v → WithinLimit w → WithinLimit v
+held-through : (w v : Core) → MetKept w v → WithinLimit w → WithinLimit v
 held-through w v k h = omega (arith, k .facts)
 
 insert-held : (f : Fact) (w : Core) → WithinLimit w → WithinLimit (insertFact f w)

@@ -10,11 +10,11 @@ use lib.Dec.{ltb}
 use Rattle.ids.specs.Answers.{Answered, Outcome, accepted, refused, tooManyFacts}
 use Rattle.ids.specs.Table.{present, placed}
 use Rattle.signature.specs.Model.{Sig, empty as noTypes}
-use Rattle.semantics.specs.Structure.{Fact, Structure, compareFact, maxFacts, empty, with-facts, with-impositions}
+use Rattle.semantics.specs.Structure.{Fact, Structure, compareFact, maxFacts, empty, with-facts, with-impositions, fact}
 use Rattle.semantics.specs.Types.{Core, with-added, with-met}
-use Rattle.semantics.specs.Close.{fuel, Closed}
+use Rattle.semantics.specs.Close.{fuel, Closed, report}
 use Rattle.semantics.proofs.Computes.{everything}
-use Rattle.validity.specs.Unlimited.{imposeBy, imposeAllBy, typingBy, roundBy, roundsFromBy, roundsBy, ranBy, limited}
+use Rattle.validity.specs.Unlimited.{imposeBy, imposeAllBy, imposedBy, typingBy, roundBy, roundsFromBy, roundsBy, ranBy, limited}
 use Rattle.validity.specs.Unlimited.{notedIfOver, insertAlways, unlimited, moment, elevenAt, closeOrEleven}
 
 -- `insertFact` with the limit n
@@ -32,11 +32,11 @@ copies (suc n) f = f ∷ copies n f
 -- n facts at one element, and one more that is imposed on another
 unfoldable pub crowded : ℕ → Structure
 crowded n =
-    with-facts (copies n (record { el = 1; typ = 0; parents = [] })) (with-impositions (record { el = 0; typ = 0; parents = [] } ∷ []) empty)
+    with-facts (copies n (fact 1 0 [])) (with-impositions (fact 0 0 [] ∷ []) empty)
 
 -- a close that adds a fact
 abbrev grown : Answered Closed
-grown = accepted (record { changed = true; merges = 0; rounds = 1 })
+grown = accepted (report true 0 1)
 
 differ : {x y : Outcome Closed Structure} → x .answer ≡ refused tooManyFacts → y .answer ≡ grown → x ≡ y → ⊥
 differ p q e =
@@ -46,12 +46,12 @@ differ p q e =
 
 -- "fact 1,024": it is inserted
 pub one-less : limited (insertWithin (maxFacts - 1)) fuel noTypes (crowded (maxFacts - 1)) ≡ closeOrEleven fuel noTypes (crowded (maxFacts - 1)) → ⊥
-unfolding everything imposeBy imposeAllBy typingBy roundBy roundsFromBy roundsBy ranBy limited notedIfOver insertAlways unlimited moment elevenAt insertWithin
+unfolding everything imposeBy imposeAllBy imposedBy typingBy roundBy roundsFromBy roundsBy ranBy limited notedIfOver insertAlways unlimited moment elevenAt insertWithin
     copies crowded
 one-less = differ refl refl
 
 -- "and 1,025": it is not
 pub one-more : limited (insertWithin (maxFacts + 1)) fuel noTypes (crowded maxFacts) ≡ closeOrEleven fuel noTypes (crowded maxFacts) → ⊥
-unfolding everything imposeBy imposeAllBy typingBy roundBy roundsFromBy roundsBy ranBy limited notedIfOver insertAlways unlimited moment elevenAt insertWithin
+unfolding everything imposeBy imposeAllBy imposedBy typingBy roundBy roundsFromBy roundsBy ranBy limited notedIfOver insertAlways unlimited moment elevenAt insertWithin
     copies crowded
 one-more e = differ refl refl (sym e)

@@ -6,28 +6,39 @@ use lib.ListN.{length}
 use mathlib.Core.Bool.{Bool}
 use Rattle.ids.proofs.Sorted.{all-map}
 use Rattle.unification.specs.Roots.{rootOf, Formed}
-use Rattle.semantics.specs.Structure.{Fact, FuncApp, PredApp, Pair, Var, Ambient, Structure, maxPairs, maxImpositions, maxFuncApps}
+use Rattle.semantics.specs.Structure.{Fact, FuncApp, PredApp, Pair, Var, Ambient, Structure, structure, maxPairs, maxImpositions, maxFuncApps}
 use Rattle.semantics.specs.Structure.{maxPredApps, maxVars, compareFuncApp, comparePredApp, compareVar, compareAmbient, with-links}
-use Rattle.semantics.specs.Structure.{with-func-apps, with-pred-apps, with-vars, with-ambients, with-pairs, with-impositions, accept}
+use Rattle.semantics.specs.Structure.{with-func-apps, with-pred-apps, with-vars, with-ambients, with-pairs, with-impositions}
+use Rattle.semantics.specs.Calls.{Answer, leaves}
 use Rattle.semantics.specs.Valid.{Counts, PairValid, FactValid, FuncAppValid, PredAppValid, VarValid, AmbientValid, OnRoot, Queue, Table}
 use Rattle.semantics.specs.Valid.{ValidStructure}
 
 module _ (c : Counts) (s : Structure) (v : ValidStructure c s) where
-  pub accept-valid : (b : Bool) → ValidStructure c (accept b s)
-  accept-valid b = record {
+  -- other tables and flags, over the same elements and facts
+  tables : {xs : List FuncApp} {ps : List PredApp} {vs : List Var} {bs : List Ambient} {qs : List Pair} {is : List Fact} (started settled : Bool)
+      → Table (FuncAppValid c) compareFuncApp maxFuncApps xs → Table (PredAppValid c) comparePredApp maxPredApps ps
+      → Table (VarValid c) compareVar maxVars vs → Table (AmbientValid c) compareAmbient (c .types) bs → Queue (PairValid c) maxPairs qs
+      → Queue (FactValid c) maxImpositions is
+      → ValidStructure c (structure (s .links) (s .marks) (s .facts) xs ps vs bs qs is started settled)
+  tables started settled funcs preds variables ambients pairs impositions = record {
     els = v .els;
     els-most = v .els-most;
     links = v .links;
     marks = v .marks;
     facts = v .facts;
     facts-rooted = v .facts-rooted;
-    func-apps = v .func-apps;
-    pred-apps = v .pred-apps;
-    vars = v .vars;
-    ambients = v .ambients;
-    pairs = v .pairs;
-    impositions = v .impositions;
+    func-apps = funcs;
+    pred-apps = preds;
+    vars = variables;
+    ambients = ambients;
+    pairs = pairs;
+    impositions = impositions;
   }
+
+  -- what an accepted call leaves behind
+  pub flags-valid : (starts : Bool) (a : Answer) → ValidStructure c (leaves starts a s)
+  unfolding leaves
+  flags-valid starts a = tables _ _ (v .func-apps) (v .pred-apps) (v .vars) (v .ambients) (v .pairs) (v .impositions)
 
   -- other links, with the same roots
   pub links-valid : (ks : List ℕ) → Formed ks → length ks ≡ length (s .links) → ((e : ℕ) → rootOf ks e ≡ rootOf (s .links) e)
@@ -48,97 +59,19 @@ module _ (c : Counts) (s : Structure) (v : ValidStructure c s) where
   }
 
   pub pairs-valid : (ps : List Pair) → Queue (PairValid c) maxPairs ps → ValidStructure c (with-pairs ps s)
-  pairs-valid ps q = record {
-    els = v .els;
-    els-most = v .els-most;
-    links = v .links;
-    marks = v .marks;
-    facts = v .facts;
-    facts-rooted = v .facts-rooted;
-    func-apps = v .func-apps;
-    pred-apps = v .pred-apps;
-    vars = v .vars;
-    ambients = v .ambients;
-    pairs = q;
-    impositions = v .impositions;
-  }
+  pairs-valid ps q = tables _ _ (v .func-apps) (v .pred-apps) (v .vars) (v .ambients) q (v .impositions)
 
   pub impositions-valid : (fs : List Fact) → Queue (FactValid c) maxImpositions fs → ValidStructure c (with-impositions fs s)
-  impositions-valid fs q = record {
-    els = v .els;
-    els-most = v .els-most;
-    links = v .links;
-    marks = v .marks;
-    facts = v .facts;
-    facts-rooted = v .facts-rooted;
-    func-apps = v .func-apps;
-    pred-apps = v .pred-apps;
-    vars = v .vars;
-    ambients = v .ambients;
-    pairs = v .pairs;
-    impositions = q;
-  }
+  impositions-valid fs q = tables _ _ (v .func-apps) (v .pred-apps) (v .vars) (v .ambients) (v .pairs) q
 
   pub func-apps-valid : (xs : List FuncApp) → Table (FuncAppValid c) compareFuncApp maxFuncApps xs → ValidStructure c (with-func-apps xs s)
-  func-apps-valid xs t = record {
-    els = v .els;
-    els-most = v .els-most;
-    links = v .links;
-    marks = v .marks;
-    facts = v .facts;
-    facts-rooted = v .facts-rooted;
-    func-apps = t;
-    pred-apps = v .pred-apps;
-    vars = v .vars;
-    ambients = v .ambients;
-    pairs = v .pairs;
-    impositions = v .impositions;
-  }
+  func-apps-valid xs t = tables _ _ t (v .pred-apps) (v .vars) (v .ambients) (v .pairs) (v .impositions)
 
   pub pred-apps-valid : (xs : List PredApp) → Table (PredAppValid c) comparePredApp maxPredApps xs → ValidStructure c (with-pred-apps xs s)
-  pred-apps-valid xs t = record {
-    els = v .els;
-    els-most = v .els-most;
-    links = v .links;
-    marks = v .marks;
-    facts = v .facts;
-    facts-rooted = v .facts-rooted;
-    func-apps = v .func-apps;
-    pred-apps = t;
-    vars = v .vars;
-    ambients = v .ambients;
-    pairs = v .pairs;
-    impositions = v .impositions;
-  }
+  pred-apps-valid xs t = tables _ _ (v .func-apps) t (v .vars) (v .ambients) (v .pairs) (v .impositions)
 
   pub vars-valid : (xs : List Var) → Table (VarValid c) compareVar maxVars xs → ValidStructure c (with-vars xs s)
-  vars-valid xs t = record {
-    els = v .els;
-    els-most = v .els-most;
-    links = v .links;
-    marks = v .marks;
-    facts = v .facts;
-    facts-rooted = v .facts-rooted;
-    func-apps = v .func-apps;
-    pred-apps = v .pred-apps;
-    vars = t;
-    ambients = v .ambients;
-    pairs = v .pairs;
-    impositions = v .impositions;
-  }
+  vars-valid xs t = tables _ _ (v .func-apps) (v .pred-apps) t (v .ambients) (v .pairs) (v .impositions)
 
   pub ambients-valid : (xs : List Ambient) → Table (AmbientValid c) compareAmbient (c .types) xs → ValidStructure c (with-ambients xs s)
-  ambients-valid xs t = record {
-    els = v .els;
-    els-most = v .els-most;
-    links = v .links;
-    marks = v .marks;
-    facts = v .facts;
-    facts-rooted = v .facts-rooted;
-    func-apps = v .func-apps;
-    pred-apps = v .pred-apps;
-    vars = v .vars;
-    ambients = t;
-    pairs = v .pairs;
-    impositions = v .impositions;
-  }
+  ambients-valid xs t = tables _ _ (v .func-apps) (v .pred-apps) (v .vars) t (v .pairs) (v .impositions)

@@ -10,10 +10,10 @@ use Rattle.ids.proofs.Sorted.{all-at, no-test}
 use Rattle.signature.specs.Model.{Sig, Kind, plain, model, enum, mor, ModelM, MorAppM, typeAt}
 use Rattle.signature.specs.Calls.{kindIsModel, isModel, inMorApps}
 use Rattle.semantics.specs.Structure.{FuncApp, Ambient}
-use Rattle.semantics.specs.Calls.{isIdOrComp, isReserved, Call, start}
+use Rattle.semantics.specs.Calls.{isIdOrComp, isReserved, Call, start, afterCalls}
 use Rattle.semantics.specs.Valid.{Unreserved, OfModel}
 use Rattle.semantics.proofs.Cases.{or-first, or-second}
-use Rattle.validity.proofs.Calls.{afterAll, calls-valid}
+use Rattle.validity.proofs.Calls.{calls-valid}
 
 -- the function f is no id, no comp and no morphism application function of the signature
 pub record NotReserved (g : Sig) (f : ℕ) : Type 0 where
@@ -50,10 +50,10 @@ not-reserved g f e =
     }
 
 -- after any calls no stored application is of an id, a comp or a morphism application function of the signature
-pub applications-not-reserved : (ks : List Call) (x : FuncApp) → List·Memᴰ x (afterAll ks start .structure .func-apps)
-    → NotReserved (afterAll ks start .sig) (x .func)
+pub applications-not-reserved : (ks : List Call) (x : FuncApp) → List·Memᴰ x (afterCalls ks start .structure .func-apps)
+    → NotReserved (afterCalls ks start .sig) (x .func)
 applications-not-reserved ks x k =
-    let m = afterAll ks start in
+    let m = afterCalls ks start in
     not-reserved (m .sig) (x .func) (all-at (Unreserved (m .sig)) (m .structure .func-apps) (calls-valid ks .unreserved) x k)
 
 model-if : (k : Kind) → kindIsModel k ≡ true → k ≡ model
@@ -63,9 +63,9 @@ model-if enum e = no-test e refl
 model-if (mor t) e = no-test e refl
 
 -- after any calls the type of each ambient is a Model
-pub ambients-of-models : (ks : List Call) (a : Ambient) → List·Memᴰ a (afterAll ks start .structure .ambients)
-    → typeAt (afterAll ks start .sig) (a .typ) .kind ≡ model
+pub ambients-of-models : (ks : List Call) (a : Ambient) → List·Memᴰ a (afterCalls ks start .structure .ambients)
+    → typeAt (afterCalls ks start .sig) (a .typ) .kind ≡ model
 unfolding isModel
 ambients-of-models ks a k =
-    let m = afterAll ks start in
+    let m = afterCalls ks start in
     model-if (typeAt (m .sig) (a .typ) .kind) (all-at (OfModel (m .sig)) (m .structure .ambients) (calls-valid ks .of-models) a k)

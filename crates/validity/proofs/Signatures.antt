@@ -8,17 +8,18 @@ use native.Mathlib.Nat.{le-refl}
 use lib.ListN.{length}
 use borrow.Author.Tests.{ltb-true, leb-false, not-false}
 use Rattle.ids.specs.Ids.{tooLong, allBelow}
+use Rattle.ids.proofs.Judging.{NoneApplies}
 use Rattle.unification.proofs.Theorems.{none-formed}
 use Rattle.signature.specs.Model.{Sig, Kind, plain, model, enum, mor, TypeM, PredM, FuncM, ModelM, MorAppM, maxTypes, maxPreds, maxFuncs}
 use Rattle.signature.specs.Model as signature
 use Rattle.signature.specs.Model.{maxModels, maxMorApps, with-types, with-preds, with-funcs, with-models, with-mor-apps}
-use Rattle.signature.specs.Calls.{isType, areTypes, isFunc, modelDeclared, functions, modelIdsDeclared, pushType, pushPred, pushFunc}
-use Rattle.signature.specs.Calls.{pushModel, pushMorApp}
+use Rattle.signature.specs.Calls.{isType, areTypes, isFunc, modelDeclared, functions, modelIdsDeclared, typeCauses, withType, predCauses}
+use Rattle.signature.specs.Calls.{withPred, funcCauses, withFunc, modelCauses, withModel, morAppCauses, withMorApp}
 use Rattle.semantics.specs.Structure.{Structure, empty}
 use Rattle.semantics.specs.Valid.{KindDeclared, ValidSig, Valid}
 use Rattle.semantics.proofs.Cases.{and-first, and-second, or-first, or-second}
 use Rattle.semantics.proofs.Links.{length-push}
-use Rattle.semantics.proofs.Outcomes.{outcome-keeps, below-if, listed-if}
+use Rattle.semantics.proofs.Judged.{below-if, listed-if}
 use Rattle.validity.proofs.Growing.{queue-more, queue-push, kind-more, listed-more, type-more, pred-more, func-more, model-more}
 use Rattle.validity.proofs.Growing.{mor-app-more}
 
@@ -61,72 +62,72 @@ module _ (g : Sig) (s : Structure) (v : Valid g s) where
   declared : (h : Sig) → s .started ≡ false → ValidSig h → Valid h s
   declared h q sig = subst (Valid h) (sym (v .unstarted q)) (empty-valid h sig)
 
-  pub type-valid : (t : TypeM) → Valid (pushType (s .started) g t .left) s
-  unfolding pushType with-types
-  type-valid t = outcome-keeps (λ h. Valid h s) _ g _ _ v (λ no.
-      let d = not-false (areTypes g (t .parents) && modelDeclared g (t .kind)) (no .1 .1 .0) in
-      let few = leb-false maxTypes (length (g .types)) (no .1 .1 .1 .1 .0) in
+  pub type-valid : (t : TypeM) → NoneApplies (typeCauses (s .started) g t) → Valid (withType g t) s
+  unfolding typeCauses withType with-types
+  type-valid t clear =
+      let d = not-false (areTypes g (t .parents) && modelDeclared g (t .kind)) (clear .1 .1 .0) in
+      let few = leb-false maxTypes (length (g .types)) (clear .1 .1 .1 .1 .0) in
       let more = longer (g .types) t in
-      let parents = listed-if (length (g .types)) (t .parents) (no .0) (and-first (areTypes g (t .parents)) (modelDeclared g (t .kind)) d) in
+      let parents = listed-if (length (g .types)) (t .parents) (clear .0) (and-first (areTypes g (t .parents)) (modelDeclared g (t .kind)) d) in
       let kind = kind-declared g (t .kind) (and-second (areTypes g (t .parents)) (modelDeclared g (t .kind)) d) in
-      declared _ (no .1 .0) (record {
+      declared _ (clear .1 .0) (record {
         types = queue-push (type-more more) maxTypes (g .types) t (v .sig .types) few
             (record { kind = kind-more more (t .kind) kind; parents = listed-more more (t .parents) parents });
         preds = queue-more (pred-more more) maxPreds (g .preds) (v .sig .preds);
         funcs = queue-more (func-more more) maxFuncs (g .funcs) (v .sig .funcs);
         models = queue-more (model-more more (le-refl (length (g .funcs)))) maxModels (g .models) (v .sig .models);
         mor-apps = queue-more (mor-app-more more (le-refl (length (g .funcs)))) maxMorApps (g .mor-apps) (v .sig .mor-apps);
-      }))
+      })
 
-  pub pred-valid : (p : PredM) → Valid (pushPred (s .started) g p .lhs) s
-  unfolding pushPred with-preds
-  pred-valid p = outcome-keeps (λ h. Valid h s) _ g _ _ v (λ no.
-      let d = not-false (areTypes g (p .parents) && areTypes g (p .arity)) (no .1 .1 .0) in
-      let few = leb-false maxPreds (length (g .preds)) (no .1 .1 .1 .0) in
-      declared _ (no .1 .0) (record {
+  pub pred-valid : (p : PredM) → NoneApplies (predCauses (s .started) g p) → Valid (withPred g p) s
+  unfolding predCauses withPred with-preds
+  pred-valid p clear =
+      let d = not-false (areTypes g (p .parents) && areTypes g (p .arity)) (clear .1 .1 .0) in
+      let few = leb-false maxPreds (length (g .preds)) (clear .1 .1 .1 .0) in
+      declared _ (clear .1 .0) (record {
         types = v .sig .types;
         preds = queue-push (λ x k. k) maxPreds (g .preds) p (v .sig .preds) few (record {
-          parents = listed-if (length (g .types)) (p .parents) (or-first (tooLong (p .parents)) (tooLong (p .arity)) (no .0))
+          parents = listed-if (length (g .types)) (p .parents) (or-first (tooLong (p .parents)) (tooLong (p .arity)) (clear .0))
               (and-first (areTypes g (p .parents)) (areTypes g (p .arity)) d);
-          arity = listed-if (length (g .types)) (p .arity) (or-second (tooLong (p .parents)) (tooLong (p .arity)) (no .0))
+          arity = listed-if (length (g .types)) (p .arity) (or-second (tooLong (p .parents)) (tooLong (p .arity)) (clear .0))
               (and-second (areTypes g (p .parents)) (areTypes g (p .arity)) d);
         });
         funcs = v .sig .funcs;
         models = v .sig .models;
         mor-apps = v .sig .mor-apps;
-      }))
+      })
 
-  pub func-valid : (f : FuncM) → Valid (pushFunc (s .started) g f .left) s
-  unfolding pushFunc with-funcs
-  func-valid f = outcome-keeps (λ h. Valid h s) _ g _ _ v (λ no.
+  pub func-valid : (f : FuncM) → NoneApplies (funcCauses (s .started) g f) → Valid (withFunc g f) s
+  unfolding funcCauses withFunc with-funcs
+  func-valid f clear =
       let rest = areTypes g (f .domain) && isType g (f .codomain) in
-      let d = not-false (areTypes g (f .parents) && rest) (no .1 .1 .0) in
+      let d = not-false (areTypes g (f .parents) && rest) (clear .1 .1 .0) in
       let e = and-second (areTypes g (f .parents)) rest d in
-      let few = leb-false maxFuncs (length (g .funcs)) (no .1 .1 .1 .0) in
+      let few = leb-false maxFuncs (length (g .funcs)) (clear .1 .1 .1 .0) in
       let more = longer (g .funcs) f in
-      declared _ (no .1 .0) (record {
+      declared _ (clear .1 .0) (record {
         types = v .sig .types;
         preds = v .sig .preds;
         funcs = queue-push (λ x k. k) maxFuncs (g .funcs) f (v .sig .funcs) few (record {
-          parents = listed-if (length (g .types)) (f .parents) (or-first (tooLong (f .parents)) (tooLong (f .domain)) (no .0))
+          parents = listed-if (length (g .types)) (f .parents) (or-first (tooLong (f .parents)) (tooLong (f .domain)) (clear .0))
               (and-first (areTypes g (f .parents)) rest d);
-          domain = listed-if (length (g .types)) (f .domain) (or-second (tooLong (f .parents)) (tooLong (f .domain)) (no .0))
+          domain = listed-if (length (g .types)) (f .domain) (or-second (tooLong (f .parents)) (tooLong (f .domain)) (clear .0))
               (and-first (areTypes g (f .domain)) (isType g (f .codomain)) e);
           codomain = ltb-true (f .codomain) (length (g .types)) (and-second (areTypes g (f .domain)) (isType g (f .codomain)) e);
         });
         models = queue-more (model-more (le-refl (length (g .types))) more) maxModels (g .models) (v .sig .models);
         mor-apps = queue-more (mor-app-more (le-refl (length (g .types))) more) maxMorApps (g .mor-apps) (v .sig .mor-apps);
-      }))
+      })
 
-  pub model-valid : (m : ModelM) → Valid (pushModel (s .started) g m .left) s
-  unfolding pushModel with-models modelIdsDeclared
-  model-valid m = outcome-keeps (λ h. Valid h s) _ g _ _ v (λ no.
+  pub model-valid : (m : ModelM) → NoneApplies (modelCauses (s .started) g m) → Valid (withModel g m) s
+  unfolding modelCauses withModel with-models modelIdsDeclared
+  model-valid m clear =
       let funcs = allBelow (length (g .funcs)) (functions m) in
       let rest = isType g (m .mor) && funcs in
-      let d = not-false (isType g (m .typ) && rest) (no .1 .0) in
+      let d = not-false (isType g (m .typ) && rest) (clear .1 .0) in
       let e = and-second (isType g (m .typ)) rest d in
-      let few = leb-false maxModels (length (g .models)) (no .1 .1 .1 .1 .0) in
-      declared _ (no .0) (record {
+      let few = leb-false maxModels (length (g .models)) (clear .1 .1 .1 .1 .0) in
+      declared _ (clear .0) (record {
         types = v .sig .types;
         preds = v .sig .preds;
         funcs = v .sig .funcs;
@@ -136,16 +137,16 @@ module _ (g : Sig) (s : Structure) (v : Valid g s) where
           funcs = below-if (length (g .funcs)) (functions m) (and-second (isType g (m .mor)) funcs e);
         });
         mor-apps = v .sig .mor-apps;
-      }))
+      })
 
-  pub mor-app-valid : (m : MorAppM) → Valid (pushMorApp (s .started) g m .left) s
-  unfolding pushMorApp with-mor-apps
-  mor-app-valid m = outcome-keeps (λ h. Valid h s) _ g _ _ v (λ no.
+  pub mor-app-valid : (m : MorAppM) → NoneApplies (morAppCauses (s .started) g m) → Valid (withMorApp g m) s
+  unfolding morAppCauses withMorApp with-mor-apps
+  mor-app-valid m clear =
       let rest = isType g (m .morphism-type) && isType g (m .member-type) in
-      let d = not-false (isFunc g (m .func) && rest) (no .1 .0) in
+      let d = not-false (isFunc g (m .func) && rest) (clear .1 .0) in
       let e = and-second (isFunc g (m .func)) rest d in
-      let few = leb-false maxMorApps (length (g .mor-apps)) (no .1 .1 .1 .1 .0) in
-      declared _ (no .0) (record {
+      let few = leb-false maxMorApps (length (g .mor-apps)) (clear .1 .1 .1 .1 .0) in
+      declared _ (clear .0) (record {
         types = v .sig .types;
         preds = v .sig .preds;
         funcs = v .sig .funcs;
@@ -155,7 +156,7 @@ module _ (g : Sig) (s : Structure) (v : Valid g s) where
           morphism-type = ltb-true (m .morphism-type) (length (g .types)) (and-first (isType g (m .morphism-type)) (isType g (m .member-type)) e);
           member-type = ltb-true (m .member-type) (length (g .types)) (and-second (isType g (m .morphism-type)) (isType g (m .member-type)) e);
         });
-      }))
+      })
 
 pub empty-sig : ValidSig signature.empty
 unfolding signature.empty

@@ -5,21 +5,15 @@
 use Prim.Native.Nat.{ℕ, zero, suc}
 use mathlib.Core.Bool.{Bool, true, false, not, _&&_}
 use mathlib.Core.List.{List, [], _∷_}
-use mathlib.Core.Option.{none}
 use lib.ListN.{length}
 use lib.Dec.{ltb}
-use Rattle.ids.specs.Answers.{Outcome, refused, tooManyFacts}
+use Rattle.ids.specs.Answers.{Outcome, refusing, accepting, tooManyFacts}
 use Rattle.ids.specs.Table.{present, placed}
 use Rattle.signature.specs.Model.{Sig}
 use Rattle.semantics.specs.Structure.{Fact, FuncApp, PredApp, Structure, compareFact, canonicalFact, maxFacts}
 use Rattle.semantics.specs.Types.{Core, with-added, with-met, concreteTypesOf, refineAll}
 use Rattle.semantics.specs.Close.{Turn, Pass, drainPass, functionalityPass, typed, demands, runPasses, Rounds, isNone, lastRound, oneMore}
-use Rattle.semantics.specs.Close.{Closed, coreOf, closeWith}
-
--- what a close leaves before it answers: its rounds, and the core after the impositions
-pub record RanRounds : Type 0 where
-  pub rounds : Rounds
-  pub core : Core
+use Rattle.semantics.specs.Close.{Closed, coreOf, CloseRun, closeBy, reportOf, afterClose, turn}
 
 module _ (insert : Fact → Core → Core) where
   -- `impose`
@@ -33,13 +27,17 @@ module _ (insert : Fact → Core → Core) where
   imposeAllBy [] w = w
   imposeAllBy (f ∷ fs) w = imposeAllBy fs (imposeBy f w)
 
+  -- `imposedAfter`
+  unfoldable pub imposedBy : Rounds → Structure → CloseRun
+  imposedBy r s = record { rounds = r; core = imposeAllBy (s .impositions) (r .core) }
+
   -- `typingPass`
   unfoldable pub typingBy : Pass
   typingBy g preds t = typed (imposeAllBy (demands g (t .apps) preds) (t .core)) t
 
   -- `round`
   unfoldable pub roundBy : Sig → List PredApp → List FuncApp → Core → Turn
-  roundBy g preds apps w = runPasses (drainPass ∷ functionalityPass ∷ typingBy ∷ []) g preds (record { core = w; apps = apps; worked = false })
+  roundBy g preds apps w = runPasses (drainPass ∷ functionalityPass ∷ typingBy ∷ []) g preds (turn w apps false)
 
   module _ (more : Turn → Bool) where
     -- `roundsFrom`
@@ -51,8 +49,9 @@ module _ (insert : Fact → Core → Core) where
     unfoldable pub roundsBy : ℕ → Sig → Structure → Rounds
     roundsBy n g s = roundsFromBy n g (s .pred-apps) (roundBy g (s .pred-apps) (s .func-apps) (coreOf s))
 
-    unfoldable pub ranBy : ℕ → Sig → Structure → RanRounds
-    ranBy n g s = record { rounds = roundsBy n g s; core = imposeAllBy (s .impositions) (roundsBy n g s .core) }
+    -- `closeRun`
+    unfoldable pub ranBy : ℕ → Sig → Structure → CloseRun
+    ranBy n g s = imposedBy (roundsBy n g s) s
 
 -- The close with a limit, by its insertion: a number that is met ends the rounds, and refuses.
 
@@ -60,13 +59,11 @@ abbrev pub worksUnmet : Turn → Bool
 worksUnmet t = t .worked && isNone (t .core .met)
 
 unfoldable pub limited : (Fact → Core → Core) → ℕ → Sig → Structure → Outcome Closed Structure
-limited insert n g s =
-    let r = ranBy insert worksUnmet n g s in
-    closeWith (r .core .met) (r .rounds) (r .core) s
+limited insert n g s = closeBy (ranBy insert worksUnmet n g s) s
 
 -- The close without a limit: every fact that is not stored is inserted, rounds repeat until one in which none reports work, at most n after the
 -- first (of a valid structure any number from `fuel` on gives the same, `eleven-valid`), and nothing is refused. That more than `maxFacts` facts are held is only noted, as the number met. The note is taken where a fact is inserted, since nothing
--- else makes more of them (`Kept` of proofs/Limit.antt).
+-- else makes more of them (`MetKept` of proofs/Limit.antt).
 
 unfoldable pub notedIfOver : Core → Core
 notedIfOver w = elim (ltb maxFacts (length (w .facts))) [ true ↦ with-met tooManyFacts w | false ↦ w ]
@@ -77,11 +74,11 @@ insertAlways f w = elim (present compareFact f (w .facts)) [ true ↦ w | false 
 abbrev pub works : Turn → Bool
 works t = t .worked
 
-abbrev pub ranFree : ℕ → Sig → Structure → RanRounds
+abbrev pub ranFree : ℕ → Sig → Structure → CloseRun
 ranFree = ranBy insertAlways works
 
 unfoldable pub unlimited : ℕ → Sig → Structure → Outcome Closed Structure
-unlimited n g s = closeWith none (ranFree n g s .rounds) (ranFree n g s .core) s
+unlimited n g s = accepting (reportOf (ranFree n g s)) (afterClose (ranFree n g s) s)
 
 -- "would at some moment hold 1,025 facts": an insertion left more than `maxFacts`, the first such one exactly one more (`first-over`; of a structure that begins
 -- with more than `maxFacts`, as no call leaves one, it is the first insertion)
@@ -90,7 +87,7 @@ moment n g s = not (isNone (ranFree n g s .core .met))
 
 -- "the close would at some moment hold 1,025 facts | 11 | number | structure before the close"
 unfoldable pub elevenAt : Bool → Outcome Closed Structure → Structure → Outcome Closed Structure
-elevenAt true r s = record { answer = refused tooManyFacts; after = s }
+elevenAt true r s = refusing s tooManyFacts
 elevenAt false r s = r
 
 abbrev pub closeOrEleven : ℕ → Sig → Structure → Outcome Closed Structure
