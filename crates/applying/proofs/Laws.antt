@@ -8,12 +8,11 @@ use native.Mathlib.Omega.{arith}
 use lib.ListN.{length}
 use lib.Dec.{eqb, leb}
 use borrow.Author.Tests.{leb-true, leb-false, eq-eqb, ne-eqb}
-use Rattle.ids.specs.Table.{Grown, present, placed, lookupOf, insertOf}
+use Rattle.ids.specs.Table.{Insertion, present, placed, lookupOf, insertOf}
 use Rattle.ids.proofs.Tests.{chosen, unchosen}
 use Rattle.ids.proofs.Tables.{isSome, present-found, insert-new, insert-full}
-use Rattle.semantics.specs.Structure.{FuncApp, Pair, maxPairs, maxFuncApps, compareFuncApp, canonicalFuncApp}
-use Rattle.semantics.specs.Calls.{Equated, equate, Applied, appliedEqual, applyAt, insertFuncAppOrEquate}
-use Rattle.apps.specs.View.{resultOf}
+use Rattle.semantics.specs.Structure.{FuncApp, Pair, maxPairs, maxFuncApps, compareFuncApp, canonicalFuncApp, resultOf}
+use Rattle.semantics.specs.Calls.{Equated, equate, Applied, applied, appliedEqual, applyAt, insertFuncAppOrEquate}
 use Rattle.equalities.specs.View.{equateIn}
 use Rattle.equalities.proofs.Queue.{equate-room, equate-length}
 use Rattle.applying.specs.View.{whereRoom, applyIn}
@@ -29,11 +28,8 @@ module _ (x : FuncApp) (ls : List ℕ) (ps : List Pair) (apps : List FuncApp) wh
   unfolding applyIn whereRoom
   room-full = go (insertFuncAppOrEquate x ls ps apps .full) refl
     where
-      unmade : Applied
-      unmade = record { links = ls; pairs = ps; apps = apps; yes = false; full = true }
-
       go : (b : Bool) → insertFuncAppOrEquate x ls ps apps .full ≡ b → applyIn x ls ps apps .full ≡ insertFuncAppOrEquate x ls ps apps .full
-      go true e = ap (λ (a : Applied). a .full) (sym (chosen {s = unmade} _ e)) ∙ sym e
+      go true e = ap (λ (a : Applied). a .full) (sym (chosen {s = applied ls ps apps false true} _ e)) ∙ sym e
       go false e = ap (λ (a : Applied). a .full) (room-same e)
 
   -- there are as many links afterwards
@@ -72,10 +68,10 @@ module _ (x z : FuncApp) (ls : List ℕ) (ps : List Pair) (apps : List FuncApp) 
 
   -- it is stored, where there is room
   abbrev stored : Applied
-  stored = record { links = ls; pairs = ps; apps = placed compareFuncApp z apps; yes = true; full = leb maxFuncApps (length apps) }
+  stored = applied ls ps (placed compareFuncApp z apps) true (leb maxFuncApps (length apps))
 
-  pub app-new : {g : Grown FuncApp} → none ≡ resultOf (lookupOf compareFuncApp z apps) → g ≡ insertOf compareFuncApp z maxFuncApps apps
-      → _≡_ {A = Applied} (record { links = ls; pairs = ps; apps = g .items; yes = g .grew; full = g .full }) (applyIn x ls ps apps)
+  pub app-new : {g : Insertion FuncApp} → none ≡ resultOf (lookupOf compareFuncApp z apps) → g ≡ insertOf compareFuncApp z maxFuncApps apps
+      → applied ls ps (g .items) (g .grew) (g .full) ≡ applyIn x ls ps apps
   unfolding applyAt whereRoom
   app-new {g} h e = by (leb maxFuncApps (length apps)) refl ∙ room (go (lookupOf compareFuncApp z apps) h ∙ meets)
     where
@@ -87,25 +83,22 @@ module _ (x z : FuncApp) (ls : List ℕ) (ps : List Pair) (apps : List FuncApp) 
       absent = app-absent z apps h
 
       by : (b : Bool) → leb maxFuncApps (length apps) ≡ b
-          → _≡_ {A = Applied} (record { links = ls; pairs = ps; apps = g .items; yes = g .grew; full = g .full }) (whereRoom stored ls ps apps)
+          → applied ls ps (g .items) (g .grew) (g .full) ≡ whereRoom stored ls ps apps
       by true k =
           let made = e ∙ insert-full compareFuncApp z maxFuncApps apps absent (leb-true _ _ k) in
-          (λ i. record { links = ls; pairs = ps; apps = made i .items; yes = made i .grew; full = made i .full }) ∙ chosen stored k
+          (λ i. applied ls ps (made i .items) (made i .grew) (made i .full)) ∙ chosen stored k
       by false k =
           let made = e ∙ insert-new compareFuncApp z maxFuncApps apps absent (leb-false _ _ k) in
-          (λ i. record { links = ls; pairs = ps; apps = made i .items; yes = made i .grew; full = (ap (λ (w : Grown FuncApp). w .full) made ∙ sym k) i })
+          (λ i. applied ls ps (made i .items) (made i .grew) ((ap (λ (w : Insertion FuncApp). w .full) made ∙ sym k) i))
           ∙ unchosen _ k
 
-  -- nothing changes
-  abbrev known : Applied
-  known = record { links = ls; pairs = ps; apps = apps; yes = false; full = false }
-
   module _ (e : ℕ) (h : some e ≡ resultOf (lookupOf compareFuncApp z apps)) where
-    pub app-same : e ≡ z .result → known ≡ applyIn x ls ps apps
+    -- nothing changes
+    pub app-same : e ≡ z .result → applied ls ps apps false false ≡ applyIn x ls ps apps
     unfolding applyAt whereRoom
     app-same q = room (go (lookupOf compareFuncApp z apps) h ∙ meets)
       where
-        go : (o : Option FuncApp) → some e ≡ resultOf o → known ≡ applyAt o z ls ps apps
+        go : (o : Option FuncApp) → some e ≡ resultOf o → applied ls ps apps false false ≡ applyAt o z ls ps apps
         go none k = let r : _≡_ {A = ℕ} 0 1 = cc in absurd (omega arith)
         go (some y) k = let r : y .result ≡ z .result = cc in sym (rw (eq-eqb (y .result) (z .result) r, applyAt))
 
@@ -123,14 +116,14 @@ module _ (x z : FuncApp) (ls : List ℕ) (ps : List Pair) (apps : List FuncApp) 
 
       -- no room for the pair
       pub app-full : leb maxPairs (length ps) ≡ true
-          → _≡_ {A = Applied} (record { links = ls; pairs = ps; apps = apps; yes = false; full = true }) (applyIn x ls ps apps)
+          → applied ls ps apps false true ≡ applyIn x ls ps apps
       unfolding whereRoom appliedEqual
       app-full k = chosen _ k ∙ room app-other
 
       pub app-equal : {w : Equated} → leb maxPairs (length ps) ≡ false → w ≡ equateIn ls ps e (z .result)
-          → _≡_ {A = Applied} (record { links = w .links; pairs = w .pairs; apps = apps; yes = w .differ; full = false }) (applyIn x ls ps apps)
+          → applied (w .links) (w .pairs) apps (w .differ) false ≡ applyIn x ls ps apps
       unfolding whereRoom appliedEqual
       app-equal {w} k q =
           let made : w ≡ equate ls ps e (z .result) = q ∙ equate-room ls ps e (z .result) (leb-false _ _ k) in
-          (λ i. record { links = made i .links; pairs = made i .pairs; apps = apps; yes = made i .differ; full = sym k i })
+          (λ i. applied (made i .links) (made i .pairs) apps (made i .differ) (sym k i))
           ∙ unchosen _ k ∙ room app-other

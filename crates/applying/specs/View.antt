@@ -5,26 +5,17 @@ use mathlib.Core.List.{List}
 use Rattle.unification.specs.Roots.{linksOf}
 use Rattle.semantics.specs.Structure as model
 use Rattle.semantics.specs.Calls as calls
+use Rattle.semantics.specs.Calls.{applied}
 use Rattle.apps.specs.View.{funcAppsOf}
 use Rattle.equalities.specs.View.{pairsOf}
 use Rattle.applying.specs.declared.Applied.{Applied}
 
 abbrev pub appliedOf : Applied → calls.Applied
-appliedOf r = record {
-  links = linksOf (r .unification);
-  pairs = pairsOf (r .pairs);
-  apps = funcAppsOf (r .«func_apps»);
-  yes = r .yes;
-  full = r .full;
-}
+appliedOf r = applied (linksOf (r .unification)) (pairsOf (r .pairs)) (funcAppsOf (r .«func_apps»)) (r .yes) (r .full)
 
 -- what the definition gives, unless an entry is needed and its table is at its limit: then nothing changes, and `full` says so
 unfoldable pub whereRoom : calls.Applied → List ℕ → List model.Pair → List model.FuncApp → calls.Applied
-whereRoom a ls ps apps =
-    elim (a .full) [
-      | true ↦ record { links = ls; pairs = ps; apps = apps; yes = false; full = true }
-      | false ↦ a
-    ]
+whereRoom a ls ps apps = elim (a .full) [ true ↦ applied ls ps apps false true | false ↦ a ]
 
 -- `insertFuncAppOrEquate` where there is room, and with its `full` in any case
 unfoldable pub applyIn : model.FuncApp → List ℕ → List model.Pair → List model.FuncApp → calls.Applied

@@ -10,8 +10,8 @@ ghost use mathlib.Core.List.{_++_, [], _∷_};
 ghost use Prim.Native.Nat.{_+_, _≤_, _<_};
 ghost use lib.ListN.{take, drop};
 ghost use Rattle.ids.specs.Table.{Sized, goesLast, positionFrom, insertOf, lookupOf, lenOf};
-ghost use Rattle.semantics.specs.Structure.{maxFuncApps, maxPredApps, compareFuncApp, comparePredApp};
-ghost use Rattle.apps.specs.View.{funcAppOf, funcAppsOf, insertedFuncApp, resultOf, found, predAppOf, predAppsOf, insertedPredApp};
+ghost use Rattle.semantics.specs.Structure.{maxFuncApps, maxPredApps, compareFuncApp, comparePredApp, resultOf};
+ghost use Rattle.apps.specs.View.{newFuncApp, funcAppOf, funcAppsOf, insertedFuncApp, found, newPredApp, predAppOf, predAppsOf, insertedPredApp};
 
 // A function application with its result. Its key is the function, the parents and the arguments.
 pub struct FuncApp {
@@ -59,6 +59,17 @@ pub enum Stored {
 }
 
 impl FuncApp {
+    pub fn new(func: FuncId, parents: ElIds, args: ElIds, result: ElId) -> Self
+        ensures { λ r. ⌜ r ≡ newFuncApp func parents args result ⌝ }
+    {
+        FuncApp {
+            func,
+            parents,
+            args,
+            result,
+        }
+    }
+
     fn compare(self, other: FuncApp) -> Ordering
         ensures { λ r. ⌜ r ≡ compareFuncApp (funcAppOf self) (funcAppOf other) ⌝ }
     {
@@ -100,6 +111,16 @@ impl FuncApp {
 }
 
 impl PredApp {
+    pub fn new(pred: PredId, parents: ElIds, args: ElIds) -> Self
+        ensures { λ r. ⌜ r ≡ newPredApp pred parents args ⌝ }
+    {
+        PredApp {
+            pred,
+            parents,
+            args,
+        }
+    }
+
     fn compare(self, other: PredApp) -> Ordering
         ensures { λ r. ⌜ r ≡ comparePredApp (predAppOf self) (predAppOf other) ⌝ }
     {
@@ -146,12 +167,7 @@ impl FuncApps {
     pub fn new() -> Self
         ensures { λ r. ⌜ funcAppsOf r ≡ [] ⌝ }
     {
-        let none = FuncApp {
-            func: FuncId(0),
-            parents: ElIds::new(),
-            args: ElIds::new(),
-            result: ElId(0),
-        };
+        let none = FuncApp::new(FuncId(0), ElIds::new(), ElIds::new(), ElId(0));
         FuncApps {
             items: [none; FuncApps::MAX_LEN],
             len: 0,
@@ -258,11 +274,7 @@ impl PredApps {
     pub fn new() -> Self
         ensures { λ r. ⌜ predAppsOf r ≡ [] ⌝ }
     {
-        let none = PredApp {
-            pred: PredId(0),
-            parents: ElIds::new(),
-            args: ElIds::new(),
-        };
+        let none = PredApp::new(PredId(0), ElIds::new(), ElIds::new());
         PredApps {
             items: [none; PredApps::MAX_LEN],
             len: 0,

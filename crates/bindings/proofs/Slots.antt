@@ -15,8 +15,8 @@ use Rattle.ids.specs.Table.{present, placed, lookupOf}
 use Rattle.ids.proofs.Tables.{isSome, present-found}
 use Rattle.ids.proofs.Orders.{less, greater, equal}
 use Rattle.bindings.specs.declared.Slot.{Slot}
-use Rattle.semantics.specs.Structure.{compareVar, compareAmbient}
-use Rattle.bindings.specs.View.{slotsFrom, boundOf, var, ambient}
+use Rattle.semantics.specs.Structure.{variable, ambient, compareVar, compareAmbient}
+use Rattle.bindings.specs.View.{slotsFrom, boundOf}
 
 -- a slot that is given, or not, tells the entries
 module _ {E : Type 0} (mk : ℕ → ℕ → E) (k : ℕ) (s : Slot) (ss : List Slot) where
@@ -153,7 +153,7 @@ pub record Keyed {E : Type 0} (mk : ℕ → ℕ → E) (cmp : E → E → Orderi
   pub by-key : (x y : E) → cmp x y ≡ orderOf (key x) (key y)
   pub key-of : (k e : ℕ) → key (mk k e) ≡ k
 
-pub vars : Keyed var compareVar (λ v. v .key)
+pub vars : Keyed variable compareVar (λ v. v .key)
 unfolding compareVar
 vars = record { by-key = λ x y. refl; key-of = λ k e. refl }
 

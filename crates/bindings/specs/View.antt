@@ -7,6 +7,7 @@ use lib.Dec.{ltb}
 use Rattle.ids.specs.declared.Ordering.{Ordering}
 use Rattle.ids.specs.Table.{placed}
 use Rattle.semantics.specs.Structure as model
+use Rattle.semantics.specs.Structure.{variable, ambient}
 use Rattle.bindings.specs.declared.Slot.{Slot}
 use Rattle.bindings.specs.declared.VarEl.{VarEl}
 use Rattle.bindings.specs.declared.VarEls.{VarEls}
@@ -20,20 +21,14 @@ unfoldable pub slotsFrom : {E : Type 0} → (ℕ → ℕ → E) → ℕ → List
 slotsFrom mk k [] = []
 slotsFrom mk k (s ∷ ss) = elim (s .given) [ true ↦ mk k (s .el .0) ∷ slotsFrom mk (suc k) ss | false ↦ slotsFrom mk (suc k) ss ]
 
-abbrev pub var : ℕ → ℕ → model.Var
-var k e = record { key = k; el = e }
-
-abbrev pub ambient : ℕ → ℕ → model.Ambient
-ambient t e = record { typ = t; el = e }
-
 abbrev pub varOf : VarEl → model.Var
-varOf v = var (v .key) (v .el .0)
+varOf v = variable (v .key) (v .el .0)
 
 abbrev pub ambientOf : AmbientEl → model.Ambient
 ambientOf a = ambient (a .typ .0) (a .el .0)
 
 abbrev pub varsOf : VarEls → List model.Var
-varsOf t = slotsFrom var 0 (t .slots)
+varsOf t = slotsFrom variable 0 (t .slots)
 
 abbrev pub ambientsOf : AmbientEls → List model.Ambient
 ambientsOf t = slotsFrom ambient 0 (t .slots)

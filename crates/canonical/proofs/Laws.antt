@@ -7,7 +7,8 @@ use borrow.Author.Tests.{eq-eqb, ne-eqb}
 use Rattle.ids.specs.Table.{placed, rewriteInto}
 use Rattle.ids.proofs.Views.{view-next, view-done}
 use Rattle.unification.specs.Roots.{rootOf, FindM, findOf}
-use Rattle.semantics.specs.Structure.{Fact, FuncApp, PredApp, compareFact, canonicalFact, canonicalFuncApp, canonicalPredApp}
+use Rattle.semantics.specs.Structure.{Fact, fact, FuncApp, func-app, PredApp, pred-app, compareFact, canonicalFact, canonicalFuncApp}
+use Rattle.semantics.specs.Structure.{canonicalPredApp}
 use Rattle.semantics.specs.Types.{factsAt, concreteTypesOf}
 use Rattle.facts.specs.declared.Fact as code
 use Rattle.facts.specs.declared.Facts.{Facts}
@@ -16,19 +17,19 @@ use Rattle.facts.specs.View.{factOf, factsOf}
 -- Entries as roots: what the finds ensure.
 
 pub fact-roots : (ls : List ℕ) (f : Fact) {r : FindM} {ps : List ℕ} → r ≡ findOf ls (f .el) → ps ≡ map (rootOf ls) (f .parents)
-    → _≡_ {A = Fact} (record { el = r .root; typ = f .typ; parents = ps }) (canonicalFact ls f)
+    → fact (r .root) (f .typ) ps ≡ canonicalFact ls f
 unfolding canonicalFact findOf
-fact-roots ls f p q = λ i. record { el = p i .root; typ = f .typ; parents = q i }
+fact-roots ls f p q = λ i. fact (p i .root) (f .typ) (q i)
 
 pub app-roots : (ls : List ℕ) (x : FuncApp) {r : FindM} {ps es : List ℕ} → ps ≡ map (rootOf ls) (x .parents) → es ≡ map (rootOf ls) (x .args)
-    → r ≡ findOf ls (x .result) → _≡_ {A = FuncApp} (record { func = x .func; parents = ps; args = es; result = r .root }) (canonicalFuncApp ls x)
+    → r ≡ findOf ls (x .result) → func-app (x .func) ps es (r .root) ≡ canonicalFuncApp ls x
 unfolding canonicalFuncApp findOf
-app-roots ls x p q r = λ i. record { func = x .func; parents = p i; args = q i; result = r i .root }
+app-roots ls x p q r = λ i. func-app (x .func) (p i) (q i) (r i .root)
 
 pub pred-roots : (ls : List ℕ) (x : PredApp) {ps es : List ℕ} → ps ≡ map (rootOf ls) (x .parents) → es ≡ map (rootOf ls) (x .args)
-    → _≡_ {A = PredApp} (record { pred = x .pred; parents = ps; args = es }) (canonicalPredApp ls x)
+    → pred-app (x .pred) ps es ≡ canonicalPredApp ls x
 unfolding canonicalPredApp
-pred-roots ls x p q = λ i. record { pred = x .pred; parents = p i; args = q i }
+pred-roots ls x p q = λ i. pred-app (x .pred) (p i) (q i)
 
 -- A turn of the loop that collects the facts of an element's class, at the entry i of a table: it is of another element, or of this.
 module _ (ls : List ℕ) (root : ℕ) (t : Facts) (i : ℕ) (d : code.Fact) (done : List Fact) {R : List Fact} (at : i < length (factsOf t))

@@ -13,8 +13,9 @@ use Rattle.ids.proofs.Counted.{len-kept, len-grown}
 use Rattle.unification.specs.Roots.{rootOf, shortOf, FindM, ShortM, findOf, shortenedOf}
 use Rattle.unification.proofs.Laws.{short-length}
 use Rattle.semantics.specs.Structure as model
-use Rattle.semantics.specs.Structure.{maxPairs}
+use Rattle.semantics.specs.Structure.{pair, maxPairs}
 use Rattle.semantics.specs.Calls as calls
+use Rattle.semantics.specs.Calls.{equating}
 use Rattle.equalities.specs.declared.Pair.{Pair}
 use Rattle.equalities.specs.declared.Pairs.{Pairs}
 use Rattle.equalities.specs.View.{pairOf, pairsOf, queuedOf, equateIn}
@@ -55,12 +56,12 @@ module _ (t : Pairs) (p : Pair) {n : ℕ} (sized : Sized (pairsOf t) maxPairs n)
 
 -- both finds, one after the other, and the pair
 pub equated : (ls : List ℕ) (ps qs : List model.Pair) (a b : ℕ) {f s : ShortM} → f ≡ shortenedOf ls a → s ≡ shortenedOf (f .links) b
-    → qs ≡ queuedOf ps (record { lhs = a; rhs = b })
-    → _≡_ {A = calls.Equated} (record { links = s .links; pairs = qs; differ = not (eqb (f .find .root) (s .find .root)) }) (equateIn ls ps a b)
+    → qs ≡ queuedOf ps (pair a b)
+    → equating (s .links) qs (not (eqb (f .find .root) (s .find .root))) ≡ equateIn ls ps a b
 unfolding equateIn calls.equate shortenedOf findOf
 equated ls ps qs a b {f} {s} first second queued =
     let then : s ≡ shortenedOf (shortOf ls a) b = second ∙ ap (λ (l : List ℕ). shortenedOf l b) (ap (λ (r : ShortM). r .links) first) in
-    λ i. record { links = then i .links; pairs = queued i; differ = not (eqb (first i .find .root) (then i .find .root)) }
+    λ i. equating (then i .links) (queued i) (not (eqb (first i .find .root) (then i .find .root)))
 
 -- where the queue has room
 pub equate-room : (ls : List ℕ) (ps : List model.Pair) (a b : ℕ) → length ps < maxPairs → equateIn ls ps a b ≡ calls.equate ls ps a b

@@ -6,14 +6,15 @@ use lib.ListN.{length, take}
 use lib.Dec.{ltb}
 use Rattle.unification.specs.Roots.{linksOf}
 use Rattle.semantics.specs.Structure as model
-use Rattle.semantics.specs.Structure.{maxPairs}
+use Rattle.semantics.specs.Structure.{pair, maxPairs}
 use Rattle.semantics.specs.Calls as calls
+use Rattle.semantics.specs.Calls.{equating}
 use Rattle.equalities.specs.declared.Pair.{Pair}
 use Rattle.equalities.specs.declared.Pairs.{Pairs}
 use Rattle.equalities.specs.declared.Equated.{Equated}
 
 abbrev pub pairOf : Pair → model.Pair
-pairOf p = record { lhs = p .lhs .0; rhs = p .rhs .0 }
+pairOf p = pair (p .lhs .0) (p .rhs .0)
 
 -- the pairs of a queue: that which was queued last stands first
 abbrev pub pairsOf : Pairs → List model.Pair
@@ -25,11 +26,7 @@ queuedOf ps p = elim (ltb (length ps) maxPairs) [ true ↦ p ∷ ps | false ↦ 
 
 -- `equate`, where there is room for the pair; a full queue stays as it is
 unfoldable pub equateIn : List ℕ → List model.Pair → ℕ → ℕ → calls.Equated
-equateIn ls ps a b = record {
-  links = calls.equate ls ps a b .links;
-  pairs = queuedOf ps (record { lhs = a; rhs = b });
-  differ = calls.equate ls ps a b .differ;
-}
+equateIn ls ps a b = equating (calls.equate ls ps a b .links) (queuedOf ps (pair a b)) (calls.equate ls ps a b .differ)
 
 abbrev pub equatedOf : Equated → calls.Equated
-equatedOf r = record { links = linksOf (r .unification); pairs = pairsOf (r .pairs); differ = r .differ }
+equatedOf r = equating (linksOf (r .unification)) (pairsOf (r .pairs)) (r .differ)

@@ -5,12 +5,12 @@ ghost use mathlib.Core.Path.{_≡_};
 ghost use mathlib.Core.List.{[]};
 ghost use Rattle.ids.specs.Table.{Sized, lenOf};
 ghost use Rattle.unification.specs.Roots.{linksOf};
-ghost use Rattle.semantics.specs.Structure.{maxPairs};
+ghost use Rattle.semantics.specs.Structure.{pair, maxPairs};
 ghost use Rattle.equalities.specs.View.{pairOf, pairsOf, queuedOf, equateIn, equatedOf};
 
 pub struct Pair {
-    pub left: ElId,
-    pub right: ElId,
+    pub lhs: ElId,
+    pub rhs: ElId,
 }
 
 // In the order in which they were queued.
@@ -26,16 +26,21 @@ pub struct Equated {
     pub differ: bool,
 }
 
+impl Pair {
+    pub fn new(lhs: ElId, rhs: ElId) -> Self
+        ensures { λ r. ⌜ pairOf r ≡ pair (lhs .0) (rhs .0) ⌝ }
+    {
+        Pair { lhs, rhs }
+    }
+}
+
 impl Pairs {
     pub const MAX_LEN: usize = 256;
 
     pub fn new() -> Self
         ensures { λ r. ⌜ pairsOf r ≡ [] ⌝ }
     {
-        let none = Pair {
-            left: ElId(0),
-            right: ElId(0),
-        };
+        let none = Pair::new(ElId(0), ElId(0));
         Pairs {
             items: [none; Pairs::MAX_LEN],
             len: 0,
@@ -79,7 +84,7 @@ pub fn equate(unification: Unification, pairs: Pairs, a: ElId, b: ElId) -> Equat
     let twice = second.unification;
     let x = first.find.root.0;
     let y = second.find.root.0;
-    let next = pairs.push(Pair { left: a, right: b });
+    let next = pairs.push(Pair { lhs: a, rhs: b });
     Equated {
         unification: twice,
         pairs: next,

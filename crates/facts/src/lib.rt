@@ -11,7 +11,7 @@ ghost use lib.ListN.{take, drop};
 ghost use Rattle.ids.specs.Table.{Sized, goesLast, positionFrom, insertOf, pushOf, lenOf};
 ghost use Rattle.semantics.specs.Structure.{maxFacts, maxImpositions, compareFact};
 ghost use Rattle.semantics.specs.Calls.{isImposed};
-ghost use Rattle.facts.specs.View.{factOf, factsOf, inserted, impositionsOf};
+ghost use Rattle.facts.specs.View.{newFact, factOf, factsOf, inserted, impositionsOf};
 
 pub struct ConcreteType {
     pub typ: TypeId,
@@ -43,6 +43,15 @@ pub struct InsertedFact {
 }
 
 impl Fact {
+    pub fn new(el: ElId, typ: TypeId, parents: ElIds) -> Self
+        ensures { λ r. ⌜ r ≡ newFact el typ parents ⌝ }
+    {
+        Fact {
+            el,
+            ct: ConcreteType { typ, parents },
+        }
+    }
+
     pub fn compare(self, other: Fact) -> Ordering
         ensures { λ r. ⌜ r ≡ compareFact (factOf self) (factOf other) ⌝ }
     {
@@ -85,13 +94,7 @@ impl Facts {
     pub fn new() -> Self
         ensures { λ r. ⌜ factsOf r ≡ [] ⌝ }
     {
-        let none = Fact {
-            el: ElId(0),
-            ct: ConcreteType {
-                typ: TypeId(0),
-                parents: ElIds::new(),
-            },
-        };
+        let none = Fact::new(ElId(0), TypeId(0), ElIds::new());
         Facts {
             items: [none; Facts::MAX_LEN],
             len: 0,
@@ -185,13 +188,7 @@ impl Impositions {
     pub fn new() -> Self
         ensures { λ r. ⌜ impositionsOf r ≡ [] ⌝ }
     {
-        let none = Fact {
-            el: ElId(0),
-            ct: ConcreteType {
-                typ: TypeId(0),
-                parents: ElIds::new(),
-            },
-        };
+        let none = Fact::new(ElId(0), TypeId(0), ElIds::new());
         Impositions {
             items: [none; Impositions::MAX_LEN],
             len: 0,

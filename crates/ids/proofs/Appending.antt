@@ -10,7 +10,7 @@ use lib.Dec.{ltb, eqb}
 use borrow.Author.Tests.{lt-ltb, le-ltb, ltb-true, eqb-true, eq-eqb, ne-eqb}
 use Rattle.ids.specs.declared.Ordering.{Ordering}
 use Rattle.ids.specs.declared.Ordering.the-variants.{Less, Equal, Greater}
-use Rattle.ids.specs.Table.{Sized, Grown, placed, lookupOf, insertOf, goesLast, rewriteInto}
+use Rattle.ids.specs.Table.{Sized, Insertion, placed, lookupOf, insertOf, goesLast, rewriteInto}
 use Rattle.ids.proofs.Views.{view-at}
 use Rattle.ids.proofs.Sorted.{All, Sorted, Ordered, no-test, placed-length, placed-last, placed-sorted}
 use Rattle.ids.proofs.Tables.{push-room, insert-room, rewrite-next, rewrite-done}
@@ -112,12 +112,12 @@ module _ {A B : Type 0} (cmp : B → B → Ordering) (cap k : ℕ) (view : A →
     appended-new = lookup-past cmp (view e) (map view (take m ys)) all-smaller
 
 -- The first i entries of a table are rewritten, into `done`.
-pub record Turned {B : Type 0} (cmp : B → B → Ordering) (f : B → B) (whole : List B) (i : ℕ) (done : List B) : Type 0 where
+pub record AppendTurn {B : Type 0} (cmp : B → B → Ordering) (f : B → B) (whole : List B) (i : ℕ) (done : List B) : Type 0 where
   pub few : length done ≤ i
   pub sorted : Sorted cmp done
   pub rest : rewriteInto cmp f (drop i whole) done ≡ rewriteInto cmp f whole []
 
-pub turned-none : {B : Type 0} (cmp : B → B → Ordering) (f : B → B) (whole : List B) {done : List B} → done ≡ [] → Turned cmp f whole 0 done
+pub turned-none : {B : Type 0} (cmp : B → B → Ordering) (f : B → B) (whole : List B) {done : List B} → done ≡ [] → AppendTurn cmp f whole 0 done
 turned-none {B} cmp f whole e = record {
   few = omega (arith, ap (length {A = B}) e);
   sorted = rw e tt;
@@ -125,10 +125,10 @@ turned-none {B} cmp f whole e = record {
 }
 
 module _ {A B : Type 0} {cmp : B → B → Ordering} {f : B → B} (o : Ordered cmp) (view : A → B) (n : ℕ) (xs : List A) {cap size i : ℕ} {done : List B}
-    (sized : Sized (map view (take n xs)) cap size) (now : Turned cmp f (map view (take n xs)) i done) where
+    (sized : Sized (map view (take n xs)) cap size) (now : AppendTurn cmp f (map view (take n xs)) i done) where
   -- the entry i is rewritten and placed
   pub turned-placed : (d : A) {x : B} {next : List B} → i < size → x ≡ f (view (getD xs i d)) → next ≡ placed cmp x done
-      → Turned cmp f (map view (take n xs)) (i + 1) next
+      → AppendTurn cmp f (map view (take n xs)) (i + 1) next
   turned-placed d {x} {next} h is put = record {
     few = omega (arith, now .few, ap (length {A = B}) put, placed-length cmp x done);
     sorted = rw put (placed-sorted o x done (now .sorted));
@@ -137,11 +137,11 @@ module _ {A B : Type 0} {cmp : B → B → Ordering} {f : B → B} (o : Ordered 
   }
 
   -- it is inserted
-  pub turned-more : (d : A) {x : B} {g : Grown B} → i < size → x ≡ f (view (getD xs i d)) → g ≡ insertOf cmp x cap done
-      → Turned cmp f (map view (take n xs)) (i + 1) (g .items)
+  pub turned-more : (d : A) {x : B} {g : Insertion B} → i < size → x ≡ f (view (getD xs i d)) → g ≡ insertOf cmp x cap done
+      → AppendTurn cmp f (map view (take n xs)) (i + 1) (g .items)
   turned-more d {x} h is made =
       let room : length done < cap = omega (arith, now .few, sized .most) in
-      turned-placed d h is (ap (λ (w : Grown B). w .items) made ∙ insert-room cmp x cap done room)
+      turned-placed d h is (ap (λ (w : Insertion B). w .items) made ∙ insert-room cmp x cap done room)
 
   -- all are
   pub turned-all : size ≤ i → done ≡ rewriteInto cmp f (map view (take n xs)) []

@@ -17,7 +17,7 @@ use Rattle.ids.specs.declared.Place.the-variants.{Before, At}
 use Rattle.ids.proofs.Answers.{and-right}
 use Rattle.ids.proofs.Views.{view-next, view-done}
 use Rattle.ids.proofs.Sorted.{placed-present}
-use Rattle.ids.specs.Table.{Grown, positionFrom, present, placed, insertOf, lookupOf, pushOf, rewriteInto}
+use Rattle.ids.specs.Table.{Insertion, positionFrom, present, placed, insertOf, lookupOf, pushOf, rewriteInto}
 
 -- x goes before the k-th entry of a list ys, whose first entry has the index i; p and q are `present` and `placed` of ys
 pub record Spot {A : Type 0} (x : A) (i : ℕ) (ys : List A) (p : Bool) (q : List A) (k : ℕ) : Type 0 where
@@ -166,9 +166,9 @@ module _ {A : Type 0} (cmp : A → A → Ordering) (x : A) where
       where
         go : (p : Bool) → present cmp x ys ≡ p → (q : Bool) → leb cap (length ys) ≡ q
             → insertOf cmp x cap ys .full ≡ (not (present cmp x ys) && leb cap (length ys))
-        go true e q k = ap (λ (g : Grown A). g .full) (insert-present cmp x cap ys e) ∙ sym (rw e)
-        go false e true k = ap (λ (g : Grown A). g .full) (insert-full cmp x cap ys e (leb-true _ _ k)) ∙ sym (rw (e, k))
-        go false e false k = ap (λ (g : Grown A). g .full) (insert-new cmp x cap ys e (leb-false _ _ k)) ∙ sym (rw (e, k))
+        go true e q k = ap (λ (g : Insertion A). g .full) (insert-present cmp x cap ys e) ∙ sym (rw e)
+        go false e true k = ap (λ (g : Insertion A). g .full) (insert-full cmp x cap ys e (leb-true _ _ k)) ∙ sym (rw (e, k))
+        go false e false k = ap (λ (g : Insertion A). g .full) (insert-new cmp x cap ys e (leb-false _ _ k)) ∙ sym (rw (e, k))
 
     -- an insertion that had room
     pub insert-made : insertOf cmp x cap ys .full ≡ false
@@ -184,7 +184,7 @@ module _ {A : Type 0} (cmp : A → A → Ordering) (x : A) where
             let z : _≡_ {A = ℕ} 0 1 = cc in absurd (omega arith)
 
     pub insert-room : length ys < cap → insertOf cmp x cap ys .items ≡ placed cmp x ys
-    insert-room h = ap (λ (g : Grown A). g .items) (insert-made (insert-needs ∙ and-right (not (present cmp x ys)) (lt-leb cap (length ys) h)))
+    insert-room h = ap (λ (g : Insertion A). g .items) (insert-made (insert-needs ∙ and-right (not (present cmp x ys)) (lt-leb cap (length ys) h)))
 
 -- A loop that rewrites the entries of a table, seen through `view`, one after the other into another table `done`.
 module _ {A B : Type 0} (cmp : B → B → Ordering) (f : B → B) (view : A → B) (n : ℕ) (xs : List A) (i : ℕ) (done : List B) {whole : List B}

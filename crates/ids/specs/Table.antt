@@ -17,7 +17,7 @@ pub record Sized {A : Type 0} (l : List A) (cap r : ℕ) : Type 0 where
   pub most : r ≤ cap
 
 -- what an insertion gives: whether the table grew, whether it had no room, and the table
-pub record Grown (A : Type 0) : Type 0 where
+pub record Insertion (A : Type 0) : Type 0 where
   pub grew : Bool
   pub full : Bool
   pub items : List A
@@ -44,7 +44,7 @@ module _ {A : Type 0} (cmp : A → A → Ordering) (x : A) where
   placed (y ∷ ys) = elim (cmp y x) [ Less ↦ y ∷ placed ys | Equal ↦ y ∷ ys | Greater ↦ x ∷ y ∷ ys ]
 
   -- x inserted in a table of at most `cap` entries
-  unfoldable pub insertOf : ℕ → List A → Grown A
+  unfoldable pub insertOf : ℕ → List A → Insertion A
   insertOf cap ys =
       elim (present ys) [
         | true ↦ record { grew = false; full = false; items = ys }

@@ -12,7 +12,7 @@ use lib.Dec.{eqb, leb}
 use borrow.Author.Tests.{eq-eqb, ne-eqb, leb-true, leb-false, lt-ltb, le-ltb}
 use Rattle.ids.specs.Answers.{tooManyFacts}
 use Rattle.ids.specs.Ids.{elOf, elsOf}
-use Rattle.ids.specs.Table.{Grown, present, insertOf}
+use Rattle.ids.specs.Table.{Insertion, present, insertOf}
 use Rattle.ids.specs.declared.ElId.{ElId}
 use Rattle.ids.specs.declared.ElIds.{ElIds}
 use Rattle.ids.proofs.Answers.{and-right}
@@ -109,7 +109,7 @@ module _ (t : Facts) (f : Fact) (i : ℕ) where
 -- A fact inserted.
 
 -- what an insertion leaves
-unfoldable pub inserting : Grown Fact → types.Core → types.Core
+unfoldable pub inserting : Insertion Fact → types.Core → types.Core
 inserting g w =
     elim (g .full) [
       | true ↦ with-met tooManyFacts w
@@ -128,20 +128,20 @@ inserting g w =
       ]
     ]
 
-pub insert-is : (f : Fact) (w : types.Core) {g : Grown Fact} → g ≡ insertOf compareFact f maxFacts (w .facts) → inserting g w ≡ insertFact f w
+pub insert-is : (f : Fact) (w : types.Core) {g : Insertion Fact} → g ≡ insertOf compareFact f maxFacts (w .facts) → inserting g w ≡ insertFact f w
 unfolding inserting insertFact
-insert-is f w e = ap (λ (g : Grown Fact). inserting g w) e ∙ go (present compareFact f (w .facts)) refl (leb maxFacts (length (w .facts))) refl
+insert-is f w e = ap (λ (g : Insertion Fact). inserting g w) e ∙ go (present compareFact f (w .facts)) refl (leb maxFacts (length (w .facts))) refl
   where
     go : (p : Bool) → present compareFact f (w .facts) ≡ p → (q : Bool) → leb maxFacts (length (w .facts)) ≡ q
         → inserting (insertOf compareFact f maxFacts (w .facts)) w ≡ insertFact f w
-    go true y q k = ap (λ (g : Grown Fact). inserting g w) (insert-present compareFact f maxFacts (w .facts) y) ∙ sym (rw (y, insertFact))
+    go true y q k = ap (λ (g : Insertion Fact). inserting g w) (insert-present compareFact f maxFacts (w .facts) y) ∙ sym (rw (y, insertFact))
     go false y true k =
         let h = leb-true maxFacts (length (w .facts)) k in
-        ap (λ (g : Grown Fact). inserting g w) (insert-full compareFact f maxFacts (w .facts) y h)
+        ap (λ (g : Insertion Fact). inserting g w) (insert-full compareFact f maxFacts (w .facts) y h)
         ∙ sym (rw (y, le-ltb (length (w .facts)) maxFacts h, insertFact))
     go false y false k =
         let h = leb-false maxFacts (length (w .facts)) k in
-        ap (λ (g : Grown Fact). inserting g w) (insert-new compareFact f maxFacts (w .facts) y h)
+        ap (λ (g : Insertion Fact). inserting g w) (insert-new compareFact f maxFacts (w .facts) y h)
         ∙ sym (rw (y, lt-ltb (length (w .facts)) maxFacts h, insertFact))
 
 -- a core with another number met, or another table of facts

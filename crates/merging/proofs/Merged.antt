@@ -18,14 +18,14 @@ use Rattle.unification.proofs.Beside.{kept}
 use Rattle.semantics.specs.Structure as model
 use Rattle.semantics.specs.Structure.{Fact, factAt, compareFact, maxPairs}
 use Rattle.semantics.specs.Types as types
-use Rattle.semantics.specs.Types.{marked, mergedMarks, movedFacts, with-merge, merge, joinRoots, join, drainPairs, with-pairs, drain}
+use Rattle.semantics.specs.Types.{core, with-marks, marked, mergedMarks, movedFacts, with-merge, merge, joinRoots, join, drainPairs, with-pairs, drain}
 use Rattle.facts.specs.declared.Facts.{Facts}
 use Rattle.facts.specs.View.{factsOf}
 use Rattle.equalities.specs.declared.Pair.{Pair}
 use Rattle.equalities.specs.declared.Pairs.{Pairs}
 use Rattle.equalities.specs.View.{pairOf, pairsOf}
 use Rattle.merging.specs.declared.Core.{Core}
-use Rattle.merging.specs.View.{marksOf, coreOf, with-marks, Remarked, movedFact, Passes}
+use Rattle.merging.specs.View.{marksOf, coreOf, Remarked, movedFact, Passes}
 
 -- Facts.
 
@@ -82,7 +82,7 @@ pub merged : (s once k : Core) (v : Unification) (fs : Facts) (keep drop : ℕ) 
     (merge keep drop)
 unfolding merge mergedMarks
 merged s once k v fs keep drop both first second links facts marks us vs =
-    let left : take (v .len) (k .marks) ≡ marksOf k =
+    let same : take (v .len) (k .marks) ≡ marksOf k =
     kept (k .unification) v (k .marks) marks us vs (ap length links ∙ merged-length (linksOf (k .unification)) keep drop) in
     let twice : (m a : ℕ) → coreOf k m a ≡ with-marks (mergedMarks (marksOf s) keep drop) (coreOf s m a) =
     λ m a.
@@ -93,15 +93,7 @@ merged s once k v fs keep drop both first second links facts marks us vs =
       is = λ m a.
           let one : 1 + m ≡ suc m = omega arith in
           let none : 0 + a ≡ a = omega arith in
-          (λ i. record {
-            links = links i;
-            marks = left i;
-            facts = facts i;
-            pairs = pairsOf (k .pairs);
-            merges = one i;
-            added = none i;
-            met = coreOf k m a .met;
-          })
+          (λ i. core (links i) (same i) (facts i) (pairsOf (k .pairs)) (one i) (none i) (coreOf k m a .met))
           ∙ ap (λ (w : types.Core). with-merge (mergedOf (w .links) keep drop) (w .marks) (movedFacts keep drop (w .facts)) w) (twice m a);
       merges-most = omega arith;
       added-most = omega arith;
@@ -135,12 +127,12 @@ pub join-found : (c : Core) (p : Pair) {l r : FindM} → l ≡ findOf (linksOf (
 unfolding join findOf
 join-found c p e f m a = λ i. joinRoots (e i .root) (f i .root) (coreOf c m a)
 
--- Pairs, drained from the last to the first: what is left when the first i entries are left.
+-- Pairs, drained from the last to the first: those that remain when the first i entries do.
 
-abbrev pub leftOf : ℕ → Pairs → List model.Pair
-leftOf i t = reverse (map pairOf (take i (t .items)))
+abbrev pub undrained : ℕ → Pairs → List model.Pair
+undrained i t = reverse (map pairOf (take i (t .items)))
 
-last : (t : Pairs) (k : ℕ) (d : Pair) → k < length (t .items) → leftOf (suc k) t ≡ pairOf (getD (t .items) k d) ∷ leftOf k t
+last : (t : Pairs) (k : ℕ) (d : Pair) → k < length (t .items) → undrained (suc k) t ≡ pairOf (getD (t .items) k d) ∷ undrained k t
 last t k d h =
     ap (λ (l : List Pair). reverse (map pairOf l)) (take-suc (t .items) k d h)
     ∙ ap reverse (map-append pairOf (take k (t .items)) (getD (t .items) k d ∷ []))
@@ -151,21 +143,21 @@ module _ (t : Pairs) {n : ℕ} (sized : Sized (pairsOf t) maxPairs n) where
   all = omega (arith, sized .is, length-reverse (map pairOf (take (t .len) (t .items))), length-view pairOf (t .len) (t .items))
 
   -- none is drained yet
-  pub drain-all : (w : types.Core) → drainPairs (leftOf n t) w ≡ drainPairs (pairsOf t) w
+  pub drain-all : (w : types.Core) → drainPairs (undrained n t) w ≡ drainPairs (pairsOf t) w
   drain-all w = ap (λ (l : List Pair). drainPairs (reverse (map pairOf l)) w) (take-same n (t .len) (t .items) (omega (arith, all)))
 
-  -- the last of those that are left is drained
+  -- the last of those that remain is drained
   pub drain-last : (i : ℕ) (d : Pair) → 0 < i → i ≤ n → (w : types.Core)
-      → drainPairs (leftOf (i - 1) t) (join (pairOf (getD (t .items) (i - 1) d)) w) ≡ drainPairs (leftOf i t) w
+      → drainPairs (undrained (i - 1) t) (join (pairOf (getD (t .items) (i - 1) d)) w) ≡ drainPairs (undrained i t) w
   unfolding drainPairs
   drain-last i d h g w =
       let more : suc (i - 1) ≡ i = omega arith in
-      ap (λ (l : List model.Pair). drainPairs l w) (sym (last t (i - 1) d (omega (arith, all))) ∙ ap (λ (m : ℕ). leftOf m t) more)
+      ap (λ (l : List model.Pair). drainPairs l w) (sym (last t (i - 1) d (omega (arith, all))) ∙ ap (λ (m : ℕ). undrained m t) more)
 
 -- all are drained
-pub drain-none : (t : Pairs) (i : ℕ) → i ≤ 0 → (w : types.Core) → w ≡ drainPairs (leftOf i t) w
+pub drain-none : (t : Pairs) (i : ℕ) → i ≤ 0 → (w : types.Core) → w ≡ drainPairs (undrained i t) w
 unfolding drainPairs
-drain-none t i h w = let none : 0 ≡ i = omega arith in ap (λ (m : ℕ). drainPairs (leftOf m t) w) none
+drain-none t i h w = let none : 0 ≡ i = omega arith in ap (λ (m : ℕ). drainPairs (undrained m t) w) none
 
 -- a queue that is taken out and drained
 pub drain-taken : (s : Core) (t : Pairs) → pairsOf t ≡ [] → (m a : ℕ)

@@ -130,10 +130,10 @@ impl Core {
         ensures { λ r. ⌜ Passes self r 1 (join (pairOf pair)) ⌝ }
     {
         let u = self.unification;
-        let left = u.find(pair.left);
-        let right = u.find(pair.right);
-        let a = left.root;
-        let b = right.root;
+        let first = u.find(pair.lhs);
+        let second = u.find(pair.rhs);
+        let a = first.root;
+        let b = second.root;
         if a.0 < b.0 {
             return self.merge(a, b);
         }

@@ -9,7 +9,7 @@ use native.Mathlib.Omega.{arith}
 use lib.ListN.{length, take, drop, getD, set}
 use lib.Seq.{take-suc, take-suc-set, take-all}
 use borrow.Author.Tests.{lt-ltb, eq-eqb, ne-eqb}
-use Rattle.ids.specs.Table.{Sized, Grown, placed, lookupOf, insertOf}
+use Rattle.ids.specs.Table.{Sized, Insertion, placed, lookupOf, insertOf}
 use Rattle.ids.proofs.Sorted.{Sorted, placed-length, placed-sorted}
 use Rattle.ids.proofs.Tables.{insert-room}
 use Rattle.ids.proofs.Views.{view-next, view-done}
@@ -103,11 +103,11 @@ module _ {ls : List ℕ} (apps : FuncApps) {size i : ℕ} {t : Rewritten} (sized
       rest = on ((λ k. record { apps = put k; pairs = t .pairs; queued = t .queued }) ∙ enter-new z t absent);
     }
 
-    pub entered-new : {g : Grown FuncApp} → g ≡ insertOf compareFuncApp z maxFuncApps (t .apps) → none ≡ resultOf (lookupOf compareFuncApp z (t .apps))
+    pub entered-new : {g : Insertion FuncApp} → g ≡ insertOf compareFuncApp z maxFuncApps (t .apps) → none ≡ resultOf (lookupOf compareFuncApp z (t .apps))
         → Entered ls (funcAppsOf apps) (i + 1) (record { apps = g .items; pairs = t .pairs; queued = t .queued })
     entered-new made absent =
         let room : length (t .apps) < maxFuncApps = omega (arith, now .few, sized .most) in
-        entered-placed (ap (λ (w : Grown FuncApp). w .items) made ∙ insert-room compareFuncApp z maxFuncApps (t .apps) room) absent
+        entered-placed (ap (λ (w : Insertion FuncApp). w .items) made ∙ insert-room compareFuncApp z maxFuncApps (t .apps) room) absent
 
     pub entered-same : (e : ℕ) → some e ≡ resultOf (lookupOf compareFuncApp z (t .apps)) → e ≡ z .result → Entered ls (funcAppsOf apps) (i + 1) t
     entered-same e found same = record {

@@ -6,7 +6,7 @@ use Prim.Native.Nat.{ℕ, _+_, _≤_, _<_}
 use native.Mathlib.Omega.{arith}
 use lib.ListN.{length, take, drop, getD, set}
 use Rattle.ids.specs.declared.Ordering.the-variants.{Less, Equal, Greater}
-use Rattle.ids.specs.Table.{Grown, positionFrom, present, placed}
+use Rattle.ids.specs.Table.{Insertion, positionFrom, present, placed}
 use Rattle.ids.proofs.Views.{length-view, view-next, view-nil, take-same, view-placed}
 use Rattle.ids.proofs.Shift.{Shifted, shift-done}
 use Rattle.ids.proofs.Tables.{on, at-present, before-spot, insert-full, insert-new}
@@ -127,7 +127,7 @@ module _ (c : Core) (none : NoneMarked c) (t : Facts) (met : ℕ) (f : Fact) {x 
     put-placed s h e =
         does
         (grown (withFacts c t met) x (record { grew = true; full = false; facts = s })
-        (ap {B = Grown Fact} (λ (l : List Fact). record { grew = true; full = false; items = l }) e
+        (ap {B = Insertion Fact} (λ (l : List Fact). record { grew = true; full = false; items = l }) e
         ∙ sym (insert-new compareFact x maxFacts (factsOf t) absent h))
         refl refl)
         (omega arith) plain

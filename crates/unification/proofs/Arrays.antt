@@ -141,14 +141,14 @@ module _ (u : Unification) (x p : ℕ) (at : x < length (linksOf u)) (is : p ≡
   abbrev pub next : Unification
   next = record { links = set (u .links) x entry; len = u .len }
 
-  pub record Turned : Type 0 where
+  pub record ShortenTurn : Type 0 where
     pub many : length (linksOf next) ≡ length (linksOf u)
     pub linked : entry ≡ link (linksOf next) p
     pub root : rootOf (linksOf u) x ≡ rootOf (linksOf next) p
     pub depth : depthOf (linksOf u) x ≡ depthOf (linksOf next) p + 1
     pub short : shortOf (linksOf u) x ≡ shortOf (linksOf next) p
 
-  pub turned : Turned
+  pub turned : ShortenTurn
   turned =
       let h : link (linksOf u) x < x = omega arith in
       let q : link (linksOf u) p ≡ entry = link-read u p (omega arith) in

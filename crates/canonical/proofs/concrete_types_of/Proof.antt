@@ -4,7 +4,7 @@ use mathlib.Core.List.{[]}
 use Prim.Native.Nat.{_≤_, _<_, _-_}
 use native.Mathlib.Omega.{arith}
 use lib.ListN.{length, drop}
-use Rattle.ids.specs.Table.{Grown, placed, rewriteInto}
+use Rattle.ids.specs.Table.{Insertion, placed, rewriteInto}
 use Rattle.unification.specs.Roots.{linksOf, FindM, findOf}
 use Rattle.semantics.specs.Structure.{Fact, maxFacts, compareFact, canonicalFact}
 use Rattle.semantics.specs.Types.{factsAt}
@@ -85,7 +85,7 @@ loop-again-2 c =
     let at : l .i < length (factsOf (sized .before .before .args .t2)) = omega (arith, sized .size .ensures .is, test .loop-test .taken) in
     let room : length (factsOf (l .types)) < maxFacts = omega (arith, l .inv .0, sized .size .ensures .is, sized .size .ensures .most) in
     let x = factOf (entry .canonical-fact .result) in
-    let put = ap (λ (g : Grown Fact). g .items) (made .insert .ensures .0) ∙ insert-room compareFact x maxFacts (factsOf (l .types)) room in
+    let put = ap (λ (g : Insertion Fact). g .items) (made .insert .ensures .0) ∙ insert-room compareFact x maxFacts (factsOf (l .types)) room in
     let next = put ∙ ap (λ (f : Fact). placed compareFact f (factsOf (l .types))) (entry .canonical-fact .ensures) in (
       omega (arith, l .inv .0, ap (length {A = Fact}) put, placed-length compareFact x (factsOf (l .types))),
       this-el _ _ (sized .before .before .args .t2) (l .i) _ _ at (l .inv .1) (entry .before .if1 .left) next,

@@ -3,7 +3,7 @@ use mathlib.Core.Path.{_≡_, _∙_}
 use Prim.Native.Nat.{_-_}
 use lib.ListN.{length, length-set}
 use Rattle.ids.proofs.Views.{long}
-use Rattle.ids.proofs.Appending.{append-room, appended, Turned, turned-none, turned-placed, turned-more, turned-all}
+use Rattle.ids.proofs.Appending.{append-room, appended, AppendTurn, turned-none, turned-placed, turned-more, turned-all}
 use Rattle.semantics.specs.Structure.{maxFacts, compareFact}
 use Rattle.semantics.proofs.Orders.{fact-ordered}
 use Rattle.facts.specs.View.{factOf, factsOf, noFact}
@@ -15,7 +15,7 @@ use Rattle.merging.proofs.move_facts.Tie as tie
 
 abbrev Inv-loop : tie.InvT-loop
 Inv-loop keep from facts n moved₀ i₀ moved i =
-    (length (moved .items) ≡ maxFacts) × Turned compareFact (movedFact (keep .0) (from .0)) (factsOf facts) i (factsOf moved)
+    (length (moved .items) ≡ maxFacts) × AppendTurn compareFact (movedFact (keep .0) (from .0)) (factsOf facts) i (factsOf moved)
 
 abbrev μ-loop : tie.MeasureT-loop
 μ-loop keep from facts n moved₀ i₀ moved i = n - i

@@ -4,7 +4,7 @@ use Prim.Native.Nat.{_-_}
 use lib.ListN.{length, length-set}
 use Rattle.unification.specs.Roots.{linksOf}
 use Rattle.ids.proofs.Views.{long}
-use Rattle.ids.proofs.Appending.{append-room, appended, Turned, turned-none, turned-placed, turned-more, turned-all}
+use Rattle.ids.proofs.Appending.{append-room, appended, AppendTurn, turned-none, turned-placed, turned-more, turned-all}
 use Rattle.semantics.specs.Structure.{maxFacts, compareFact, canonicalFact}
 use Rattle.semantics.proofs.Orders.{fact-ordered}
 use Rattle.facts.specs.View.{factOf, factsOf, noFact}
@@ -14,7 +14,7 @@ use Rattle.rewriting.proofs.canonical_facts.Tie as tie
 
 abbrev Inv-loop : tie.InvT-loop
 Inv-loop unification table n done₀ i₀ done i =
-    (length (done .items) ≡ maxFacts) × Turned compareFact (canonicalFact (linksOf unification)) (factsOf table) i (factsOf done)
+    (length (done .items) ≡ maxFacts) × AppendTurn compareFact (canonicalFact (linksOf unification)) (factsOf table) i (factsOf done)
 
 abbrev μ-loop : tie.MeasureT-loop
 μ-loop unification table n done₀ i₀ done i = n - i

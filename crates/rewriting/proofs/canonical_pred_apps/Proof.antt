@@ -4,7 +4,7 @@ use Prim.Native.Nat.{_-_}
 use lib.ListN.{length, length-set}
 use Rattle.unification.specs.Roots.{linksOf}
 use Rattle.ids.proofs.Views.{long}
-use Rattle.ids.proofs.Appending.{append-room, appended, Turned, turned-none, turned-placed, turned-more, turned-all}
+use Rattle.ids.proofs.Appending.{append-room, appended, AppendTurn, turned-none, turned-placed, turned-more, turned-all}
 use Rattle.semantics.specs.Structure.{maxPredApps, comparePredApp, canonicalPredApp}
 use Rattle.semantics.proofs.Orders.{pred-app-ordered}
 use Rattle.apps.specs.View.{predAppOf, predAppsOf, noPredApp}
@@ -14,7 +14,7 @@ use Rattle.rewriting.proofs.canonical_pred_apps.Tie as tie
 
 abbrev Inv-loop : tie.InvT-loop
 Inv-loop unification table n done₀ i₀ done i =
-    (length (done .items) ≡ maxPredApps) × Turned comparePredApp (canonicalPredApp (linksOf unification)) (predAppsOf table) i (predAppsOf done)
+    (length (done .items) ≡ maxPredApps) × AppendTurn comparePredApp (canonicalPredApp (linksOf unification)) (predAppsOf table) i (predAppsOf done)
 
 abbrev μ-loop : tie.MeasureT-loop
 μ-loop unification table n done₀ i₀ done i = n - i

@@ -7,8 +7,8 @@ use lib.ListN.{length, getD}
 use Rattle.ids.specs.Table.{lookupOf}
 use Rattle.ids.proofs.Views.{long, length-view, view-at}
 use Rattle.ids.proofs.Tables.{at-entry, before-none}
-use Rattle.semantics.specs.Structure.{maxFuncApps, compareFuncApp}
-use Rattle.apps.specs.View.{funcAppOf, funcAppsOf, noFuncApp, resultOf}
+use Rattle.semantics.specs.Structure.{maxFuncApps, compareFuncApp, resultOf}
+use Rattle.apps.specs.View.{funcAppOf, funcAppsOf, noFuncApp}
 use borrow.Author.Needs.{needs}
 use Rattle.apps.proofs.FuncApps.get.Statement.{statement}
 use Rattle.apps.proofs.FuncApps.get.Tie as tie

@@ -1,9 +1,10 @@
 -- `AmbientEls::get` meets its contract.
 use mathlib.Core.Path.{sym, ap}
 use Rattle.signature.specs.Model.{maxTypes}
+use Rattle.semantics.specs.Structure.{ambient}
 use Rattle.semantics.specs.Calls as calls
 use Rattle.ids.proofs.Views.{long}
-use Rattle.bindings.specs.View.{ambient, ambientElOf}
+use Rattle.bindings.specs.View.{ambientElOf}
 use Rattle.bindings.proofs.Slots.{none-slot, ambients, found-past, found-given, found-empty}
 use borrow.Author.Needs.{needs}
 use Rattle.bindings.proofs.AmbientEls.get.Statement.{statement}

@@ -1,7 +1,7 @@
 -- `AmbientEls::new` meets its contract.
 use mathlib.Core.Path.{refl}
 use Rattle.signature.specs.Model.{maxTypes}
-use Rattle.bindings.specs.View.{ambient}
+use Rattle.semantics.specs.Structure.{ambient}
 use Rattle.bindings.proofs.Slots.{none-slot, none-given}
 use Rattle.bindings.proofs.AmbientEls.new.Statement.{statement}
 use Rattle.bindings.proofs.AmbientEls.new.Tie as tie

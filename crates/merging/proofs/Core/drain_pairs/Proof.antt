@@ -6,14 +6,14 @@ use Rattle.semantics.specs.Types.{drainPairs}
 use Rattle.equalities.specs.View.{pairsOf}
 use Rattle.merging.specs.View.{Toward}
 use Rattle.merging.proofs.Laws.{begins, takes, leaves}
-use Rattle.merging.proofs.Merged.{leftOf, drain-all, drain-last, drain-none}
+use Rattle.merging.proofs.Merged.{undrained, drain-all, drain-last, drain-none}
 use borrow.Author.Needs.{needs}
 use Rattle.merging.proofs.Core.drain_pairs.Statement.{statement}
 use Rattle.merging.proofs.Core.drain_pairs.Tie as tie
 
 abbrev Inv-loop : tie.InvT-loop
 Inv-loop pairs core₀ merges₀ added₀ n i₀ core merges added i =
-    (i ≤ n) × Toward core₀ core merges added (n - i) (drainPairs (leftOf i pairs)) (drainPairs (pairsOf pairs))
+    (i ≤ n) × Toward core₀ core merges added (n - i) (drainPairs (undrained i pairs)) (drainPairs (pairsOf pairs))
 
 abbrev μ-loop : tie.MeasureT-loop
 μ-loop pairs core₀ merges₀ added₀ n i₀ core merges added i = i

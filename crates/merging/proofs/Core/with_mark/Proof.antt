@@ -1,6 +1,7 @@
 -- `Core::with_mark` meets its contract.
 use Rattle.ids.proofs.Views.{long}
-use Rattle.merging.specs.View.{coreOf, with-marks}
+use Rattle.semantics.specs.Types.{with-marks}
+use Rattle.merging.specs.View.{coreOf}
 use Rattle.merging.proofs.Merged.{mark-stored, mark-unstored}
 use borrow.Author.Needs.{needs}
 use Rattle.merging.proofs.Core.with_mark.Statement.{statement}
