@@ -5,7 +5,6 @@ use bindings::AmbientEl;
 use bindings::VarEl;
 use conflicts::Conflicting;
 use conflicts::TypeConflicts;
-use facts::ConcreteType;
 use facts::Fact;
 use ids::ElId;
 use ids::ElIds;
@@ -273,13 +272,8 @@ fn impose_type(machine: Machine, given: Record) -> Carried
     let signature = machine.signature;
     let structure = machine.structure;
     let slots = given.parents;
-    let fact = Fact {
-        el: ElId(given.a),
-        ct: ConcreteType {
-            typ: TypeId(given.b),
-            parents: els_in(slots, given.parent_count),
-        },
-    };
+    let parents = els_in(slots, given.parent_count);
+    let fact = Fact::new(ElId(given.a), TypeId(given.b), parents);
     after_step(machine, inserting::impose_type(structure, signature, fact))
 }
 
@@ -291,12 +285,9 @@ fn apply_func(machine: Machine, given: Record) -> Carried
     let structure = machine.structure;
     let slots = given.parents;
     let arg_slots = given.args;
-    let app = FuncApp {
-        func: FuncId(given.a),
-        parents: els_in(slots, given.parent_count),
-        args: els_in(arg_slots, given.arg_count),
-        result: ElId(given.b),
-    };
+    let parents = els_in(slots, given.parent_count);
+    let args = els_in(arg_slots, given.arg_count);
+    let app = FuncApp::new(FuncId(given.a), parents, args, ElId(given.b));
     after_step(
         machine,
         inserting::insert_func_app_or_equate(structure, signature, app),
@@ -311,11 +302,9 @@ fn apply_pred(machine: Machine, given: Record) -> Carried
     let structure = machine.structure;
     let slots = given.parents;
     let arg_slots = given.args;
-    let app = PredApp {
-        pred: PredId(given.a),
-        parents: els_in(slots, given.parent_count),
-        args: els_in(arg_slots, given.arg_count),
-    };
+    let parents = els_in(slots, given.parent_count);
+    let args = els_in(arg_slots, given.arg_count);
+    let app = PredApp::new(PredId(given.a), parents, args);
     after_step(
         machine,
         inserting::insert_pred_app(structure, signature, app),

@@ -3,7 +3,9 @@ use mathlib.Core.Path.{ap, _∙_}
 use Rattle.semantics.specs.Structure.{func-app}
 use Rattle.semantics.specs.Calls.{apply-func, step}
 use Rattle.semantics.specs.Sheet.{funcAppForm}
+use Rattle.apps.specs.declared.FuncApp.{FuncApp}
 use Rattle.structure.specs.View.{machineOf}
+use Rattle.inserting.specs.View.{givenFuncApp}
 use Rattle.carrying.specs.View.{withConflicts}
 use borrow.Author.Needs.{needs}
 use Rattle.carrying.proofs.apply_func.Statement.{statement}
@@ -15,6 +17,9 @@ els-in-requires c κs = search needs
 els-in-requires-2 : tie.Need-els-in-requires-2
 els-in-requires-2 c κs = search needs
 
+new-requires : tie.Need-new-requires
+new-requires c κs = search needs
+
 insert-func-app-or-equate-requires : tie.Need-insert-func-app-or-equate-requires
 insert-func-app-or-equate-requires c κs = search needs
 
@@ -24,10 +29,11 @@ after-step-requires c κs = search needs
 returns : tie.Need-returns
 unfolding funcAppForm
 returns c =
-    let a = c .before .before .before .before .before .before .before .before .args in
+    let a = c .before .before .before .before .before .before .before .before .before .args in
     c .after-step .ensures
     ∙ ap withConflicts (c .before .insert-func-app-or-equate .ensures
-    ∙ (λ i. step (apply-func (func-app (a .given .a) (c .before .before .before .els-in .ensures i) (c .before .before .els-in2 .ensures i) (a .given .b))) (machineOf (a .machine))))
+    ∙ ap (λ (x : FuncApp). step (apply-func (givenFuncApp x)) (machineOf (a .machine))) (c .before .before .new .ensures)
+    ∙ (λ i. step (apply-func (func-app (a .given .a) (c .before .before .before .before .els-in .ensures i) (c .before .before .before .els-in2 .ensures i) (a .given .b))) (machineOf (a .machine))))
 
 pub apply-func-spec : {M : Type 1} → statement M
 apply-func-spec =
@@ -35,6 +41,7 @@ apply-func-spec =
     (tie.spec
     els-in-requires
     els-in-requires-2
+    new-requires
     insert-func-app-or-equate-requires
     after-step-requires
     returns)

@@ -3,7 +3,9 @@ use mathlib.Core.Path.{ap, _∙_}
 use Rattle.semantics.specs.Structure.{pred-app}
 use Rattle.semantics.specs.Calls.{apply-pred, step}
 use Rattle.semantics.specs.Sheet.{predAppForm}
+use Rattle.apps.specs.declared.PredApp.{PredApp}
 use Rattle.structure.specs.View.{machineOf}
+use Rattle.inserting.specs.View.{givenPredApp}
 use Rattle.carrying.specs.View.{withConflicts}
 use borrow.Author.Needs.{needs}
 use Rattle.carrying.proofs.apply_pred.Statement.{statement}
@@ -15,6 +17,9 @@ els-in-requires c κs = search needs
 els-in-requires-2 : tie.Need-els-in-requires-2
 els-in-requires-2 c κs = search needs
 
+new-requires : tie.Need-new-requires
+new-requires c κs = search needs
+
 insert-pred-app-requires : tie.Need-insert-pred-app-requires
 insert-pred-app-requires c κs = search needs
 
@@ -24,10 +29,11 @@ after-step-requires c κs = search needs
 returns : tie.Need-returns
 unfolding predAppForm
 returns c =
-    let a = c .before .before .before .before .before .before .before .before .args in
+    let a = c .before .before .before .before .before .before .before .before .before .args in
     c .after-step .ensures
     ∙ ap withConflicts (c .before .insert-pred-app .ensures
-    ∙ (λ i. step (apply-pred (pred-app (a .given .a) (c .before .before .before .els-in .ensures i) (c .before .before .els-in2 .ensures i))) (machineOf (a .machine))))
+    ∙ ap (λ (x : PredApp). step (apply-pred (givenPredApp x)) (machineOf (a .machine))) (c .before .before .new .ensures)
+    ∙ (λ i. step (apply-pred (pred-app (a .given .a) (c .before .before .before .before .els-in .ensures i) (c .before .before .before .els-in2 .ensures i))) (machineOf (a .machine))))
 
 pub apply-pred-spec : {M : Type 1} → statement M
 apply-pred-spec =
@@ -35,6 +41,7 @@ apply-pred-spec =
     (tie.spec
     els-in-requires
     els-in-requires-2
+    new-requires
     insert-pred-app-requires
     after-step-requires
     returns)
