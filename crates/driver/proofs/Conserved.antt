@@ -46,10 +46,11 @@ isClosed (els es) = false
 isClosed (refuse n) = false
 
 other : {a : Answer} {c : Closed} → isClosed a ≡ false → a ≡ closed c → ⊥
+unfolding isClosed
 other f e = no-test (ap isClosed e) f
 
 closed-effect : (k : Call) (m : Machine) (c : Closed) → rule k m .answer ≡ closed c → k ≡ calls.close
-unfolding rule equalityRule impositionRule applicationRule closeRule
+unfolding rule equalityRule impositionRule applicationRule closeRule isClosed
 closed-effect (calls.push-type t) m c e = absurd (other refl e)
 closed-effect (calls.push-pred p) m c e = absurd (other refl e)
 closed-effect (calls.push-func f) m c e = absurd (other refl e)

@@ -115,7 +115,7 @@ pub goes-on : (m : Machine) (bytes : List ℕ) (i : ℕ) {s : Step} {r : Record}
 unfolding listBefore lastAnswer callsBefore
 goes-on m bytes i {s} {r} within e f =
     let ks = callsBefore bytes i in
-    let o = callOf (recordAt bytes i) in
+    let o = listCallOf (recordAt bytes i) in
     let more : suc i ≡ i + 1 = omega arith in
     let same : r ≡ recordAt bytes i = f ∙ record-within bytes i within in
     let leaves : carryOut o (afterCalls ks m) .after ≡ afterCalls (ks ++ callList o) m = record-leaves o (afterCalls ks m) ∙ sym (after-append ks (callList o) m) in

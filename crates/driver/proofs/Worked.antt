@@ -9,7 +9,7 @@ use Rattle.ids.specs.Ids.{padded}
 use Rattle.unification.specs.Roots.{linksOf}
 use Rattle.semantics.specs.Types.{anyMarked}
 use Rattle.semantics.specs.Close.{Closed, report}
-use Rattle.semantics.specs.Calls.{push-el, equate-els, root, close, closed}
+use Rattle.semantics.specs.Calls.{push-el, equate-els, root, close, closed, isAccepted}
 use Rattle.semantics.proofs.Computes.{everything}
 use Rattle.history.specs.Book as book
 use Rattle.history.specs.Book.{history, Conserved}
@@ -39,7 +39,7 @@ worked =
 
 -- the definitions that a list of bytes computes with
 computed : ℕ
-unfolding everything worked zeros callAt callList callsBefore lastAnswer listBefore padded book.blank book.taken book.fed book.mergesOf book.noted book.next book.run book.begin book.history
+unfolding everything anyMarked isAccepted worked zeros callAt callList callsBefore lastAnswer listBefore padded book.blank book.taken book.fed book.mergesOf book.noted book.next book.run book.begin book.history
 computed = 0
 
 -- the calls that it is
