@@ -3,7 +3,6 @@ use apps::FuncApp;
 use apps::PredApp;
 use bindings::AmbientEl;
 use bindings::VarEl;
-use facts::ConcreteType;
 use facts::Fact;
 use ids::ElId;
 use ids::ElIds;
@@ -143,42 +142,18 @@ fn state(run: Machine, bytes: &[u8], index: u16) -> Structure {
             r.structure
         }
         8 => {
-            let r = inserting::impose_type(
-                s,
-                signature,
-                Fact {
-                    el: ElId(a),
-                    ct: ConcreteType {
-                        typ: TypeId(b),
-                        parents: given,
-                    },
-                },
-            );
+            let fact = Fact::new(ElId(a), TypeId(b), given);
+            let r = inserting::impose_type(s, signature, fact);
             r.structure
         }
         9 => {
-            let r = inserting::insert_func_app_or_equate(
-                s,
-                signature,
-                FuncApp {
-                    func: FuncId(a),
-                    parents: given,
-                    args: listed,
-                    result: ElId(b),
-                },
-            );
+            let app = FuncApp::new(FuncId(a), given, listed, ElId(b));
+            let r = inserting::insert_func_app_or_equate(s, signature, app);
             r.structure
         }
         10 => {
-            let r = inserting::insert_pred_app(
-                s,
-                signature,
-                PredApp {
-                    pred: PredId(a),
-                    parents: given,
-                    args: listed,
-                },
-            );
+            let app = PredApp::new(PredId(a), given, listed);
+            let r = inserting::insert_pred_app(s, signature, app);
             r.structure
         }
         11 => {

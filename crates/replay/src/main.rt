@@ -229,7 +229,7 @@ fn put_pairs(text: &mut [u8; MAX_TEXT], n: usize, pairs: Pairs) -> usize {
     let k = pairs.size();
     for i in 0..k {
         let pair = pairs.items[i];
-        at = put_line(text, at, pair_line(b"q", pair.left.0, pair.right.0));
+        at = put_line(text, at, pair_line(b"q", pair.lhs.0, pair.rhs.0));
     }
     at
 }
