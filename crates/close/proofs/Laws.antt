@@ -1,22 +1,26 @@
 -- Laws of a round, of the rounds and of a close, over what the passes leave.
 use mathlib.Core.Path.{_≡_, refl, sym, ap, _∙_}
-use mathlib.Core.Bool.{Bool, true, false, not, _&&_, _||_}
+use mathlib.Core.Bool.{Bool, true, false, _&&_, _||_}
 use mathlib.Core.List.{List}
 use mathlib.Core.Option.{Option, none, some}
 use Prim.Native.Nat.{ℕ, zero, suc, _+_, _*_, _-_, _≤_, _<_}
 use native.Mathlib.Omega.{arith}
 use lib.Dec.{eqb, ltb}
 use borrow.Author.Tests.{lt-ltb, le-ltb, ltb-true, ltb-false, ne-eqb}
-use Rattle.ids.specs.Answers.{accepted, refused, Outcome}
+use Rattle.ids.specs.Answers.{decided}
+use Rattle.ids.proofs.Judging.{decided-refuses, decided-accepts}
 use Rattle.unification.specs.Roots.{maxEls, linksOf}
 use Rattle.signature.specs.Model.{Sig}
 use Rattle.semantics.specs.Structure as model
-use Rattle.semantics.specs.Structure.{FuncApp, PredApp, maxPairs, maxFacts, accept}
+use Rattle.semantics.specs.Structure.{FuncApp, PredApp, maxPairs, maxFacts}
 use Rattle.semantics.specs.Types as types
 use Rattle.semantics.specs.Types.{drain, imposeAll, grew, with-pairs}
 use Rattle.semantics.specs.Close as closing
-use Rattle.semantics.specs.Close.{fuel, enterAll, demands, isNone, lastRound, oneMore, roundsFrom, answerOf, leftBy, closeWith}
-use Rattle.semantics.specs.Close.{closeImposed, closeAfter, withCore, canonicaliseRefs}
+use Rattle.semantics.specs.Close.{fuel, enterAll, demands, turn, rounds-made, isNone, lastRound, oneMore, roundsFrom}
+use Rattle.semantics.specs.Close.{CloseRun, imposedAfter, closeRun, reportOf, afterClose}
+use Rattle.semantics.specs.Calls as calls
+use Rattle.semantics.specs.Calls.{machine, answers, closed, rule, closeRule, leaves, acceptance, refusal, stepBy, step}
+use Rattle.semantics.proofs.Judged.{close-first}
 use Rattle.semantics.proofs.Parts.{rewritten, asked, typedAll, round-parts}
 use Rattle.apps.specs.declared.FuncApps.{FuncApps}
 use Rattle.apps.specs.View.{funcAppsOf}
@@ -106,7 +110,7 @@ module _ (g : Sig) (preds : List PredApp) (apps : List FuncApp) (before : Core) 
         (record { core = t .core; «func_apps» = r .«func_apps»; merges = d .merges + t .merges; added = d .added + t .added; worked = worked })
     round-is worked e = record {
       is = λ m a.
-          (λ i. record { core = typed m a i; apps = rewrote m a i .apps; worked = (e ∙ (λ j. (merged m a j || rewrote m a j .queued) || grows m a j)) i })
+          (λ i. turn (typed m a i) (rewrote m a i .apps) ((e ∙ (λ j. (merged m a j || rewrote m a j .queued) || grows m a j)) i))
           ∙ sym (round-parts g preds apps (coreOf before m a));
       merges-most = omega (arith, drains .merges-most, demanded .merges-most);
       added-most = omega (arith, drains .added-most, demanded .added-most);
@@ -118,21 +122,18 @@ pub fuel-is : fuel ≡ 2 * ((maxFacts + 2) * (maxEls + 1))
 unfolding fuel
 fuel-is = refl
 
--- what a round left, with all that was counted by then
-abbrev pub turn : Core → FuncApps → Bool → ℕ → ℕ → closing.Turn
-turn core apps worked m a = record { core = coreOf core m a; apps = funcAppsOf apps; worked = worked }
-
-pub turned : {g : Sig} {preds : List PredApp} {apps : List FuncApp} {before : Core} (r : Turn) → Round g preds apps before r
+-- a round made, with all that was counted by then
+pub round-made : {g : Sig} {preds : List PredApp} {apps : List FuncApp} {before : Core} (r : Turn) → Round g preds apps before r
     → (m a : ℕ) {n b : ℕ} → n ≡ r .merges + m → b ≡ r .added + a
-    → turn (r .core) (r .«func_apps») (r .worked) n b ≡ closing.round g preds apps (coreOf before m a)
-turned r e m a p q = (λ i. turn (r .core) (r .«func_apps») (r .worked) (p i) (q i)) ∙ e .is m a
+    → turn (coreOf (r .core) n b) (funcAppsOf (r .«func_apps»)) (r .worked) ≡ closing.round g preds apps (coreOf before m a)
+round-made r e m a p q = (λ i. turn (coreOf (r .core) (p i) (q i)) (funcAppsOf (r .«func_apps»)) (r .worked)) ∙ e .is m a
 
 -- with so many rounds before
 abbrev pub after : ℕ → closing.Rounds → closing.Rounds
-after n r = record { core = r .core; apps = r .apps; count = n + r .count }
+after n r = rounds-made (r .core) (r .apps) (n + r .count)
 
 module _ (g : Sig) (preds : List PredApp) where
-  -- a round that is the last, whatever is left
+  -- a round that is the last, whatever fuel remains
   pub idle : (k : ℕ) (t : closing.Turn) → (t .worked && isNone (t .core .met)) ≡ false → roundsFrom k g preds t ≡ lastRound t
   unfolding roundsFrom
   idle zero t h = refl
@@ -143,18 +144,14 @@ module _ (g : Sig) (preds : List PredApp) where
   unfolding roundsFrom
   goes k t h = rw (h, roundsFrom)
 
-  -- the rounds end at a core, with so many that ran
-  abbrev pub ended : types.Core → List FuncApp → ℕ → closing.Rounds
-  ended core apps count = record { core = core; apps = apps; count = count }
-
   -- The rounds in progress: `count` ran and left `core` and `apps`, and `again` says whether another follows.
   pub record Going (whole : closing.Rounds) (core : types.Core) (apps : List FuncApp) (again : Bool) (count : ℕ) : Type 0 where
     pub few : count ≤ suc fuel
     pub more : again ≡ true → (k : ℕ) → k + count ≡ fuel → after count (roundsFrom k g preds (closing.round g preds apps core)) ≡ whole
     -- the latest was idle, or met a number
-    pub stops : again ≡ false → ended core apps count ≡ whole
+    pub stops : again ≡ false → rounds-made core apps count ≡ whole
     -- there are no more
-    pub spent : fuel < count → ended core apps count ≡ whole
+    pub spent : fuel < count → rounds-made core apps count ≡ whole
 
   pub begins : (core : types.Core) (apps : List FuncApp) → Going (closing.rounds g preds apps core) core apps true 0
   unfolding closing.rounds
@@ -164,7 +161,7 @@ module _ (g : Sig) (preds : List PredApp) where
         let f : k ≡ fuel = omega arith in
         let r = roundsFrom fuel g preds (closing.round g preds apps core) in
         (λ i. after 0 (roundsFrom (f i) g preds (closing.round g preds apps core)))
-        ∙ (λ i. record { core = r .core; apps = r .apps; count = none-before (r .count) i });
+        ∙ (λ i. rounds-made (r .core) (r .apps) (none-before (r .count) i));
     stops = λ e. let z : _≡_ {A = ℕ} 0 1 = cc e in absurd (omega arith);
     spent = λ h. absurd (omega arith);
   }
@@ -177,7 +174,7 @@ module _ (g : Sig) (preds : List PredApp) where
     from-next : (k : ℕ) → k + count ≡ fuel → after count (roundsFrom k g preds next) ≡ whole
     from-next k q = ap (λ (t : closing.Turn). after count (roundsFrom k g preds t)) e ∙ so-far .more h k q
 
-    lasts : (k : ℕ) → k + count ≡ fuel → roundsFrom k g preds next ≡ lastRound next → ended (next .core) (next .apps) (count + 1) ≡ whole
+    lasts : (k : ℕ) → k + count ≡ fuel → roundsFrom k g preds next ≡ lastRound next → rounds-made (next .core) (next .apps) (count + 1) ≡ whole
     unfolding lastRound
     lasts k q last = sym (ap (after count) last) ∙ from-next k q
 
@@ -188,7 +185,7 @@ module _ (g : Sig) (preds : List PredApp) where
       few = omega arith;
       more = λ p k q.
           let r = roundsFrom k g preds (closing.round g preds (next .apps) (next .core)) in
-          (λ i. record { core = r .core; apps = r .apps; count = regroup (r .count) i })
+          (λ i. rounds-made (r .core) (r .apps) (regroup (r .count) i))
           ∙ sym (ap (after count) (goes k next (sym t ∙ p)))
           ∙ from-next (suc k) (omega arith);
       stops = λ p. lasts (fuel - count) (omega arith) (idle (fuel - count) next (sym t ∙ p));
@@ -198,32 +195,32 @@ module _ (g : Sig) (preds : List PredApp) where
         regroup : (x : ℕ) → (count + 1) + x ≡ count + suc x
         regroup x = omega arith
 
--- A close.
+-- A close: r is what the rounds came to, and w what the impositions left.
 
-module _ (g : Sig) (s : model.Structure) (r : closing.Rounds) (core : Core) (m a : ℕ)
-    (ran : r ≡ closing.rounds g (s .pred-apps) (s .func-apps) (closing.coreOf s)) (imposed : coreOf core m a ≡ imposeAll (s .impositions) (r .core)) where
-  closes : closeWith (metOf (core .met)) r (coreOf core m a) s ≡ closing.close g s
-  unfolding closing.close closeAfter closeImposed
-  closes = (λ i. closeImposed r (imposed i) s) ∙ (λ i. closeAfter (ran i) s)
+module _ (g : Sig) (s : model.Structure) (r : closing.Rounds) (w : types.Core)
+    (ran : r ≡ closing.rounds g (s .pred-apps) (s .func-apps) (closing.coreOf s)) (imposed : w ≡ imposeAll (s .impositions) (r .core)) where
+  abbrev run : CloseRun
+  run = record { rounds = r; core = w }
+
+  run-is : run ≡ closeRun g s
+  unfolding closeRun imposedAfter
+  run-is = (λ i. record { rounds = r; core = imposed i }) ∙ (λ i. imposedAfter (ran i) s)
+
+  closes : decided (w .met) (refusal (machine g s)) (acceptance (closeRule run (machine g s))) ≡ step calls.close (machine g s)
+  unfolding step stepBy rule closeRule
+  closes =
+      (λ i. decided (sym (close-first run) i) (refusal (machine g s)) (acceptance (closeRule run (machine g s))))
+      ∙ (λ i. stepBy (closeRule (run-is i) (machine g s)) (machine g s))
 
   -- a number is met
-  pub refuses : (core .met ≡ 0 → ⊥)
-      → _≡_ {A = Outcome closing.Closed model.Structure} (record { answer = refused (core .met); after = s }) (closing.close g s)
-  unfolding closeWith
-  refuses h = sym (ap (λ (o : Option ℕ). closeWith o r (coreOf core m a) s) (met-some (core .met) h)) ∙ closes
+  pub refuses : {n : ℕ} → w .met ≡ some n → refusal (machine g s) n ≡ step calls.close (machine g s)
+  refuses e = sym (decided-refuses (refusal (machine g s)) (acceptance (closeRule run (machine g s))) e) ∙ closes
 
   -- none is met
-  pub accepts : core .met ≡ 0 → {changed : Bool} → changed ≡ (ltb 1 (r .count) || grew (r .core) (coreOf core m a)) → {merges : ℕ} → merges ≡ m
-      → {left : model.Structure}
-      → left ≡ accept (not changed) (canonicaliseRefs (linksOf (core .unification)) (withCore (coreOf core 0 0) (r .apps) s))
-      → _≡_ {A = Outcome closing.Closed model.Structure}
-      (record { answer = accepted (record { changed = changed; merges = merges; rounds = r .count }); after = left }) (closing.close g s)
-  unfolding closeWith answerOf leftBy withCore
-  accepts h p q e =
-      (λ i. record { answer = accepted (record { changed = p i; merges = q i; rounds = r .count }); after = e i })
-      ∙ (λ i. record {
-        answer = accepted (record { changed = ltb 1 (r .count) || grew (r .core) (coreOf core m a); merges = m; rounds = r .count });
-        left = accept (not (p i)) (canonicaliseRefs (linksOf (core .unification)) (withCore (coreOf core 0 0) (r .apps) s));
-      })
-      ∙ sym (ap (λ (o : Option ℕ). closeWith o r (coreOf core m a) s) (met-none h))
+  pub accepts : w .met ≡ none → {a : closing.Closed} {t : model.Structure} → a ≡ reportOf run → t ≡ afterClose run s
+      → answers (closed a) (machine g (leaves true (closed a) t)) ≡ step calls.close (machine g s)
+  unfolding acceptance closeRule
+  accepts e p q =
+      (λ i. answers (closed (p i)) (machine g (leaves true (closed (p i)) (q i))))
+      ∙ sym (decided-accepts (refusal (machine g s)) (acceptance (closeRule run (machine g s))) e)
       ∙ closes

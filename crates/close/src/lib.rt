@@ -66,12 +66,12 @@ fn round(core: Core, signature: Signature, preds: PredApps, apps: FuncApps) -> T
     let pairs = rewritten.pairs;
     now.pairs = pairs;
     let typed = typing::typing(now, signature, done, preds);
-    let left = typed.core;
+    let next = typed.core;
     let merged = 0 < drained.merges;
     let grew = counted(typed.merges, typed.added);
     let early = ids::or(merged, rewritten.queued);
     Turn {
-        core: left,
+        core: next,
         func_apps: done,
         merges: drained.merges + typed.merges,
         added: drained.added + typed.added,
@@ -104,10 +104,10 @@ fn rounds(core: Core, signature: Signature, preds: PredApps, apps: FuncApps) -> 
             break;
         }
         let next = round(now, signature, preds, done);
-        let left = next.core;
+        let reached = next.core;
         let table = next.func_apps;
-        again = goes_on(next.worked, left.met);
-        now = left;
+        again = goes_on(next.worked, reached.met);
+        now = reached;
         done = table;
         merges += next.merges;
         added += next.added;

@@ -8,7 +8,6 @@ use native.Mathlib.Omega.{arith}
 use lib.ListN.{length, take, drop, getD, set, length-append, length-set}
 use lib.Dec.{eqb, ltb}
 use borrow.Author.Tests.{eq-eqb, ne-eqb, lt-ltb, le-ltb}
-use Rattle.ids.specs.Answers.{Answered, accepted, refused, Outcome}
 use Rattle.ids.specs.Table.{Sized, pushOf}
 use Rattle.ids.specs.declared.ElId.{ElId}
 use Rattle.ids.specs.declared.ElIds.{ElIds}
@@ -18,10 +17,12 @@ use Rattle.ids.proofs.Lists.{padded-view, says-held, as-given, as-held, given-h
 use Rattle.ids.proofs.Counted.{push-at, push-past}
 use Rattle.ids.proofs.Tables.{push-room}
 use Rattle.unification.specs.Roots.{maxEls, rootOf}
+use Rattle.signature.specs.Model.{Sig}
 use Rattle.semantics.specs.Structure.{Fact, Structure, empty, with-links, with-facts}
 use Rattle.semantics.specs.Types.{factsAt, concreteTypesOf}
-use Rattle.semantics.specs.Conflicts.{Conflict, parentsMatch, disagree, firstConflict, conflictAmong, conflictAt, conflictsBelow}
+use Rattle.semantics.specs.Conflicts.{Conflict, conflict, parentsMatch, disagree, firstConflict, conflictAmong, conflictAt, conflictsBelow}
 use Rattle.semantics.specs.Conflicts.{typeConflicts}
+use Rattle.semantics.specs.Calls.{Step}
 use Rattle.facts.specs.declared.Fact as code
 use Rattle.facts.specs.declared.Facts.{Facts}
 use Rattle.facts.specs.View.{factOf, factsOf, noFact}
@@ -145,7 +146,7 @@ module _ (ls : List ℕ) (e : ℕ) (f : Fact) (t : Facts) (j : ℕ) {R : List Co
     facts-agree d = rw (d, firstConflict) at search-on
 
     pub facts-conflict : disagree ls f (factOf (getD (t .items) j noFact)) ≡ true
-        → _≡_ {A = List Conflict} (record { el = e; a = f; b = factOf (getD (t .items) j noFact) } ∷ []) R
+        → conflict e f (factOf (getD (t .items) j noFact)) ∷ [] ≡ R
     unfolding firstConflict
     facts-conflict d = rw (d, firstConflict) at search-on
 
@@ -171,7 +172,7 @@ first-length ls e f [] = omega arith
 first-length ls e f (g ∷ gs) = go (disagree ls f g) (first-length ls e f gs)
   where
     go : (t : Bool) → length (firstConflict ls e f gs) ≤ 1
-        → length {A = Conflict} (elim t [ true ↦ record { el = e; a = f; b = g } ∷ [] | false ↦ firstConflict ls e f gs ]) ≤ 1
+        → length {A = Conflict} (elim t [ true ↦ conflict e f g ∷ [] | false ↦ firstConflict ls e f gs ]) ≤ 1
     go true h = omega arith
     go false h = h
 
@@ -238,10 +239,6 @@ module _ (t : TypeConflicts) (alike : givenConflicts t ≡ conflictsOf t) where
         λ i. record { given = given i; held = held i }
 
 -- the conflicts of an answer are held as they are given
-pub conflicts-alike : (r : Conflicting) {o : Outcome (List Conflict) Structure} → handedConflicting r ≡ whole o
+pub conflicts-alike : (g : Sig) (r : Conflicting) {s : Step} → handedConflicting g r ≡ whole s
     → givenConflicts (r .conflicts) ≡ conflictsOf (r .conflicts)
-conflicts-alike r is = ap (λ (o : Outcome (List Conflict) Structure). listOf (o .answer)) (given-held-alike is)
-  where
-    listOf : Answered (List Conflict) → List Conflict
-    listOf (accepted cs) = cs
-    listOf (refused n) = []
+conflicts-alike g r is = let same = ap (λ (s : Step). s .answer) (given-held-alike is) in cc

@@ -17,7 +17,7 @@ use Rattle.ids.proofs.Sorted.{all-map, all-join, all-at}
 use Rattle.unification.specs.Roots.{rootOf}
 use Rattle.semantics.specs.Structure.{Fact, Structure}
 use Rattle.semantics.specs.Types.{factsAt, concreteTypesOf}
-use Rattle.semantics.specs.Conflicts.{Conflict, disagree, firstConflict, conflictAmong, conflictAt, conflictsBelow, typeConflicts}
+use Rattle.semantics.specs.Conflicts.{Conflict, conflict, disagree, firstConflict, conflictAmong, conflictAt, conflictsBelow, typeConflicts}
 use Rattle.semantics.proofs.Orders.{order-less}
 use Rattle.conflicts.proofs.Laws.{at-length}
 
@@ -57,7 +57,7 @@ first-found ls e f [] = tt
 first-found ls e f (g ∷ gs) = go (disagree ls f g) refl (first-found ls e f gs)
   where
     go : (t : Bool) → disagree ls f g ≡ t → All (Differing ls e) (firstConflict ls e f gs)
-        → All (Differing ls e) (elim t [ true ↦ record { el = e; a = f; b = g } ∷ [] | false ↦ firstConflict ls e f gs ])
+        → All (Differing ls e) (elim t [ true ↦ conflict e f g ∷ [] | false ↦ firstConflict ls e f gs ])
     go true d h = ((refl, d), tt)
     go false d h = h
 

@@ -72,13 +72,7 @@ impl TypeConflicts {
     pub fn new() -> Self
         ensures { λ r. ⌜ handedConflicts r ≡ whole [] ⌝ }
     {
-        let none = Fact {
-            el: ElId(0),
-            ct: ConcreteType {
-                typ: TypeId(0),
-                parents: ElIds::new(),
-            },
-        };
+        let none = Fact::new(ElId(0), TypeId(0), ElIds::new());
         let conflict = TypeConflict {
             el: ElId(0),
             a: none,
@@ -182,7 +176,7 @@ fn find_conflicts(unification: Unification, facts: Facts) -> TypeConflicts
 
 // Kind 14.
 pub fn type_conflicts(structure: Structure) -> Conflicting
-    ensures { λ r. ⌜ (g : Sig) → handedConflicting g r ≡ whole (step type-conflicts (machine g (structureOf structure))) ⌝ }
+    ensures { λ r. ⌜ ((g : Sig) → handedConflicting g r ≡ whole (step type-conflicts (machine g (structureOf structure)))) ⌝ }
 {
     let u = structure.unification;
     let facts = structure.els;

@@ -47,7 +47,7 @@ use Rattle.history.proofs.Functionality.{found-agrees, found-says}
 use Rattle.history.proofs.Passes.{HoldsOfCore, Ready, Sound}
 use Rattle.history.proofs.Closing.{ClosedSoundly, unmet, run-soundly}
 
--- what a partition and a claim on applications say of a book
+-- a partition and a claim on applications hold of a book: the elements of each equality are together, and each application has the claim
 abbrev pub HoldsOfBook : (ℕ → ℕ → Type 0) → (FuncApp → Type 0) → Book → Type 0
 HoldsOfBook R S b = All (HoldsOfPair R) (b .equalities) × All S (b .apps)
 
@@ -57,7 +57,7 @@ pub record Tied (b : Book) (w : Core) (xs : List FuncApp) : Type 1 where
   pub small : elements b ≤ maxEls
   -- elements are roots and merges
   pub sum : roots (w .links) + b .merges ≡ elements b
-  -- a partition agrees with the book exactly when it agrees with the structure
+  -- a partition holds of the book exactly when it holds of the structure
   pub on : (R : ℕ → ℕ → Type 0) (S : FuncApp → Type 0) → Equivalence R → Respects R S → HoldsOfBook R S b → HoldsOfCore R S w xs
   pub back : (R : ℕ → ℕ → Type 0) (S : FuncApp → Type 0) → Equivalence R → Respects R S → HoldsOfCore R S w xs → HoldsOfBook R S b
 
@@ -95,7 +95,7 @@ relinked b w xs e g h =
       back = λ R S q law f. g .back R S q law (z .back R S q law f);
     }
 
--- A pair queued by `equate`, where the book b′ holds of a partition exactly when b does and the partition has the pair.
+-- A pair queued by `equate`, where a partition holds of the book b′ exactly when it holds of b and puts the pair together.
 
 module _ (b b′ : Book) (w : Core) (xs : List FuncApp) (x y : ℕ) (g : Tied b w xs) (hx : x < elements b) (hy : y < elements b)
     (many : elements b′ ≡ elements b) (merged : b′ .merges ≡ b .merges)
@@ -250,7 +250,7 @@ module _ (b : Book) (w : Core) (xs : List FuncApp) (x : FuncApp) (g : Tied b w x
       go none e = key-new e
       go (some z) e = by z e (eqb (z .result) (y .result)) refl
 
--- as many links are left
+-- it leaves as many links
 module _ (x : FuncApp) (ls : List ℕ) (ps : List Pair) (xs : List FuncApp) where
   abbrev AsLong : Applied → Type 0
   AsLong a = length (a .links) ≡ length ls

@@ -1,4 +1,4 @@
--- The classes of a book that is tied to a structure in which nothing is left to join: they are those of the roots.
+-- The classes of a book that is tied to a structure in which nothing remains to join: they are those of the roots.
 use mathlib.Core.Path.{_≡_, refl, sym, subst, ap, _∙_}
 use mathlib.Core.Logic.{_≢_, _⊎_, inl, inr}
 use mathlib.Core.Bool.{Bool, true, false}

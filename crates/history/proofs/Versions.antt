@@ -1,4 +1,4 @@
--- The rule with its parts left open, of which `Conservation` is the one with the right parts: what a version of it replaces is one part.
+-- The rule with its parts as parameters, of which `Conservation` is the one with the right parts: what a version of it replaces is one part.
 use mathlib.Core.Path.{_≡_, refl, sym, subst}
 use mathlib.Core.Logic.{_↔_}
 use mathlib.Core.Bool.{Bool, false}

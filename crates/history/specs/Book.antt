@@ -93,7 +93,7 @@ mergesOf (refuse n) = 0
 
 -- The lists of calls.
 
--- where a list has come to: what its calls left, with the book beside it
+-- where a list has come to: what its calls leave, with the book beside it
 pub record History : Type 0 where
   pub machine : Machine
   pub book : Book

@@ -11,8 +11,8 @@ use lib.Dec.{ltb}
 use Rattle.ids.specs.Answers.{tooManyFacts}
 use Rattle.ids.specs.Table.{present, placed}
 use Rattle.unification.specs.Roots.{rootOf, follow}
-use Rattle.semantics.specs.Structure.{Fact, compareFact, canonicalFact, maxFacts}
-use Rattle.semantics.specs.Types.{Core, with-added, with-met, refineAll, insertFact, insertCanonical, factsAt, concreteTypesOf, impose}
+use Rattle.semantics.specs.Structure.{Fact, fact, compareFact, canonicalFact, maxFacts}
+use Rattle.semantics.specs.Types.{Core, core, with-added, firstMet, with-met, refineAll, insertFact, insertCanonical, factsAt, concreteTypesOf, impose}
 use Rattle.imposing.specs.Idle.{keepsRoots, keepsPair, keepsParents, keepsFact, keepsAll, keepsTypes, isIdle}
 use Rattle.imposing.proofs.Kept.{Tells, types-tell}
 use Rattle.imposing.proofs.Nothing.{idle-same}
@@ -40,7 +40,7 @@ insert-same f w m e = go (present compareFact f (w .facts)) (ltb (length (w .fac
     go false true e = let more = ap (λ (x : Core). x .added) e in absurd (omega arith)
     go false false e =
         let first : some tooManyFacts ≡ none =
-        sym (ap (λ (o : Option ℕ). elim o as (λ _. Option ℕ) [ none ↦ some tooManyFacts | some n ↦ some n ]) m) ∙ ap (λ (x : Core). x .met) e ∙ m in
+        sym (ap (firstMet tooManyFacts) m) ∙ ap (λ (x : Core). x .met) e ∙ m in
         let z : _≡_ {A = ℕ} 0 1 = cc in
         absurd (omega arith)
 
@@ -67,18 +67,10 @@ idle-exactly f w m = (idle-same f w, idle-only f w m)
 -- type has a parent with another root, which is marked.
 
 unfoldable pub at-one : ℕ → Fact
-at-one p = record { el = 1; typ = 0; parents = p ∷ [] }
+at-one p = fact 1 0 (p ∷ [])
 
 unfoldable pub two-facts : Bool → Core
-two-facts mark = record {
-  links = 0 ∷ 1 ∷ 2 ∷ [];
-  marks = mark ∷ false ∷ false ∷ [];
-  facts = at-one 0 ∷ at-one 2 ∷ [];
-  pairs = [];
-  merges = 0;
-  added = 0;
-  met = none;
-}
+two-facts mark = core (0 ∷ 1 ∷ 2 ∷ []) (mark ∷ false ∷ false ∷ []) (at-one 0 ∷ at-one 2 ∷ []) [] 0 0 none
 
 pub unmarked-idle : isIdle (at-one 2) (two-facts false) ≡ true
 unfolding present compareFact canonicalFact factsAt rootOf follow keepsRoots keepsPair keepsParents keepsFact keepsAll at-one two-facts

@@ -16,7 +16,7 @@ use Rattle.ids.specs.Table.{placed, rewriteInto}
 use Rattle.ids.proofs.Views.{view-next, view-done}
 use Rattle.unification.specs.Roots.{rootOf, FindM, findOf}
 use Rattle.unification.proofs.Laws.{root-root}
-use Rattle.semantics.specs.Structure.{Fact, Pair, compareFact, canonicalFact}
+use Rattle.semantics.specs.Structure.{Fact, Pair, pair, compareFact, canonicalFact}
 use Rattle.semantics.specs.Types.{Core, with-pairs, marked, merge, joinRoots, join, drainPairs, drain, refineRoots, refine, refineParents, refineAll}
 use Rattle.semantics.specs.Types.{factsAt, concreteTypesOf}
 use Rattle.semantics.proofs.Orders.{fact-same}
@@ -54,7 +54,7 @@ drained-not-fewer (p ∷ ps) w = omega (arith, join-not-fewer p w, drained-not-f
 
 -- two roots, joined by roots
 join-more : (a b : ℕ) (w : Core) → rootOf (w .links) a ≡ a → rootOf (w .links) b ≡ b → eqb a b ≡ false
-    → w .merges < join (record { lhs = a; rhs = b }) w .merges
+    → w .merges < join (pair a b) w .merges
 unfolding join joinRoots merge
 join-more a b w p q e = rw (p, q, e, joinRoots) (omega arith)
 
@@ -69,12 +69,11 @@ pair-tells p q w = go (eqb a b) refl (marked (w .marks) a || marked (w .marks) b
     b = rootOf (w .links) q
 
     go : (t : Bool) → eqb a b ≡ t → (m : Bool)
-        → Tells (t || not m) w (elim (not t && m) [ true ↦ drain (with-pairs (record { lhs = a; rhs = b } ∷ w .pairs) w) | false ↦ w ])
+        → Tells (t || not m) w (elim (not t && m) [ true ↦ drain (with-pairs (pair a b ∷ w .pairs) w) | false ↦ w ])
     go true e m = refl
     go false e true =
         let start = with-pairs [] w in
-        let x : Pair = record { lhs = a; rhs = b } in
-        omega (arith, join-more a b start (root-root (w .links) p) (root-root (w .links) q) e, drained-not-fewer (w .pairs) (join x start))
+        omega (arith, join-more a b start (root-root (w .links) p) (root-root (w .links) q) e, drained-not-fewer (w .pairs) (join (pair a b) start))
     go false e false = refl
 
 parents-tell : (ps qs : List ℕ) (w : Core) → Tells (keepsParents (w .links) (w .marks) ps qs) w (refineParents ps qs w)
@@ -195,10 +194,10 @@ module _ (ls : List ℕ) (ms : List Bool) (none : (e : ℕ) → marked ms e ≡ 
       go false = refl
 
 -- Two parents, by the finds of their roots.
-module _ (ls : List ℕ) (ms : List Bool) (p q : ℕ) {x y : FindM} (left : x ≡ findOf ls p) (right : y ≡ findOf ls q) where
+module _ (ls : List ℕ) (ms : List Bool) (p q : ℕ) {x y : FindM} (first : x ≡ findOf ls p) (second : y ≡ findOf ls q) where
   by-roots : keepsRoots ms (x .root) (y .root) ≡ keepsPair ls ms p q
   unfolding keepsPair findOf
-  by-roots = λ i. keepsRoots ms (left i .root) (right i .root)
+  by-roots = λ i. keepsRoots ms (first i .root) (second i .root)
 
   -- they have one root
   pub pair-one : x .root ≡ y .root → true ≡ keepsPair ls ms p q

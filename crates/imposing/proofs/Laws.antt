@@ -19,9 +19,9 @@ use Rattle.ids.proofs.Answers.{and-right}
 use Rattle.ids.proofs.Tables.{insert-present, insert-full, insert-new}
 use Rattle.ids.proofs.Views.{view-next, view-done}
 use Rattle.unification.specs.Roots.{linksOf, FindM, findOf}
-use Rattle.semantics.specs.Structure.{Fact, maxFacts, compareFact, canonicalFact}
+use Rattle.semantics.specs.Structure.{Fact, pair, maxFacts, compareFact, canonicalFact}
 use Rattle.semantics.specs.Types as types
-use Rattle.semantics.specs.Types.{with-pairs, with-added, with-met, marked, join, drainPairs, drain, refineRoots, refine, refineParents}
+use Rattle.semantics.specs.Types.{core, with-pairs, with-added, firstMet, with-met, marked, join, drainPairs, drain, refineRoots, refine, refineParents}
 use Rattle.semantics.specs.Types.{refineAll, insertFact, insertCanonical, concreteTypesOf, impose, imposeAll}
 use Rattle.facts.specs.declared.Fact as code
 use Rattle.facts.specs.declared.Facts.{Facts}
@@ -35,10 +35,10 @@ use Rattle.merging.specs.View.{coreOf, marksOf, metOf, Toward, Passes}
 use Rattle.merging.proofs.Laws.{counts}
 
 -- Two parents, by the finds of their roots.
-module _ (p q : ℕ) (w : types.Core) {x y : FindM} (left : x ≡ findOf (w .links) p) (right : y ≡ findOf (w .links) q) where
+module _ (p q : ℕ) (w : types.Core) {x y : FindM} (first : x ≡ findOf (w .links) p) (second : y ≡ findOf (w .links) q) where
   refine-roots : refineRoots (x .root) (y .root) w ≡ refine p q w
   unfolding refine findOf
-  refine-roots = λ i. refineRoots (left i .root) (right i .root) w
+  refine-roots = λ i. refineRoots (first i .root) (second i .root) w
 
   -- they have one root
   pub refine-same : x .root ≡ y .root → w ≡ refine p q w
@@ -52,7 +52,7 @@ module _ (p q : ℕ) (w : types.Core) {x y : FindM} (left : x ≡ findOf (w .lin
 
   -- the new pair is drained, then the queue
   pub refine-merged : (x .root ≡ y .root → ⊥) → (marked (w .marks) (x .root) || marked (w .marks) (y .root)) ≡ true
-      → drainPairs (w .pairs) (join (record { lhs = x .root; rhs = y .root }) (with-pairs [] w)) ≡ refine p q w
+      → drainPairs (w .pairs) (join (pair (x .root) (y .root)) (with-pairs [] w)) ≡ refine p q w
   unfolding refineRoots drain drainPairs
   refine-merged d t = sym (rw (ne-eqb (x .root) (y .root) d, t, refineRoots)) ∙ refine-roots
 
@@ -72,12 +72,12 @@ module _ (ps qs : ElIds) (i : ℕ) where
   parents-short h w =
       let more : length (elsOf qs) ≤ i + 1 = omega arith in
       ap (λ (l : List ℕ). refineParents (drop (i + 1) (elsOf ps)) l w) (view-done elOf (qs .len) (qs .ids) (i + 1) more)
-      ∙ none-left (drop (i + 1) (elsOf ps))
-      ∙ sym (ap (λ (l : List ℕ). refineParents (drop i (elsOf ps)) l w) (view-done elOf (qs .len) (qs .ids) i h) ∙ none-left (drop i (elsOf ps)))
+      ∙ no-parents (drop (i + 1) (elsOf ps))
+      ∙ sym (ap (λ (l : List ℕ). refineParents (drop i (elsOf ps)) l w) (view-done elOf (qs .len) (qs .ids) i h) ∙ no-parents (drop i (elsOf ps)))
     where
-      none-left : (l : List ℕ) → refineParents l [] w ≡ w
-      none-left [] = refl
-      none-left (x ∷ xs) = refl
+      no-parents : (l : List ℕ) → refineParents l [] w ≡ w
+      no-parents [] = refl
+      no-parents (x ∷ xs) = refl
 
   pub parents-done : length (elsOf ps) ≤ i → (w : types.Core) → w ≡ refineParents (drop i (elsOf ps)) (drop i (elsOf qs)) w
   unfolding refineParents
@@ -115,16 +115,7 @@ inserting g w =
       | true ↦ with-met tooManyFacts w
       | false ↦ elim (g .grew) [
         | true ↦ with-added (g .items) w
-        | false ↦
-            record {
-              links = w .links;
-              marks = w .marks;
-              facts = g .items;
-              pairs = w .pairs;
-              merges = w .merges;
-              added = w .added;
-              met = w .met;
-            }
+        | false ↦ core (w .links) (w .marks) (g .items) (w .pairs) (w .merges) (w .added) (w .met)
       ]
     ]
 
@@ -144,22 +135,16 @@ insert-is f w e = ap (λ (g : Insertion Fact). inserting g w) e ∙ go (present 
         ap (λ (g : Insertion Fact). inserting g w) (insert-new compareFact f maxFacts (w .facts) y h)
         ∙ sym (rw (y, lt-ltb (length (w .facts)) maxFacts h, insertFact))
 
--- a core with another number met, or another table of facts
-abbrev pub remet : Core → ℕ → Core
-remet c n = record { unification = c .unification; marks = c .marks; facts = c .facts; pairs = c .pairs; met = n }
-
-abbrev pub refilled : Core → Facts → Core
-refilled c t = record { unification = c .unification; marks = c .marks; facts = t; pairs = c .pairs; met = c .met }
+-- a core of the code with another table of facts and another number met
+abbrev pub withFacts : Core → Facts → ℕ → Core
+withFacts c t n = record { unification = c .unification; marks = c .marks; facts = t; pairs = c .pairs; met = n }
 
 -- the number first met stays
-abbrev pub firstMet : Option ℕ → Option ℕ
-firstMet o = elim o [ none ↦ some tooManyFacts | some m ↦ some m ]
+pub met-first : (n : ℕ) → n ≡ 0 → metOf tooManyFacts ≡ firstMet tooManyFacts (metOf n)
+met-first n e = ap (λ (k : ℕ). firstMet tooManyFacts (metOf k)) (sym e)
 
-pub met-first : (n : ℕ) → n ≡ 0 → metOf tooManyFacts ≡ firstMet (metOf n)
-met-first n e = ap (λ (k : ℕ). firstMet (metOf k)) (sym e)
-
-pub met-again : (n : ℕ) → (n ≡ 0 → ⊥) → metOf n ≡ firstMet (metOf n)
-met-again n d = let e : metOf n ≡ some n = rw (ne-eqb n 0 d, metOf) in e ∙ sym (ap firstMet e)
+pub met-again : (n : ℕ) → (n ≡ 0 → ⊥) → metOf n ≡ firstMet tooManyFacts (metOf n)
+met-again n d = let e : metOf n ≡ some n = rw (ne-eqb n 0 d, metOf) in e ∙ sym (ap (firstMet tooManyFacts) e)
 
 -- by what the table's insertion gives
 module _ (c : Core) (f : Fact) (r : InsertedFact) (is : inserted r ≡ insertOf compareFact f maxFacts (factsOf (c .facts))) where
@@ -175,21 +160,13 @@ module _ (c : Core) (f : Fact) (r : InsertedFact) (is : inserted r ≡ insertOf 
       ap (λ (x : Bool). inserting (record { grew = x; full = false; items = factsOf (r .facts) }) (coreOf c m a)) (sym e) ∙ by-full false h m a
 
   -- it had no room
-  pub refused : (n : ℕ) → r .full ≡ true → metOf n ≡ firstMet (metOf (c .met))
-      → Toward c (remet c n) 0 0 1 (λ w. w) (insertFact f)
+  pub refused : (n : ℕ) → r .full ≡ true → metOf n ≡ firstMet tooManyFacts (metOf (c .met))
+      → Toward c (withFacts c (c .facts) n) 0 0 1 (λ w. w) (insertFact f)
   unfolding inserting
   refused n h e = record {
     is = λ m a.
         (λ i.
-        record {
-          links = linksOf (c .unification);
-          marks = marksOf c;
-          facts = factsOf (c .facts);
-          pairs = pairsOf (c .pairs);
-          merges = zero-add m i;
-          added = zero-add a i;
-          met = e i;
-        })
+        core (linksOf (c .unification)) (marksOf c) (factsOf (c .facts)) (pairsOf (c .pairs)) (zero-add m i) (zero-add a i) (e i))
         ∙ by-full true h m a;
     merges-most = omega arith;
     added-most = omega arith;
@@ -197,20 +174,20 @@ module _ (c : Core) (f : Fact) (r : InsertedFact) (is : inserted r ≡ insertOf 
 
   -- the table grew
   pub grown : r .full ≡ false → r .grew ≡ true
-      → Toward c (refilled c (r .facts)) 0 1 1 (λ w. w) (insertFact f)
+      → Toward c (withFacts c (r .facts) (c .met)) 0 1 1 (λ w. w) (insertFact f)
   unfolding inserting
   grown h e = record {
-    is = λ m a. counts (refilled c (r .facts)) (zero-add m) (add-comm 1 a ∙ add-one a) ∙ by-grew h true e m a;
+    is = λ m a. counts (withFacts c (r .facts) (c .met)) (zero-add m) (add-comm 1 a ∙ add-one a) ∙ by-grew h true e m a;
     merges-most = omega arith;
     added-most = omega arith;
   }
 
   -- it was there
   pub known : r .full ≡ false → r .grew ≡ false
-      → Toward c (refilled c (r .facts)) 0 0 1 (λ w. w) (insertFact f)
+      → Toward c (withFacts c (r .facts) (c .met)) 0 0 1 (λ w. w) (insertFact f)
   unfolding inserting
   known h e = record {
-    is = λ m a. counts (refilled c (r .facts)) (zero-add m) (zero-add a) ∙ by-grew h false e m a;
+    is = λ m a. counts (withFacts c (r .facts) (c .met)) (zero-add m) (zero-add a) ∙ by-grew h false e m a;
     merges-most = omega arith;
     added-most = omega arith;
   }

@@ -13,7 +13,7 @@ use Rattle.ids.specs.declared.Ordering.the-variants.{Less, Equal, Greater}
 use Rattle.ids.specs.Table.{present}
 use Rattle.semantics.specs.Structure.{Fact, compareFact, canonicalFact}
 use Rattle.semantics.specs.Types as types
-use Rattle.semantics.specs.Types.{imposeAll, marked, refineAll, insertFact, insertCanonical, concreteTypesOf, impose}
+use Rattle.semantics.specs.Types.{imposeAll, marked, anyMarked, refineAll, insertFact, insertCanonical, concreteTypesOf, impose}
 use Rattle.semantics.proofs.Cases.{and-first, and-second}
 use Rattle.facts.specs.declared.Fact as code
 use Rattle.facts.specs.declared.Impositions.{Impositions}
@@ -21,7 +21,7 @@ use Rattle.facts.specs.View.{factOf, impositionsOf}
 use Rattle.merging.specs.declared.Core.{Core}
 use Rattle.merging.specs.View.{coreOf, Toward}
 use Rattle.merging.proofs.Laws.{leaves-here}
-use Rattle.imposing.specs.Idle.{anyMarked, keepsTypes, isIdle}
+use Rattle.imposing.specs.Idle.{keepsTypes, isIdle}
 use Rattle.imposing.proofs.Kept.{Tells, all-tell, types-tell, all-free}
 use Rattle.imposing.proofs.Laws.{impositions-next}
 

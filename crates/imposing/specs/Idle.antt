@@ -1,7 +1,7 @@
 -- When imposing a fact changes nothing: no parents are merged, and nothing is inserted (01, "To impose a fact").
 -- `idle-exactly` of the proofs says that this is exactly so where no number was met.
 use Prim.Native.Nat.{ℕ}
-use mathlib.Core.Bool.{Bool, true, false, not, _&&_, _||_}
+use mathlib.Core.Bool.{Bool, true, not, _&&_, _||_}
 use mathlib.Core.List.{List, [], _∷_}
 use lib.Dec.{eqb}
 use Rattle.ids.specs.Table.{present}
@@ -9,18 +9,13 @@ use Rattle.unification.specs.Roots.{rootOf}
 use Rattle.semantics.specs.Structure.{Fact, compareFact, canonicalFact}
 use Rattle.semantics.specs.Types.{Core, marked, factsAt}
 
--- whether one of the marks is set
-unfoldable pub anyMarked : List Bool → Bool
-anyMarked [] = false
-anyMarked (m ∷ ms) = m || anyMarked ms
-
--- "Where two roots differ and either is marked": whether these two are left unmerged
+-- "Where two roots differ and either is marked": whether these two stay apart
 unfoldable pub keepsRoots : List Bool → ℕ → ℕ → Bool
 keepsRoots ms a b = eqb a b || not (marked ms a || marked ms b)
 
 -- with the links ls and the marks ms
 module _ (ls : List ℕ) (ms : List Bool) where
-  -- whether these two parents are left unmerged
+  -- whether these two parents stay apart
   unfoldable pub keepsPair : ℕ → ℕ → Bool
   keepsPair p q = keepsRoots ms (rootOf ls p) (rootOf ls q)
 

@@ -18,10 +18,10 @@ ghost use Rattle.ids.specs.Table.{present};
 ghost use Rattle.unification.specs.Roots.{linksOf};
 ghost use Rattle.semantics.specs.Structure.{compareFact};
 ghost use Rattle.facts.specs.View.{factOf, factsOf, impositionsOf};
-ghost use Rattle.semantics.specs.Types.{refine, refineParents, refineAll, insertFact, impose, imposeAll};
+ghost use Rattle.semantics.specs.Types.{anyMarked, refine, refineParents, refineAll, insertFact, impose, imposeAll};
 ghost use Rattle.merging.specs.View.{coreOf, marksOf, Passes};
 ghost use Rattle.imposing.specs.Bounds.{onePair, oneList, oneFact, oneImposed, allImpositions};
-ghost use Rattle.imposing.specs.Idle.{anyMarked, keepsPair, keepsParents, keepsTypes, isIdle};
+ghost use Rattle.imposing.specs.Idle.{keepsPair, keepsParents, keepsTypes, isIdle};
 
 // A pass that finds nothing to do.
 fn idle(core: Core) -> Worked
@@ -52,12 +52,12 @@ fn refine(core: Core, p: ElId, q: ElId) -> Worked
     let pairs = core.pairs;
     let mut emptied = core;
     emptied.pairs = Pairs::new();
-    let joined = emptied.join(Pair { left: a, right: b });
+    let joined = emptied.join(Pair::new(a, b));
     let merged = joined.core;
     let drained = merged.drain_pairs(pairs);
-    let left = drained.core;
+    let next = drained.core;
     Worked {
-        core: left,
+        core: next,
         merges: joined.merges + drained.merges,
         added: joined.added + drained.added,
     }
@@ -275,9 +275,9 @@ pub fn impose_concrete_type(core: Core, fact: Fact) -> Worked
     let now = refined.core;
     let entry = canonical::canonical_fact(now.unification, fact);
     let inserted = insert_fact(now, entry);
-    let left = inserted.core;
+    let next = inserted.core;
     Worked {
-        core: left,
+        core: next,
         merges: refined.merges + inserted.merges,
         added: refined.added + inserted.added,
     }

@@ -13,12 +13,12 @@ use Rattle.ids.specs.Table.{Sized, Insertion, placed, lookupOf, insertOf}
 use Rattle.ids.proofs.Sorted.{Sorted, placed-length, placed-sorted}
 use Rattle.ids.proofs.Tables.{insert-room}
 use Rattle.ids.proofs.Views.{view-next, view-done}
-use Rattle.semantics.specs.Structure.{FuncApp, Pair, maxPairs, maxFuncApps, compareFuncApp, canonicalFuncApp}
+use Rattle.semantics.specs.Structure.{FuncApp, Pair, pair, maxPairs, maxFuncApps, compareFuncApp, canonicalFuncApp, resultOf}
 use Rattle.semantics.proofs.Orders.{func-app-ordered}
-use Rattle.semantics.specs.Close.{Rewritten, enterAt, enter, enterAll}
+use Rattle.semantics.specs.Close.{Rewritten, rewriting, enterAt, enter, enterAll}
 use Rattle.apps.specs.declared.FuncApp as code
 use Rattle.apps.specs.declared.FuncApps.{FuncApps}
-use Rattle.apps.specs.View.{funcAppOf, funcAppsOf, resultOf}
+use Rattle.apps.specs.View.{funcAppOf, funcAppsOf}
 use Rattle.bindings.specs.declared.Slot.{Slot}
 use Rattle.bindings.specs.View.{slotsFrom}
 use Rattle.bindings.proofs.Slots.{slot-given, slot-empty}
@@ -34,11 +34,11 @@ queue-room ps p h = rw (lt-ltb (length ps) maxPairs h, queuedOf)
 module _ (z : FuncApp) (t : Rewritten) where
   -- it is stored
   abbrev stored : Rewritten
-  stored = record { apps = placed compareFuncApp z (t .apps); pairs = t .pairs; queued = t .queued }
+  stored = rewriting (placed compareFuncApp z (t .apps)) (t .pairs) (t .queued)
 
   -- its result is queued
   abbrev queues : ℕ → Rewritten
-  queues e = record { apps = t .apps; pairs = record { lhs = e; rhs = z .result } ∷ t .pairs; queued = true }
+  queues e = rewriting (t .apps) (pair e (z .result) ∷ t .pairs) true
 
   enter-new : none ≡ resultOf (lookupOf compareFuncApp z (t .apps)) → stored ≡ enter z t
   unfolding enter enterAt
@@ -75,12 +75,12 @@ pub record Entered (ls : List ℕ) (whole : List FuncApp) (i : ℕ) (t : Rewritt
   pub rest : enterAll ls (drop i whole) t ≡ enterAll ls whole nothing
 
 pub entered-none : (ls : List ℕ) (whole : List FuncApp) {apps : List FuncApp} {pairs : List Pair} → apps ≡ [] → pairs ≡ []
-    → Entered ls whole 0 (record { apps = apps; pairs = pairs; queued = false })
+    → Entered ls whole 0 (rewriting apps pairs false)
 entered-none ls whole p q = record {
   few = omega (arith, ap (length {A = FuncApp}) p);
   sorted = rw p tt;
   short = omega (arith, ap (length {A = Pair}) q);
-  rest = λ k. enterAll ls whole (record { apps = p k; pairs = q k; queued = false });
+  rest = λ k. enterAll ls whole (rewriting (p k) (q k) false);
 }
 
 module _ {ls : List ℕ} (apps : FuncApps) {size i : ℕ} {t : Rewritten} (sized : Sized (funcAppsOf apps) maxFuncApps size)
@@ -95,16 +95,16 @@ module _ {ls : List ℕ} (apps : FuncApps) {size i : ℕ} {t : Rewritten} (sized
         ∙ now .rest
 
     pub entered-placed : {next : List FuncApp} → next ≡ placed compareFuncApp z (t .apps) → none ≡ resultOf (lookupOf compareFuncApp z (t .apps))
-        → Entered ls (funcAppsOf apps) (i + 1) (record { apps = next; pairs = t .pairs; queued = t .queued })
+        → Entered ls (funcAppsOf apps) (i + 1) (rewriting next (t .pairs) (t .queued))
     entered-placed put absent = record {
       few = omega (arith, now .few, ap (length {A = FuncApp}) put, placed-length compareFuncApp z (t .apps));
       sorted = rw put (placed-sorted func-app-ordered z (t .apps) (now .sorted));
       short = omega (arith, now .short);
-      rest = on ((λ k. record { apps = put k; pairs = t .pairs; queued = t .queued }) ∙ enter-new z t absent);
+      rest = on ((λ k. rewriting (put k) (t .pairs) (t .queued)) ∙ enter-new z t absent);
     }
 
     pub entered-new : {g : Insertion FuncApp} → g ≡ insertOf compareFuncApp z maxFuncApps (t .apps) → none ≡ resultOf (lookupOf compareFuncApp z (t .apps))
-        → Entered ls (funcAppsOf apps) (i + 1) (record { apps = g .items; pairs = t .pairs; queued = t .queued })
+        → Entered ls (funcAppsOf apps) (i + 1) (rewriting (g .items) (t .pairs) (t .queued))
     entered-new made absent =
         let room : length (t .apps) < maxFuncApps = omega (arith, now .few, sized .most) in
         entered-placed (ap (λ (w : Insertion FuncApp). w .items) made ∙ insert-room compareFuncApp z maxFuncApps (t .apps) room) absent
@@ -117,16 +117,16 @@ module _ {ls : List ℕ} (apps : FuncApps) {size i : ℕ} {t : Rewritten} (sized
       rest = on (enter-same z t e found same);
     }
 
-    pub entered-other : (e : ℕ) {ps : List Pair} → ps ≡ queuedOf (t .pairs) (record { lhs = e; rhs = z .result })
+    pub entered-other : (e : ℕ) {p : Pair} {ps : List Pair} → p ≡ pair e (z .result) → ps ≡ queuedOf (t .pairs) p
         → some e ≡ resultOf (lookupOf compareFuncApp z (t .apps)) → (e ≡ z .result → ⊥)
-        → Entered ls (funcAppsOf apps) (i + 1) (record { apps = t .apps; pairs = ps; queued = true })
-    entered-other e {ps} made found differ =
+        → Entered ls (funcAppsOf apps) (i + 1) (rewriting (t .apps) ps true)
+    entered-other e {p} {ps} is-pair made found differ =
         let room : length (t .pairs) < maxPairs = omega (arith, now .short, sized .most) in
-        let put : ps ≡ record { lhs = e; rhs = z .result } ∷ t .pairs = made ∙ queue-room (t .pairs) (record { lhs = e; rhs = z .result }) room in record {
+        let put : ps ≡ pair e (z .result) ∷ t .pairs = made ∙ queue-room (t .pairs) p room ∙ ap (λ (x : Pair). x ∷ t .pairs) is-pair in record {
           few = omega (arith, now .few);
           sorted = now .sorted;
           short = omega (arith, now .short, ap (length {A = Pair}) put);
-          rest = on ((λ k. record { apps = t .apps; pairs = put k; queued = true }) ∙ enter-other z t e found differ);
+          rest = on ((λ k. rewriting (t .apps) (put k) true) ∙ enter-other z t e found differ);
         }
 
   -- all are

@@ -56,10 +56,7 @@ pub fn functionality(unification: Unification, apps: FuncApps) -> Rewritten
         if existing.0 == result.0 {
             continue;
         }
-        pairs = pairs.push(Pair {
-            left: existing,
-            right: result,
-        });
+        pairs = pairs.push(Pair::new(existing, result));
         queued = true;
     }
     Rewritten {

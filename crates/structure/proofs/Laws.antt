@@ -1,49 +1,86 @@
--- Laws that the proofs of several functions cite: of accepted calls, of equalities, of tables of slots, and of the ambient lookup.
+-- Laws that the proofs of several functions cite: of accepted calls, of finds, of equalities, of tables of slots, and of the ambient lookup.
 -- The proofs take an array's length by its path (`.good` of an argument, `.ok` of a result), since a search enters no more than 128 records.
 use mathlib.Core.Path.{_≡_, refl, sym, ap, _∙_}
-use mathlib.Core.Bool.{Bool, false}
+use mathlib.Core.Bool.{Bool, true, false}
 use mathlib.Core.List.{List, [], _∷_, _++_, map, append-assoc}
 use mathlib.Core.Option.{Option, none, some}
 use Prim.Native.Nat.{ℕ, _+_, _≤_, _<_}
 use native.Mathlib.Omega.{arith}
 use lib.ListN.{length, take, set}
-use lib.Dec.{leb}
 use borrow.Author.Tests.{lt-ltb}
 use Rattle.ids.specs.declared.ElId.{ElId}
 use Rattle.ids.specs.declared.ElIds.{ElIds}
 use Rattle.ids.specs.declared.Ordering.{Ordering}
-use Rattle.ids.specs.Answers.{accepted, Outcome, _if_, undeclared}
+use Rattle.ids.specs.Answers.{Answered, accepted, refused, firstOf, decided, Outcome, outcome, refusing, accepting}
 use Rattle.ids.specs.Limits.{maxList}
 use Rattle.ids.specs.Ids.{elOf, elsOf, givenEls}
 use Rattle.ids.specs.Table.{placed}
-use Rattle.ids.proofs.Judging.{outcome-all}
+use Rattle.ids.proofs.Judging.{decided-by}
 use Rattle.ids.proofs.Lists.{given-view}
 use Rattle.ids.proofs.Views.{length-view, view-pushed}
+use Rattle.unification.specs.declared.Finding.{Finding}
+use Rattle.unification.specs.declared.Finding.the-variants as findings
 use Rattle.unification.specs.Roots as roots
-use Rattle.unification.specs.Roots.{maxEls, linksOf, shortOf, FindM, findOf}
+use Rattle.unification.specs.Roots.{maxEls, linksOf, shortOf, FindM, findOf, findCauses, answered}
 use Rattle.unification.proofs.Laws.{short-length}
 use Rattle.unification.proofs.Beside.{kept}
+use Rattle.signature.specs.Model.{Sig}
 use Rattle.semantics.specs.Structure as model
-use Rattle.semantics.specs.Structure.{Ambient, maxPairs, with-links, with-marks, with-pairs, accept}
-use Rattle.semantics.specs.Calls.{accepting, Equated, equate, ambientOf, haveAmbients, ambientEls}
+use Rattle.semantics.specs.Structure.{Ambient, maxPairs, with-links, with-marks, with-pairs}
+use Rattle.semantics.specs.Calls as calls
+use Rattle.semantics.specs.Calls.{Answer, Step, Equated, equate, ambientOf, haveAmbients, ambientEls, answers, machine, leaves, settledBy}
+use Rattle.semantics.specs.Calls.{says, withEquality, rule, acceptance, refusal, stepBy, step}
 use Rattle.bindings.specs.View.{boundOf, ambientElOf}
 use Rattle.equalities.specs.declared.Equated as equalities
 use Rattle.equalities.specs.View.{pairsOf, equateIn, equatedOf}
 use Rattle.equalities.proofs.Queue.{equate-room, equate-length}
 use Rattle.structure.specs.declared.Structure.{Structure}
-use Rattle.structure.specs.View.{structureOf}
+use Rattle.structure.specs.View.{structureOf, foundOf}
 
--- an accepted call: what it answers, and the structure that it marks
-pub accepts : {A : Type 0} {v w : A} {t s r : model.Structure} → v ≡ w → t ≡ accepting s → s ≡ r
-    → _≡_ {A = Outcome A model.Structure} (record { answer = accepted v; after = t }) (record { answer = accepted w; after = accepting r })
-accepts {w = w} p q e = (λ i. record { answer = accepted (p i); after = q i }) ∙ (λ i. record { answer = accepted w; after = accepting (e i) })
+-- an accepted call of kinds 6 to 13: what it answers, and what it leaves
+pub accepts : (g : Sig) {r : Step} {a b : Answer} {s t : model.Structure} → r ≡ answers a (machine g (leaves true a s)) → a ≡ b → s ≡ t
+    → r ≡ answers b (machine g (leaves true b t))
+accepts g e p q = e ∙ (λ i. answers (p i) (machine g (leaves true (p i) (q i))))
+
+-- What a find answers.
+
+unfoldable pub findingOf : Answered FindM → Answer
+findingOf (accepted f) = calls.found f
+findingOf (refused n) = calls.refuse n
+
+pub finding : (f : Finding) {a : Answered FindM} → answered f ≡ a → foundOf f ≡ findingOf a
+unfolding findingOf
+finding f e = go f ∙ ap findingOf e
+  where
+    go : (f : Finding) → foundOf f ≡ findingOf (answered f)
+    go (findings.Found f) = refl
+    go (findings.Refused n) = refl
+
+module _ (g : Sig) (s : model.Structure) (e : ℕ) where
+  pub root-steps : let o = roots.root (s .links) e in answers (findingOf (o .answer)) (machine g (with-links (o .after) s)) ≡ step (calls.root e) (machine g s)
+  unfolding step stepBy rule acceptance leaves settledBy roots.root outcome findingOf decided
+  root-steps = go (firstOf (findCauses (s .links) e))
+    where
+      go : (o : Option ℕ) → let r = decided o (refusing (s .links)) (accepting (findOf (s .links) e) (shortOf (s .links) e)) in
+          answers (findingOf (r .answer)) (machine g (with-links (r .after) s)) ≡ decided o (refusal (machine g s)) (acceptance (rule (calls.root e) (machine g s)))
+      go none = refl
+      go (some n) = refl
+
+  pub root-const-steps : answers (findingOf (roots.rootConst (s .links) e .answer)) (machine g s) ≡ step (calls.root-const e) (machine g s)
+  unfolding step stepBy rule acceptance leaves settledBy roots.rootConst outcome findingOf decided
+  root-const-steps = go (firstOf (findCauses (s .links) e))
+    where
+      go : (o : Option ℕ) → let r = decided o (refusing (s .links)) (accepting (findOf (s .links) e) (s .links)) in
+          answers (findingOf (r .answer)) (machine g s) ≡ decided o (refusal (machine g s)) (acceptance (rule (calls.root-const e) (machine g s)))
+      go none = refl
+      go (some n) = refl
 
 -- a find leaves as many links
-pub root-length : (ls : List ℕ) (e : ℕ) → length (roots.root ls e .left) ≡ length ls
-unfolding roots.root
+pub root-length : (ls : List ℕ) (e : ℕ) → length (roots.root ls e .after) ≡ length ls
+unfolding roots.root outcome
 root-length ls e =
-    outcome-all ls (shortOf ls e) (findOf ls e) (λ (o : Outcome FindM (List ℕ)). length (o .left) ≡ length ls)
-    (undeclared if leb (length ls) e ∷ []) (λ n m. refl) (short-length ls e)
+    decided-by (λ (o : Outcome FindM (List ℕ)). length (o .after) ≡ length ls) (findCauses ls e) (refusing ls) (accepting (findOf ls e) (shortOf ls e))
+    (λ n m. refl) (λ none-applies. short-length ls e)
 
 -- What the code leaves of the structure s after an equality, where the queue had room.
 module _ (s : Structure) (e : equalities.Equated) (a b : ℕ)
@@ -53,21 +90,20 @@ module _ (s : Structure) (e : equalities.Equated) (a b : ℕ)
   abbrev equals : Equated
   equals = equate (linksOf (s .unification)) (pairsOf (s .«pending_equalities»)) a b
 
-  abbrev left : model.Structure
-  left =
+  abbrev after : model.Structure
+  after =
       with-links (linksOf (e .unification))
       (with-marks (take (e .unification .len) (s .«inferred_parent_els»)) (with-pairs (pairsOf (e .pairs)) (structureOf s)))
 
-  pub equates : {t : model.Structure} → t ≡ accept (s .settled) left
-      → _≡_ {A = Outcome Bool model.Structure} (record { answer = accepted (e .differ); after = t })
-      (record { answer = accepted (equals .differ); after = accepting (with-links (equals .links) (with-pairs (equals .pairs) (structureOf s))) })
-  equates q =
+  pub equates : (g : Sig) {r : Step} → r ≡ answers (says (e .differ)) (machine g (leaves true (says (e .differ)) after))
+      → r ≡ answers (says (equals .differ)) (machine g (leaves true (says (equals .differ)) (withEquality equals (structureOf s))))
+  unfolding withEquality
+  equates g q =
       let same : equatedOf e ≡ equals = is ∙ equate-room _ _ a b room in
       let many : length (linksOf (e .unification)) ≡ length (linksOf (s .unification)) =
       ap (λ (x : Equated). length (x .links)) same ∙ equate-length _ _ a b in
       let marked = kept (s .unification) (e .unification) (s .«inferred_parent_els») marks us vs many in
-      accepts (ap (λ (x : Equated). x .differ) same) q
-      (λ i. with-links (same i .links) (with-marks (marked i) (with-pairs (same i .pairs) (structureOf s))))
+      accepts g q (λ i. says (same i .differ)) (λ i. with-links (same i .links) (with-marks (marked i) (with-pairs (same i .pairs) (structureOf s))))
 
 -- an entry whose key is below the limit of a table of slots
 pub bound-room : {E : Type 0} (cmp : E → E → Ordering) (limit key : ℕ) (x : E) (l : List E) → key < limit → boundOf cmp limit key x l ≡ placed cmp x l

@@ -85,6 +85,9 @@ pub record Looking : Type 0 where
   pub step : Step
   pub els : List ℕ
 
+abbrev pub beside : Step → List ℕ → Looking
+beside s es = record { step = s; els = es }
+
 abbrev pub parentsIn : Option calls.ConcreteType → List ℕ
 parentsIn none = []
 parentsIn (some t) = t .parents
@@ -102,7 +105,7 @@ elsIn (calls.els es) = es
 elsIn (calls.refuse n) = []
 
 abbrev pub looking : Step → Looking
-looking s = record { step = s; els = elsIn (s .answer) }
+looking s = beside s (elsIn (s .answer))
 
 abbrev pub lookedOf : List ℕ → Looked → calls.Answer
 lookedOf es looked.Found = calls.els es
@@ -110,4 +113,4 @@ lookedOf es (looked.Refused n) = calls.refuse n
 
 -- the elements stand beside the answer, as many as their length says
 abbrev pub lookingOf : calls.Machine → AmbientParents → Looking
-lookingOf m r = record { step = answers (lookedOf (givenEls (r .els)) (r .answer)) m; els = givenEls (r .els) }
+lookingOf m r = beside (answers (lookedOf (givenEls (r .els)) (r .answer)) m) (givenEls (r .els))

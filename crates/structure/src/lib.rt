@@ -21,11 +21,11 @@ use unification::Unification;
 ghost use mathlib.Core.Path.{_≡_};
 ghost use mathlib.Core.Bool.{true};
 ghost use mathlib.Core.List.{[]};
-ghost use Rattle.ids.specs.Ids.{elsOf, givenTypes};
+ghost use Rattle.ids.specs.Ids.{elsOf, typesOf, givenEls, givenTypes};
 ghost use Rattle.signature.specs.Model.{Sig, sigOf};
 ghost use Rattle.semantics.specs.Structure.{empty};
 ghost use Rattle.semantics.specs.Calls.{isEl, areEls, push-el, equate-els, bind-var, bind-ambient, root, root-const, ambient-parents};
-ghost use Rattle.semantics.specs.Calls.{start, machine, answers, refusal, settledBy, leaves, step};
+ghost use Rattle.semantics.specs.Calls.{haveAmbients, ambientEls, start, machine, answers, refusal, settledBy, leaves, step};
 ghost use Rattle.bindings.specs.View.{varOf, ambientOf};
 ghost use Rattle.structure.specs.View.{limits, structureOf, machineOf, answerOf, stepOf, foundOf, rootingOf, looking, lookingOf};
 
@@ -168,7 +168,7 @@ impl Structure {
 
     // A refused call leaves the structure as it was.
     pub fn refuse(self, number: u16) -> Stepped
-        ensures { λ r. ⌜ (g : Sig) → stepOf g r ≡ refusal (machine g (structureOf self)) number ⌝ }
+        ensures { λ r. ⌜ ((g : Sig) → stepOf g r ≡ refusal (machine g (structureOf self)) number) ⌝ }
     {
         Stepped {
             answer: Answer::Refused(number),
@@ -188,7 +188,7 @@ impl Structure {
 
     // What an accepted call of kinds 6 to 14 leaves behind: the flag for number 4, and whether the structure is settled.
     pub fn accept(self, answer: Answer) -> Stepped
-        ensures { λ r. ⌜ (g : Sig) → stepOf g r ≡ answers (answerOf [] answer) (machine g (leaves true (answerOf [] answer) (structureOf self))) ⌝ }
+        ensures { λ r. ⌜ ((g : Sig) → stepOf g r ≡ answers (answerOf [] answer) (machine g (leaves true (answerOf [] answer) (structureOf self)))) ⌝ }
     {
         let mut next = self;
         next.started = true;
@@ -222,7 +222,7 @@ impl Structure {
 
     // Kind 6: an element with its mark.
     pub fn push_el(self, mark: bool) -> Stepped
-        ensures { λ r. ⌜ (g : Sig) → stepOf g r ≡ step (push-el mark) (machine g (structureOf self)) ⌝ }
+        ensures { λ r. ⌜ ((g : Sig) → stepOf g r ≡ step (push-el mark) (machine g (structureOf self))) ⌝ }
     {
         let u = self.unification;
         let at = u.size();
@@ -239,7 +239,7 @@ impl Structure {
 
     // Kind 7: an equality is queued.
     pub fn equate(self, a: ElId, b: ElId) -> Stepped
-        ensures { λ r. ⌜ (g : Sig) → stepOf g r ≡ step (equate-els (a .0) (b .0)) (machine g (structureOf self)) ⌝ }
+        ensures { λ r. ⌜ ((g : Sig) → stepOf g r ≡ step (equate-els (a .0) (b .0)) (machine g (structureOf self))) ⌝ }
     {
         let u = self.unification;
         let pairs = self.pending_equalities;
@@ -261,7 +261,7 @@ impl Structure {
 
     // Kind 11: a variable.
     pub fn insert_var_el(self, v: VarEl) -> Stepped
-        ensures { λ r. ⌜ (g : Sig) → stepOf g r ≡ step (bind-var (varOf v)) (machine g (structureOf self)) ⌝ }
+        ensures { λ r. ⌜ ((g : Sig) → stepOf g r ≡ step (bind-var (varOf v)) (machine g (structureOf self))) ⌝ }
     {
         let table = self.var_els;
         let key = v.key as usize;
@@ -300,6 +300,7 @@ impl Structure {
         ensures { λ r. ⌜ lookingOf (machine (sigOf signature) (structureOf self)) r ≡ looking (step (ambient-parents (givenTypes types)) (machine (sigOf signature) (structureOf self))) ⌝ }
     {
         let found = self.ambient_els(types);
+        let els = found.els;
         let verdict = Verdict::Accepted;
         let verdict = verdict.refuse_if(Refusal::MALFORMED, types.is_too_long());
         let verdict = verdict.refuse_if(Refusal::UNDECLARED, !signature.are_types(types));
@@ -312,13 +313,32 @@ impl Structure {
         }
         AmbientParents {
             answer: Looked::Found,
-            els: found.els,
+            els,
         }
+    }
+
+    // The stored element of each type, in the order asked, and whether each type has one.
+    fn ambient_els(self, types: TypeIds) -> FoundEls
+        ensures all { λ r. ⌜ r .all ≡ haveAmbients (typesOf types) (structureOf self .ambients) ⌝ }
+        ensures els { λ r. ⌜ (r .all ≡ true → givenEls (r .els) ≡ ambientEls (typesOf types) (structureOf self .ambients)) ⌝ }
+    {
+        let mut els = ElIds::new();
+        let table = self.ambient_model_els;
+        let n = types.size();
+        for i in 0..n {
+            let typ = types.ids[i];
+            let Bound::El(el) = table.get(typ) else {
+                return FoundEls { all: false, els };
+            };
+            els.ids[i] = el;
+            els.len = (i + 1) as u16;
+        }
+        FoundEls { all: true, els }
     }
 
     // The public find that alters no link.
     pub fn root_const(self, el: ElId) -> Finding
-        ensures { λ r. ⌜ (g : Sig) → answers (foundOf r) (machine g (structureOf self)) ≡ step (root-const (el .0)) (machine g (structureOf self)) ⌝ }
+        ensures { λ r. ⌜ ((g : Sig) → answers (foundOf r) (machine g (structureOf self)) ≡ step (root-const (el .0)) (machine g (structureOf self))) ⌝ }
     {
         let u = self.unification;
         u.root_const(el)
@@ -326,7 +346,7 @@ impl Structure {
 
     // The public find that shortens the path.
     pub fn root(self, el: ElId) -> Rooting
-        ensures { λ r. ⌜ (g : Sig) → rootingOf g r ≡ step (root (el .0)) (machine g (structureOf self)) ⌝ }
+        ensures { λ r. ⌜ ((g : Sig) → rootingOf g r ≡ step (root (el .0)) (machine g (structureOf self))) ⌝ }
     {
         let u = self.unification;
         let rooted = u.root(el);

@@ -6,56 +6,53 @@ use Prim.Native.Nat.{ℕ, _+_, _≤_, _<_}
 use native.Mathlib.Omega.{arith}
 use lib.ListN.{length, take, drop, getD, set}
 use Rattle.ids.specs.declared.Ordering.the-variants.{Less, Equal, Greater}
+use Rattle.ids.specs.Answers.{tooManyFacts}
 use Rattle.ids.specs.Table.{Insertion, positionFrom, present, placed}
 use Rattle.ids.proofs.Views.{length-view, view-next, view-nil, take-same, view-placed}
 use Rattle.ids.proofs.Shift.{Shifted, shift-done}
 use Rattle.ids.proofs.Tables.{on, at-present, before-spot, insert-full, insert-new}
 use Rattle.unification.specs.Roots.{linksOf}
 use Rattle.semantics.specs.Structure.{Fact, maxFacts, compareFact, canonicalFact}
-use Rattle.semantics.specs.Types.{insertFact, insertCanonical, concreteTypesOf, impose}
+use Rattle.semantics.specs.Types.{firstMet, insertFact, insertCanonical, concreteTypesOf, impose}
 use Rattle.facts.specs.declared.Fact as code
 use Rattle.facts.specs.declared.Facts.{Facts}
 use Rattle.facts.specs.View.{factOf, factsOf, noFact}
 use Rattle.merging.specs.declared.Core.{Core}
 use Rattle.merging.specs.View.{coreOf, metOf, Toward}
 use Rattle.merging.proofs.Laws.{does}
-use Rattle.imposing.proofs.Laws.{refused, grown}
+use Rattle.imposing.proofs.Laws.{withFacts, refused, grown}
 use Rattle.imposing.proofs.Nothing.{never, all-still, imposes-nothing}
-use Rattle.typing.specs.Rows.{NoneMarked, fullMet}
-
--- a core with another table of facts and another number met
-abbrev pub withFacts : Core → Facts → ℕ → Core
-withFacts c t n = record { unification = c .unification; marks = c .marks; facts = t; pairs = c .pairs; met = n }
+use Rattle.typing.specs.Rows.{NoneMarked}
 
 -- A search for x at an index, which goes on up to `end`: it was found, or it stands, if at all, where the search goes on.
 pub record Searching (x : Fact) (t : Facts) (at end : ℕ) (there : Bool) : Type 0 where
   pub found : there ≡ true → present compareFact x (factsOf t) ≡ true
-  pub left : there ≡ false → positionFrom compareFact x at (drop at (map factOf (take end (t .items)))) ≡ positionFrom compareFact x 0 (factsOf t)
+  pub remaining : there ≡ false → positionFrom compareFact x at (drop at (map factOf (take end (t .items)))) ≡ positionFrom compareFact x 0 (factsOf t)
 
 pub search-start : (x : Fact) (t : Facts) (n : ℕ) → n ≡ length (factsOf t) → Searching x t 0 n false
 search-start x t n e = record {
   found = λ h. never (sym h);
-  left = λ h.
+  remaining = λ h.
       ap (λ (l : List code.Fact). positionFrom compareFact x 0 (map factOf l))
       (take-same n (t .len) (t .items) (omega (arith, e, length-view factOf (t .len) (t .items))));
 }
 
 module _ (x : Fact) (t : Facts) (at end : ℕ) {there : Bool} (so-far : Searching x t at end there) where
   module _ (in-table : end ≤ length (t .items)) (more : at < end) where
-    -- what is left begins with the entry
+    -- what remains begins with the entry
     entry : there ≡ false
         → positionFrom compareFact x at (factOf (getD (t .items) at noFact) ∷ drop (at + 1) (map factOf (take end (t .items))))
         ≡ positionFrom compareFact x 0 (factsOf t)
     entry h =
         ap (positionFrom compareFact x at)
         (sym (view-next factOf end (t .items) at noFact (omega (arith, in-table, more, length-view factOf end (t .items)))))
-        ∙ so-far .left h
+        ∙ so-far .remaining h
 
     -- it is smaller
     pub search-past : compareFact (factOf (getD (t .items) at noFact)) x ≡ Less → Searching x t (at + 1) end there
     search-past e = record {
       found = so-far .found;
-      left = λ h. sym (on compareFact x at (factOf (getD (t .items) at noFact)) (drop (at + 1) (map factOf (take end (t .items)))) e) ∙ entry h;
+      remaining = λ h. sym (on compareFact x at (factOf (getD (t .items) at noFact)) (drop (at + 1) (map factOf (take end (t .items)))) e) ∙ entry h;
     }
 
     -- it is equal
@@ -63,7 +60,7 @@ module _ (x : Fact) (t : Facts) (at end : ℕ) {there : Bool} (so-far : Searchin
     unfolding positionFrom
     search-found e = record {
       found = λ h. go there (so-far .found) (λ no. at-present compareFact x at (factsOf t) (sym (entry no) ∙ rw (e, positionFrom)));
-      left = λ h. never h;
+      remaining = λ h. never h;
     }
       where
         go : (b : Bool) → (b ≡ true → present compareFact x (factsOf t) ≡ true) → (b ≡ false → present compareFact x (factsOf t) ≡ true)
@@ -76,7 +73,7 @@ module _ (x : Fact) (t : Facts) (at end : ℕ) {there : Bool} (so-far : Searchin
     unfolding positionFrom
     search-before e = record {
       found = so-far .found;
-      left = λ h.
+      remaining = λ h.
           ap (positionFrom compareFact x at) (view-nil factOf at (t .items) at (omega arith))
           ∙ sym (rw (e, positionFrom)) ∙ entry h;
     }
@@ -88,7 +85,7 @@ module _ (x : Fact) (t : Facts) (at end : ℕ) {there : Bool} (so-far : Searchin
   unfolding positionFrom
   search-done h past =
       before-spot compareFact x at (factsOf t)
-      (sym (so-far .left h) ∙ ap (positionFrom compareFact x at) (view-nil factOf end (t .items) at past))
+      (sym (so-far .remaining h) ∙ ap (positionFrom compareFact x at) (view-nil factOf end (t .items) at past))
 
 -- the table with x at an index, the entries from there on one place higher
 pub shifted-in : (t : Facts) (ys : List code.Fact) (x : code.Fact) (n at : ℕ) → n ≡ length (factsOf t) → at ≤ n → Shifted (t .items) ys n at
@@ -113,7 +110,7 @@ module _ (c : Core) (none : NoneMarked c) (t : Facts) (met : ℕ) (f : Fact) {x 
 
   module _ (absent : present compareFact x (factsOf t) ≡ false) where
     -- there is no room
-    pub put-full : (n : ℕ) → maxFacts ≤ length (factsOf t) → metOf n ≡ fullMet (metOf met)
+    pub put-full : (n : ℕ) → maxFacts ≤ length (factsOf t) → metOf n ≡ firstMet tooManyFacts (metOf met)
         → Toward (withFacts c t met) (withFacts c t n) 0 0 1 (λ w. w) (impose f)
     put-full n h e =
         does

@@ -16,7 +16,7 @@ use Rattle.signature.specs.declared.Typed.{Typed}
 use Rattle.signature.specs.declared.Typed.the-variants.{At, Absent}
 use Rattle.signature.specs.Model.{Sig, TypeM}
 use Rattle.signature.specs.Calls.{TypedM, typedOf, concreteTypeAt}
-use Rattle.semantics.specs.Structure.{Fact}
+use Rattle.semantics.specs.Structure.{Fact, fact}
 use Rattle.semantics.specs.Types as types
 use Rattle.semantics.specs.Types.{impose, imposeAll}
 use Rattle.semantics.specs.Close.{demanded, demandedAt, demandedArgs}
@@ -53,21 +53,19 @@ module _ (g : Sig) (t : ℕ) (ps : List ℕ) (e : ℕ) {ts : List TypeM} {given 
 
   -- its fact is imposed, with the leading parents
   pub type-imposed : {now : Core} {most count : ℕ} {typ : TypeId} {qs : List ℕ} (r : Worked) → typed ≡ At typ count → qs ≡ take count ps
-      → Passes now r most (impose (record { el = e; typ = typ .0; parents = qs })) → Passes now r most (imposeAll (demandedAt g t ps e))
+      → Passes now r most (impose (fact e (typ .0) qs)) → Passes now r most (imposeAll (demandedAt g t ps e))
   unfolding demanded
   type-imposed {typ = typ} {qs = qs} r found leading p =
-      let fact : List ℕ → Fact = λ l. record { el = e; typ = typ .0; parents = l } in
-      let one : demandedAt g t ps e ≡ fact qs ∷ [] = looked-up found ∙ ap (λ (l : List ℕ). fact l ∷ []) (sym leading) in
-      first p (λ w. sym (imposeAll-one (fact qs) w) ∙ ap (λ (l : List Fact). imposeAll l w) (sym one))
+      let one : demandedAt g t ps e ≡ fact e (typ .0) qs ∷ [] = looked-up found ∙ ap (λ (l : List ℕ). fact e (typ .0) l ∷ []) (sym leading) in
+      first p (λ w. sym (imposeAll-one (fact e (typ .0) qs) w) ∙ ap (λ (l : List Fact). imposeAll l w) (sym one))
 
   -- its fact changes nothing
   pub type-idle : {w : types.Core} {count : ℕ} {typ : TypeId} {qs : List ℕ} → typed ≡ At typ count → qs ≡ take count ps
-      → impose (record { el = e; typ = typ .0; parents = qs }) w ≡ w → w ≡ imposeAll (demandedAt g t ps e) w
+      → impose (fact e (typ .0) qs) w ≡ w → w ≡ imposeAll (demandedAt g t ps e) w
   unfolding demanded
   type-idle {w = w} {typ = typ} {qs = qs} found leading idle =
-      let fact : List ℕ → Fact = λ l. record { el = e; typ = typ .0; parents = l } in
-      let one : demandedAt g t ps e ≡ fact qs ∷ [] = looked-up found ∙ ap (λ (l : List ℕ). fact l ∷ []) (sym leading) in
-      sym idle ∙ sym (imposeAll-one (fact qs) w) ∙ ap (λ (l : List Fact). imposeAll l w) (sym one)
+      let one : demandedAt g t ps e ≡ fact e (typ .0) qs ∷ [] = looked-up found ∙ ap (λ (l : List ℕ). fact e (typ .0) l ∷ []) (sym leading) in
+      sym idle ∙ sym (imposeAll-one (fact e (typ .0) qs) w) ∙ ap (λ (l : List Fact). imposeAll l w) (sym one)
 
 -- nothing was counted
 pub uncounted : {before now : Core} {merges added most : ℕ} {rest whole : types.Core → types.Core}

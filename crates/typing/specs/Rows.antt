@@ -5,9 +5,7 @@ use Prim.Native.Nat.{ℕ, _+_, _≤_, _<_}
 use mathlib.Core.Path.{_≡_}
 use mathlib.Core.Bool.{false}
 use mathlib.Core.List.{List, [], _∷_, _++_, map}
-use mathlib.Core.Option.{Option, none, some}
 use lib.ListN.{getD}
-use Rattle.ids.specs.Answers.{tooManyFacts}
 use Rattle.ids.specs.Ids.{elsOf, typesOf}
 use Rattle.signature.specs.declared.Types.{Types}
 use Rattle.signature.specs.declared.Signature.{Signature}
@@ -84,7 +82,3 @@ Demanded core signature apps preds r = Passes core r allDemands (imposeAll (dema
 -- no element is marked
 abbrev pub NoneMarked : Core → Type 0
 NoneMarked core = (e : ℕ) → marked (marksOf core) e ≡ false
-
--- the number met when a fact has no room: the first stays
-abbrev pub fullMet : Option ℕ → Option ℕ
-fullMet o = elim o [ none ↦ some tooManyFacts | some m ↦ some m ]

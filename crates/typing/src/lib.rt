@@ -19,15 +19,16 @@ use signature::Typed;
 use signature::Types;
 ghost use mathlib.Core.Path.{_≡_};
 ghost use lib.ListN.{take};
+ghost use Rattle.ids.specs.Answers.{tooManyFacts};
 ghost use Rattle.ids.specs.Ids.{elsOf};
 ghost use Rattle.signature.specs.Model.{sigOf, viewFuncs, viewPreds};
-ghost use Rattle.semantics.specs.Types.{imposeAll};
+ghost use Rattle.semantics.specs.Types.{firstMet, imposeAll};
 ghost use Rattle.semantics.specs.Close.{demands};
 ghost use Rattle.apps.specs.View.{funcAppOf, predAppOf, funcAppsOf, predAppsOf};
 ghost use Rattle.merging.specs.View.{metOf, Passes};
 ghost use Rattle.typing.specs.Bounds.{allDemands};
 ghost use Rattle.typing.specs.Rows.{rowOf, funcRow, predRow, resultRow, IsRow, FuncIndex, PredIndex, RowAt, RowImposed, NoneMarked};
-ghost use Rattle.typing.specs.Rows.{Demanded, fullMet};
+ghost use Rattle.typing.specs.Rows.{Demanded};
 
 // What one application is asked: the types that elements are to have, with the parents that are given.
 pub struct Row {
@@ -222,7 +223,7 @@ fn impose_demands(core: Core, signature: Signature, apps: FuncApps, preds: PredA
 
 // The number met when a fact has no room: the first stays.
 fn met_full(met: u16) -> u16
-    ensures { λ r. ⌜ metOf r ≡ fullMet (metOf met) ⌝ }
+    ensures { λ r. ⌜ metOf r ≡ firstMet tooManyFacts (metOf met) ⌝ }
 {
     if met == 0 {
         return Refusal::TOO_MANY_FACTS;

@@ -59,6 +59,19 @@ table-place {A} {P} {cmp} {limit} o x l p t room = record {
   ];
 }
 
+-- one entry placed in a table whose keys bound the number of its entries
+table-key : {A : Type 0} {P : A → Type 0} {cmp : A → A → Ordering} {limit : ℕ} → Ordered cmp → (key : A → ℕ)
+    → ((x y : A) → cmp x y ≡ Less → key x < key y) → ((x : A) → P x → key x < limit) → (x : A) (l : List A) → P x → Table P cmp limit l
+    → Table P cmp limit (placed cmp x l)
+table-key {A} {P} {cmp} {limit} o key less below x l p t =
+    let each = placed-all cmp x P l p (t .each) in
+    let sorted = placed-sorted o x l (t .sorted) in
+    record {
+      each = each;
+      sorted = sorted;
+      most = keys-few cmp key less limit (placed cmp x l) sorted (all-map below (placed cmp x l) each);
+    }
+
 -- a test `not a && b` that fails where a does
 room-if : (a b : Bool) → (not a && b) ≡ false → a ≡ false → b ≡ false
 room-if true b t e = no-test refl e
@@ -82,7 +95,7 @@ leaves-valid : (g : Sig) (t : Structure) → ValidSig g → ValidEffect g t → 
 unfolding leaves
 leaves-valid g t sig e a = record {
   sig = sig;
-  structure = (unfold leaves in flags-valid (countsOf g t) t (e .structure) true a);
+  structure = flags-valid (countsOf g t) t (e .structure) true a;
   unreserved = e .unreserved;
   of-models = e .of-models;
   unstarted = λ q. no-test refl q;
@@ -272,14 +285,8 @@ module _ (g : Sig) (s : Structure) (v : Valid g s) where
         key = leb-false maxVars (x .key) (clear .0);
         el = ltb-true (x .el) (length (s .links)) (not-false (isEl s (x .el)) (clear .1 .0));
       } in
-      let l = placed compareVar x (s .vars) in
-      let each = placed-all compareVar x (VarValid c) (s .vars) new (vs .vars .each) in
-      let sorted = placed-sorted var-ordered x (s .vars) (vs .vars .sorted) in
-      keeps _ (vars-valid c s vs l (record {
-        each = each;
-        sorted = sorted;
-        most = keys-few compareVar (λ (y : Var). y .key) var-less maxVars l sorted (all-map (λ y k. k .key) l each);
-      })) (v .unreserved) (v .of-models)
+      keeps _ (vars-valid c s vs (placed compareVar x (s .vars))
+      (table-key var-ordered (λ (y : Var). y .key) var-less (λ y k. k .key) x (s .vars) new (vs .vars))) (v .unreserved) (v .of-models)
 
   ambient-valid : (x : Ambient) → NoneApplies (ambientCauses g s x) → ValidEffect g (withAmbient x s)
   unfolding ambientCauses withAmbient
@@ -289,15 +296,8 @@ module _ (g : Sig) (s : Structure) (v : Valid g s) where
         typ = ltb-true (x .typ) (length (g .types)) (and-first (isType g (x .typ)) (isEl s (x .el)) d);
         el = ltb-true (x .el) (length (s .links)) (and-second (isType g (x .typ)) (isEl s (x .el)) d);
       } in
-      let l = placed compareAmbient x (s .ambients) in
-      let each = placed-all compareAmbient x (AmbientValid c) (s .ambients) new (vs .ambients .each) in
-      let sorted = placed-sorted ambient-ordered x (s .ambients) (vs .ambients .sorted) in
-      keeps _ (ambients-valid c s vs l (record {
-        each = each;
-        sorted = sorted;
-        most = keys-few compareAmbient (λ (y : Ambient). y .typ) ambient-less (c .types) l sorted (all-map (λ y k. k .typ) l each);
-      }))
-      (v .unreserved)
+      keeps _ (ambients-valid c s vs (placed compareAmbient x (s .ambients))
+      (table-key ambient-ordered (λ (y : Ambient). y .typ) ambient-less (λ y k. k .typ) x (s .ambients) new (vs .ambients))) (v .unreserved)
       (placed-all compareAmbient x (OfModel g) (s .ambients) (not-false (isModel g (x .typ)) (clear .1 .0)) (v .of-models))
 
   -- A find.

@@ -1,19 +1,18 @@
 -- `close` meets its contract.
 use mathlib.Core.Path.{_≡_, refl, sym, ap, _∙_}
-use mathlib.Core.Bool.{not, _||_}
+use mathlib.Core.Bool.{_||_}
 use Prim.Native.Nat.{_+_}
 use native.Mathlib.Omega.{arith}
 use lib.Dec.{ltb}
 use Rattle.signature.specs.Model.{sigOf}
-use Rattle.semantics.specs.Structure.{accept}
 use Rattle.semantics.specs.Types.{imposeAll}
 use Rattle.semantics.specs.Close as closing
-use Rattle.semantics.specs.Close.{canonicaliseRefs, withCore}
+use Rattle.semantics.specs.Close.{report, canonicaliseRefs, withCore, reportOf, afterClose}
 use Rattle.apps.specs.View.{funcAppsOf, predAppsOf}
 use Rattle.structure.specs.View.{structureOf}
 use Rattle.merging.specs.View.{coreOf}
 use Rattle.close.specs.View.{ranOf}
-use Rattle.close.proofs.Laws.{fuel-is, grew-more, refuses, accepts}
+use Rattle.close.proofs.Laws.{met-none, met-some, fuel-is, grew-more, refuses, accepts}
 use borrow.Author.Needs.{needs}
 use Rattle.close.proofs.close.Statement.{statement}
 use Rattle.close.proofs.close.Tie as tie
@@ -56,14 +55,15 @@ imposed c =
     let r = running c .rounds .result in
     imposing c .apply-pending-type-impositions .ensures .is (r .merges) (r .added)
 
+refuse-requires : tie.Need-refuse-requires
+refuse-requires c κs = search needs
+
 returns : tie.Need-returns
 returns c =
-    let at = c .before in
+    let at = c .before .before in
     let a = start at .before .args in
-    let r = running at .rounds .result in
-    let w = imposing at .apply-pending-type-impositions .result in
-    refuses (sigOf (a .signature)) (structureOf (a .structure)) (ranOf r) (w .core) (w .merges + r .merges) (w .added + r .added)
-    (ran at) (imposed at) (c .if1 .taken)
+    c .refuse .ensures (sigOf (a .signature))
+    ∙ refuses (sigOf (a .signature)) (structureOf (a .structure)) (ranOf (running at .rounds .result)) _ (ran at) (imposed at) (met-some _ (c .before .if1 .taken))
 
 counted-requires : tie.Need-counted-requires
 counted-requires c κs = search needs
@@ -87,7 +87,7 @@ accept-requires : tie.Need-accept-requires
 accept-requires c κs = search needs
 
 returns-2 : tie.Need-returns-2
-unfolding withCore
+unfolding reportOf afterClose withCore
 returns-2 c =
     let refs = c .before in
     let cored = refs .before in
@@ -99,11 +99,13 @@ returns-2 c =
     let w = imposing at .apply-pending-type-impositions .result in
     let m = w .merges + r .merges in
     let b = w .added + r .added in
+    let sum : r .merges + w .merges ≡ m = omega arith in
     let grows = grew-more (ranOf r .core) (coreOf (w .core) m b) (w .merges) (w .added) refl refl in
     let changes = changing .or .ensures ∙ (λ i. ltb 1 (r .count) || (changing .before .counted .ensures ∙ sym grows) i) in
-    let left = refs .canonicalise-refs .ensures ∙ (λ i. canonicaliseRefs (cored .with-core .ensures i .links) (cored .with-core .ensures i)) in
-    accepts (sigOf (a .signature)) (structureOf (a .structure)) (ranOf r) (w .core) m b (ran at) (imposed at) (e1 .if1 .left) changes (omega arith)
-    (c .accept .ensures ∙ (λ i. accept (not (changing .or .result)) (left i)))
+    let after = refs .canonicalise-refs .ensures ∙ (λ i. canonicaliseRefs (cored .with-core .ensures i .links) (cored .with-core .ensures i)) in
+    c .accept .ensures (sigOf (a .signature))
+    ∙ accepts (sigOf (a .signature)) (structureOf (a .structure)) (ranOf r) (coreOf (w .core) m b) (ran at) (imposed at) (met-none (e1 .if1 .left))
+    (λ i. report (changes i) (sum i) (r .count)) after
 
 pub close-spec : {M : Type 1} → statement M
 close-spec =
@@ -112,6 +114,7 @@ close-spec =
     core-of-requires
     rounds-requires
     apply-pending-type-impositions-requires
+    refuse-requires
     returns
     counted-requires
     or-requires

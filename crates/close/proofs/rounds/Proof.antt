@@ -1,4 +1,4 @@
--- `rounds` meets its contract. The invariant: with what is left, the rounds that ran come to what the definition's rounds leave.
+-- `rounds` meets its contract. The invariant: with those to come, the rounds that ran come to what the definition's rounds leave.
 use Prim.Native.Nat.{suc, _+_, _*_, _-_, _≤_}
 use native.Mathlib.Omega.{arith}
 use borrow.Author.Tests.{not-true, not-false}
@@ -8,7 +8,7 @@ use Rattle.semantics.specs.Close.{fuel}
 use Rattle.apps.specs.View.{funcAppsOf, predAppsOf}
 use Rattle.merging.specs.View.{coreOf}
 use Rattle.close.specs.View.{oneRound}
-use Rattle.close.proofs.Laws.{fuel-is, turned, Going, begins, takes}
+use Rattle.close.proofs.Laws.{fuel-is, round-made, Going, begins, takes}
 use borrow.Author.Needs.{needs}
 use Rattle.close.proofs.rounds.Statement.{statement}
 use Rattle.close.proofs.rounds.Tie as tie
@@ -58,11 +58,11 @@ loop-again c =
     let test = at .before .before in
     let next = at .round in
     let loop = test .before .loop in
-    let left : loop .count ≤ fuel = omega (arith, test .loop-test .taken, fuel-is) in
+    let fuelled : loop .count ≤ fuel = omega (arith, test .loop-test .taken, fuel-is) in
     let made =
-    turned (next .result) (next .ensures) (loop .merges) (loop .added)
+    round-made (next .result) (next .ensures) (loop .merges) (loop .added)
     {n = loop .merges + next .result .merges} {b = loop .added + next .result .added} (omega arith) (omega arith) in (
-      takes _ _ (loop .inv .0) (not-false _ (at .before .if1 .left)) left made (on .goes-on .ensures),
+      takes _ _ (loop .inv .0) (not-false _ (at .before .if1 .left)) fuelled made (on .goes-on .ensures),
       omega (arith, next .ensures .merges-most, loop .inv .1),
       omega (arith, next .ensures .added-most, loop .inv .2),
     )

@@ -1,4 +1,5 @@
 -- `clamped` meets its contract.
+use Rattle.semantics.specs.Structure.{fact}
 use borrow.Author.Needs.{needs}
 use Rattle.conflicts.proofs.clamped.Statement.{statement}
 use Rattle.conflicts.proofs.clamped.Tie as tie
@@ -11,8 +12,8 @@ returns c =
     let f = c .before .before .before .before .args .fact in
     let list = c .clamped .ensures in
     λ i. record {
-      given = record { el = f .el .0; typ = f .ct .typ .0; parents = list i .given };
-      held = record { el = f .el .0; typ = f .ct .typ .0; parents = list i .held };
+      given = fact (f .el .0) (f .ct .typ .0) (list i .given);
+      held = fact (f .el .0) (f .ct .typ .0) (list i .held);
     }
 
 pub clamped-spec : {M : Type 1} → statement M

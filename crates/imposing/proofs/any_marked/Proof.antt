@@ -7,7 +7,7 @@ use native.Mathlib.Omega.{arith}
 use lib.ListN.{length, take, drop, length-take}
 use Rattle.ids.proofs.Views.{long, take-same}
 use Rattle.unification.specs.Roots.{maxEls}
-use Rattle.imposing.specs.Idle.{anyMarked}
+use Rattle.semantics.specs.Types.{anyMarked}
 use Rattle.imposing.proofs.Nothing.{mark-found, mark-past, marks-end}
 use borrow.Author.Needs.{needs}
 use Rattle.imposing.proofs.any_marked.Statement.{statement}

@@ -1,9 +1,10 @@
 -- `refine` meets its contract.
-use mathlib.Core.Path.{sym, _∙_}
+use mathlib.Core.Path.{sym, ap, _∙_}
 use mathlib.Core.List.{[]}
 use native.Mathlib.Omega.{arith}
 use borrow.Author.Tests.{not-true, not-false}
-use Rattle.semantics.specs.Types.{with-pairs}
+use Rattle.semantics.specs.Structure.{Pair}
+use Rattle.semantics.specs.Types.{with-pairs, join, drainPairs}
 use Rattle.merging.specs.View.{coreOf}
 use Rattle.merging.proofs.Laws.{does, from, follows}
 use Rattle.imposing.proofs.Laws.{refine-same, refine-unmarked, refine-merged}
@@ -46,6 +47,9 @@ returns-2 c =
 new-requires : tie.Need-new-requires
 new-requires c κs = search needs
 
+new-requires-2 : tie.Need-new-requires-2
+new-requires-2 c κs = search needs
+
 join-requires : tie.Need-join-requires
 join-requires c κs = search needs
 
@@ -62,7 +66,8 @@ returns-3 : tie.Need-returns-3
 returns-3 c =
     let drained = c .before .before .before .before .before in
     let joined = drained .before .before in
-    let emptied = joined .before in
+    let made = joined .before in
+    let emptied = made .before in
     let marked = emptied .before .before in
     let either = marked .before in
     let second = either .before .before .before .before .before .before in
@@ -71,8 +76,9 @@ returns-3 c =
     let first = from {before = a .core} {g = with-pairs []} (λ m n. λ i. with-pairs (emptied .new .ensures i) (coreOf (a .core) m n)) (joined .join .ensures) in
     does (follows (drained .drain-pairs .result) first (drained .drain-pairs .ensures)) (omega arith)
     (λ m n.
-    refine-merged (a .p .0) (a .q .0) (coreOf (a .core) m n) (second .before .find .ensures) (second .find2 .ensures)
-    (either .before .if1 .left) some)
+    let w = coreOf (a .core) m n in
+    ap (λ (x : Pair). drainPairs (w .pairs) (join x (with-pairs [] w))) (made .new2 .ensures)
+    ∙ refine-merged (a .p .0) (a .q .0) w (second .before .find .ensures) (second .find2 .ensures) (either .before .if1 .left) some)
 
 pub refine-spec : {M : Type 1} → statement M
 refine-spec =
@@ -86,6 +92,7 @@ refine-spec =
     idle-requires-2
     returns-2
     new-requires
+    new-requires-2
     join-requires
     drain-pairs-requires
     add-t18

@@ -6,8 +6,7 @@ use native.Mathlib.Omega.{arith}
 use lib.ListN.{length, take, getD, length-set}
 use Rattle.ids.proofs.Views.{long}
 use Rattle.unification.specs.Roots.{linksOf, rootOf, FindM, findOf}
-use Rattle.semantics.specs.Structure.{maxVars, canonicalVar}
-use Rattle.bindings.specs.View.{var}
+use Rattle.semantics.specs.Structure.{variable, maxVars, canonicalVar}
 use Rattle.bindings.proofs.Slots.{none-slot}
 use Rattle.rewriting.proofs.Laws.{slotBy, slots-all, filled-next}
 use borrow.Author.Needs.{needs}
@@ -68,7 +67,7 @@ returns c =
     let l = c .before .loop in
     let a = c .before .before .args in
     let all : length (a .t2 .slots) ≡ maxVars = search (needs, long) in
-    slots-all var (canonicalVar (linksOf (a .unification))) (rootOf (linksOf (a .unification))) (λ k e. refl) (a .t2 .slots) (l .done .slots) (l .i)
+    slots-all variable (canonicalVar (linksOf (a .unification))) (rootOf (linksOf (a .unification))) (λ k e. refl) (a .t2 .slots) (l .done .slots) (l .i)
     (omega (arith, c .loop-test .left)) (omega (arith, l .inv .0, c .loop-test .left)) (l .inv .1)
 
 pub canonical-vars-spec : {M : Type 1} → statement M

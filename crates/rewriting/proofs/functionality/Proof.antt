@@ -5,10 +5,11 @@ use lib.ListN.{length, length-set}
 use Rattle.unification.specs.Roots.{linksOf}
 use Rattle.ids.proofs.Views.{long}
 use Rattle.ids.proofs.Appending.{append-room, appended, appended-new}
-use Rattle.semantics.specs.Structure.{maxFuncApps, compareFuncApp}
+use Rattle.semantics.specs.Structure.{maxFuncApps, compareFuncApp, resultOf}
+use Rattle.semantics.specs.Close.{rewriting}
 use Rattle.semantics.proofs.Orders.{func-app-ordered}
-use Rattle.apps.specs.View.{funcAppOf, funcAppsOf, resultOf, noFuncApp, found}
-use Rattle.rewriting.specs.View.{rewrittenOf}
+use Rattle.apps.specs.View.{funcAppOf, funcAppsOf, noFuncApp, found}
+use Rattle.equalities.specs.View.{pairsOf}
 use Rattle.rewriting.proofs.Laws.{Entered, entered-none, entered-placed, entered-new, entered-same, entered-other, entered-all}
 use borrow.Author.Needs.{needs}
 use Rattle.rewriting.proofs.functionality.Statement.{statement}
@@ -17,7 +18,7 @@ use Rattle.rewriting.proofs.functionality.Tie as tie
 abbrev Inv-loop : tie.InvT-loop
 Inv-loop unification apps n done₀ pairs₀ queued₀ i₀ done pairs queued i =
     (length (done .items) ≡ maxFuncApps)
-    × Entered (linksOf unification) (funcAppsOf apps) i (rewrittenOf (record { «func_apps» = done; pairs = pairs; queued = queued }))
+    × Entered (linksOf unification) (funcAppsOf apps) i (rewriting (funcAppsOf done) (pairsOf pairs) queued)
 
 abbrev μ-loop : tie.MeasureT-loop
 μ-loop unification apps n done₀ pairs₀ queued₀ i₀ done pairs queued i = n - i
@@ -153,27 +154,39 @@ loop-again-3 c =
           (test .loop-test .taken) (entry .canonical-func-app .ensures) _ stored (c .if2 .taken),
     )
 
+-- the entry that meets another result
+
+abbrev got : tie.After-push Inv-loop μ-loop → tie.After-get Inv-loop μ-loop
+got c = c .before .before .before .before .before .before .before .before
+
+abbrev asking : tie.After-push Inv-loop μ-loop → tie.After-canonical-func-app Inv-loop μ-loop
+asking c = got c .before .before .before .before .before .before .before
+
+new-requires-3 : tie.Need-new-requires-3 Inv-loop μ-loop
+new-requires-3 c κs = search needs
+
 push-requires : tie.Need-push-requires Inv-loop μ-loop
 push-requires c κs = search needs
 
 add-i-4 : tie.Need-add-i-4 Inv-loop μ-loop
-add-i-4 c = search needs
+add-i-4 c =
+    let test = asking c .before .before in
+    search (needs, test .loop-test .taken, test .before .before .before .before .size .ensures .most)
 
 loop-less-4 : tie.Need-loop-less-4 Inv-loop μ-loop
 loop-less-4 c = search needs
 
 loop-again-4 : tie.Need-loop-again-4 Inv-loop μ-loop
 loop-again-4 c =
-    let other = c .before in
+    let made = c .before in
+    let other = made .before in
     let existing = other .before .before .before .before in
-    let got = existing .before .before in
-    let entry = got .before .before .before .before .before .before .before in
-    let test = entry .before .before in
+    let test = asking c .before .before in
     let sized = test .before .before .before .before in
-    let stored = sym (ap found (existing .existing .given .1)) ∙ got .get .ensures in (
+    let stored = sym (ap found (existing .existing .given .1)) ∙ got c .get .ensures in (
       test .before .loop .inv .0,
       entered-other (sized .before .args .t2) (sized .size .ensures) (test .before .loop .inv .1) noFuncApp _
-          (test .loop-test .taken) (entry .canonical-func-app .ensures) _ (c .push .ensures .0) stored (other .if2 .left),
+          (test .loop-test .taken) (asking c .canonical-func-app .ensures) _ (made .new3 .ensures) (c .push .ensures .0) stored (other .if2 .left),
     )
 
 returns : tie.Need-returns Inv-loop μ-loop
@@ -216,6 +229,7 @@ functionality-spec =
     add-i-3
     loop-less-3
     loop-again-3
+    new-requires-3
     push-requires
     add-i-4
     loop-less-4

@@ -18,12 +18,13 @@ use Rattle.apps.specs.View.{funcAppsOf, predAppsOf, noFuncApp, noPredApp}
 use Rattle.merging.specs.declared.Worked.{Worked}
 use Rattle.merging.specs.View.{Toward, coreOf}
 use Rattle.merging.proofs.Laws.{begins, does}
+use Rattle.imposing.proofs.Laws.{withFacts}
 use Rattle.typing.specs.Bounds.{allRows}
 use Rattle.typing.specs.Rows.{rows, rowsDemand}
 use Rattle.typing.proofs.Laws.{onlyTypes, type-absent, type-imposed, type-idle, arg-typed, arg-untyped, arg-idle, no-arg}
 use Rattle.typing.proofs.Laws.{types-end, uncounted}
 use Rattle.typing.proofs.RowLaws.{rows-are, rows-many, row-next, row-first, rows-end}
-use Rattle.typing.proofs.InsertLaws.{withFacts, Searching, search-start, search-past, search-found, search-before, search-done}
+use Rattle.typing.proofs.InsertLaws.{Searching, search-start, search-past, search-found, search-before, search-done}
 use Rattle.typing.proofs.InsertLaws.{shifted-in, put-stored, put-full, put-placed}
 use borrow.Author.Needs.{needs}
 use Rattle.typing.proofs.insert_demands.Statement.{statement}
@@ -752,14 +753,14 @@ each-again-5 c =
     let n = counted .size6 .result in
     let entry = made .canonical-fact .result in
     let items = set (moved .facts .items) (s .at) entry in
-    let left : Facts = record { items = items; len = n + 1 } in
+    let filled : Facts = record { items = items; len = n + 1 } in
     let same-at : moved .i ≡ s .at = omega (arith, moved .inv .0, c .shift-test .left) in
     let within : s .at ≤ n = omega (arith, spot .1 .0, counted .size6 .ensures .is) in
     let fits : n < length (l .facts .items) = omega (arith, l .inv .1, room .if3 .left) in
     let free : length (factsOf (l .facts)) < maxFacts = omega (arith, counted .size6 .ensures .is, room .if3 .left) in
     let shifted : Shifted (l .facts .items) (moved .facts .items) n (s .at) = rw same-at at (moved .inv .2) in
     let placed = shifted-in (l .facts) (moved .facts .items) entry n (s .at) (counted .size6 .ensures .is) within shifted fits ∙ sym (spot .1 .1) in
-    let r : Worked = record { core = withFacts (a .core) left (l .met); merges = 0; added = 1 } in (
+    let r : Worked = record { core = withFacts (a .core) filled (l .met); merges = 0; added = 1 } in (
       omega (arith, test .each-test .taken),
       length-set (moved .facts .items) (s .at) entry ∙ shifted .long ∙ l .inv .1,
       λ g same.
@@ -767,7 +768,7 @@ each-again-5 c =
           (l .inv .2 g same) (record { 0 = 0 }) (record { 0 = 0 }) ht hx r
           (type-imposed g _ (elsOf (row .parents)) _ (looked .concrete-type-at .ensures) same (sized .size5 .ensures .is) r
           (known .typ .given .1) (led .leading .ensures)
-          (put-placed (a .core) (start .pre) (l .facts) (l .met) _ (made .canonical-fact .ensures) (spot .0) left free placed)),
+          (put-placed (a .core) (start .pre) (l .facts) (l .met) _ (made .canonical-fact .ensures) (spot .0) filled free placed)),
     )
 
 add-k : tie.Need-add-k Inv-search μ-search Inv-shift μ-shift Inv-each μ-each Inv-rows μ-rows

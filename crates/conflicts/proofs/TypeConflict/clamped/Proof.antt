@@ -1,4 +1,5 @@
 -- `TypeConflict::clamped` meets its contract.
+use Rattle.semantics.specs.Conflicts.{conflict}
 use borrow.Author.Needs.{needs}
 use Rattle.conflicts.proofs.TypeConflict.clamped.Statement.{statement}
 use Rattle.conflicts.proofs.TypeConflict.clamped.Tie as tie
@@ -15,8 +16,8 @@ returns c =
     let a = c .before .clamped .ensures in
     let b = c .clamped2 .ensures in
     λ i. record {
-      given = record { el = t .el .0; a = a i .given; b = b i .given };
-      held = record { el = t .el .0; a = a i .held; b = b i .held };
+      given = conflict (t .el .0) (a i .given) (b i .given);
+      held = conflict (t .el .0) (a i .held) (b i .held);
     }
 
 pub clamped-spec : {M : Type 1} → statement M

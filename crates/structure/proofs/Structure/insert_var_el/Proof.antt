@@ -1,11 +1,14 @@
 -- `Structure::insert_var_el` meets its contract.
-use mathlib.Core.Path.{refl, _∙_}
-use Rattle.ids.proofs.Answers.{not-true, not-false}
-use Rattle.ids.proofs.Judging.{judged, stops, on, ends}
-use borrow.Author.Tests.{le-leb, lt-leb}
-use Rattle.ids.proofs.Tests.{told, holds, fails}
-use Rattle.semantics.specs.Structure.{with-vars}
-use Rattle.semantics.specs.Calls.{bindVar}
+use mathlib.Core.Path.{refl, ap, _∙_}
+use mathlib.Core.Bool.{not}
+use borrow.Author.Tests.{leb-false}
+use Rattle.ids.specs.Answers.{malformed, undeclared, givenAgain}
+use Rattle.ids.specs.Judge.{verdictOf}
+use Rattle.ids.proofs.Judging.{SoFar, begin, judge}
+use Rattle.semantics.specs.Structure.{maxVars, with-vars}
+use Rattle.semantics.specs.Calls.{variableCauses, withVar, rule, acceptance}
+use Rattle.semantics.proofs.Judged.{step-refuses, step-accepts}
+use Rattle.bindings.specs.View.{varOf}
 use Rattle.structure.specs.View.{structureOf}
 use Rattle.structure.proofs.Laws.{accepts, bound-room}
 use borrow.Author.Needs.{needs}
@@ -15,40 +18,47 @@ use Rattle.structure.proofs.Structure.insert_var_el.Tie as tie
 cast-key : tie.Need-cast-key
 cast-key c = search needs
 
-refuse-binding-requires : tie.Need-refuse-binding-requires
-refuse-binding-requires c κs = search needs
-
-returns : tie.Need-returns
-unfolding bindVar
-returns c = judged (stops (le-leb _ _ (c .before .if1 .taken)) (c .refuse-binding .ensures))
+refuse-if-requires : tie.Need-refuse-if-requires
+refuse-if-requires c κs = search needs
 
 is-el-requires : tie.Need-is-el-requires
 is-el-requires c κs = search needs
 
-refuse-binding-requires-2 : tie.Need-refuse-binding-requires-2
-refuse-binding-requires-2 c κs = search needs
-
-returns-2 : tie.Need-returns-2
-unfolding bindVar
-returns-2 c =
-    let e1 = c .before .before .before in
-    let applies = fails (c .before .before .is-el .ensures) (c .before .if2 .taken) in
-    judged (on (lt-leb _ _ (e1 .if1 .left)) (stops (not-false applies) (c .refuse-binding2 .ensures)))
+refuse-if-requires-2 : tie.Need-refuse-if-requires-2
+refuse-if-requires-2 c κs = search needs
 
 contains-requires : tie.Need-contains-requires
 contains-requires c κs = search needs
 
-refuse-binding-requires-3 : tie.Need-refuse-binding-requires-3
-refuse-binding-requires-3 c κs = search needs
+refuse-if-requires-3 : tie.Need-refuse-if-requires-3
+refuse-if-requires-3 c κs = search needs
 
-returns-3 : tie.Need-returns-3
-unfolding bindVar
-returns-3 c =
-    let e2 = c .before .before .before in
-    let e1 = e2 .before .before in
-    let applies = told (c .before .before .contains .ensures) (c .before .if3 .taken) in
-    judged (on (lt-leb _ _ (e1 .if1 .left)) (on (not-true (holds (e2 .before .is-el .ensures) (e2 .if2 .left)))
-    (stops applies (c .refuse-binding3 .ensures))))
+enum-known-verdict : tie.Need-enum-known-verdict
+enum-known-verdict c = search needs
+
+refuse-requires : tie.Need-refuse-requires
+refuse-requires c κs = search needs
+
+abbrev start : tie.After-refuse-if3 → tie.Start
+start c = c .before .before .before .before .before .before .before
+
+-- the verdict, as the causes decide it
+so-far : (c : tie.After-refuse-if3) → let a = start c .args in
+    SoFar (verdictOf (c .refuse-if3 .result)) (variableCauses (structureOf (a .self)) (varOf (a .v)))
+unfolding variableCauses
+so-far c =
+    let second = c .before .before in
+    let first = second .before .before in
+    let s1 = judge malformed begin (first .refuse-if .ensures) refl in
+    let s2 = judge undeclared s1 (second .refuse-if2 .ensures) (ap not (second .before .is-el .ensures)) in
+    judge givenAgain s2 (c .refuse-if3 .ensures) (c .before .contains .ensures)
+
+returns : tie.Need-returns
+unfolding rule
+returns c = λ g. c .refuse .ensures g ∙ step-refuses _ _ (so-far (c .before .before .before .before)) _ (ap verdictOf (c .before .before .verdict .given .1))
+
+enum-told : tie.Need-enum-told
+enum-told c = search needs
 
 insert-requires : tie.Need-insert-requires
 insert-requires c κs = search needs
@@ -56,31 +66,30 @@ insert-requires c κs = search needs
 accept-requires : tie.Need-accept-requires
 accept-requires c κs = search needs
 
-returns-4 : tie.Need-returns-4
-unfolding bindVar
-returns-4 c =
-    let e3 = c .before .before in
-    let e2 = e3 .before .before in
-    let e1 = e2 .before .before in
-    let s = e1 .before .before .before .args .self in
-    let bound = c .before .insert .ensures ∙ bound-room _ _ _ _ _ (e1 .if1 .left) in
-    judged (on (lt-leb _ _ (e1 .if1 .left)) (on (not-true (holds (e2 .before .is-el .ensures) (e2 .if2 .left)))
-    (on (told (e3 .before .contains .ensures) (e3 .if3 .left))
-    (ends (accepts refl (c .accept .ensures) (λ i. with-vars (bound i) (structureOf s)))))))
+returns-2 : tie.Need-returns-2
+unfolding rule variableCauses acceptance withVar
+returns-2 c =
+    let told = c .before .before in
+    let judged = told .before .before in
+    let a = start judged .args in
+    λ g. step-accepts _ _ (so-far judged) (ap verdictOf (told .enum-told .given .1))
+    (λ none. let bound = c .before .insert .ensures ∙ bound-room _ _ _ _ _ (leb-false maxVars (a .v .key) (none .0)) in
+    accepts g (c .accept .ensures g) refl (λ i. with-vars (bound i) (structureOf (a .self))))
 
 pub insert-var-el-spec : {M : Type 1} → statement M
 insert-var-el-spec =
     tie.close
     (tie.spec
     cast-key
-    refuse-binding-requires
-    returns
+    refuse-if-requires
     is-el-requires
-    refuse-binding-requires-2
-    returns-2
+    refuse-if-requires-2
     contains-requires
-    refuse-binding-requires-3
-    returns-3
+    refuse-if-requires-3
+    enum-known-verdict
+    refuse-requires
+    returns
+    enum-told
     insert-requires
     accept-requires
-    returns-4)
+    returns-2)

@@ -1,15 +1,21 @@
 -- `Structure::push_el` meets its contract.
-use mathlib.Core.Path.{_≡_}
+use mathlib.Core.Path.{_≡_, sym, ap, _∙_}
+use Prim.Native.Nat.{_<_}
+use native.Mathlib.Omega.{arith}
 use lib.ListN.{length}
-use Rattle.ids.proofs.Judging.{judged, stops, on, ends}
+use lib.Dec.{leb}
+use borrow.Author.Tests.{leb-false}
+use Rattle.ids.specs.Answers.{noRoom}
+use Rattle.ids.specs.Judge.{verdictOf}
+use Rattle.ids.proofs.Judging.{SoFar, begin, judge, none-apply}
 use Rattle.ids.proofs.Views.{long}
-use Rattle.ids.proofs.Counted.{full, room}
 use Rattle.ids.proofs.Lists.{as-held}
-use Rattle.unification.specs.Roots.{maxEls}
-use Rattle.semantics.specs.Structure.{with-links, with-marks}
-use Rattle.semantics.specs.Calls.{pushEl}
-use Rattle.structure.specs.View.{structureOf}
+use Rattle.unification.specs.Roots.{maxEls, linksOf}
 use Rattle.unification.proofs.Beside.{one-more}
+use Rattle.semantics.specs.Structure.{with-links, with-marks}
+use Rattle.semantics.specs.Calls.{elCauses, withEl, number, rule, acceptance}
+use Rattle.semantics.proofs.Judged.{step-refuses, step-accepts}
+use Rattle.structure.specs.View.{structureOf}
 use Rattle.structure.proofs.Laws.{accepts}
 use borrow.Author.Needs.{needs}
 use Rattle.structure.proofs.Structure.push_el.Statement.{statement}
@@ -26,49 +32,74 @@ many-links c = long _ (c .args .self .unification .links) _ (c .good .0 .1 .1 .1
 size-requires : tie.Need-size-requires
 size-requires c κs = search needs
 
-refuse-number-requires : tie.Need-refuse-number-requires
-refuse-number-requires c κs = search needs
+refuse-if-requires : tie.Need-refuse-if-requires
+refuse-if-requires c κs = search needs
+
+enum-known-verdict : tie.Need-enum-known-verdict
+enum-known-verdict c = search needs
+
+refuse-requires : tie.Need-refuse-requires
+refuse-requires c κs = search needs
+
+-- the verdict, as the causes decide it
+so-far : (c : tie.After-refuse-if) → SoFar (verdictOf (c .refuse-if .result)) (elCauses (structureOf (c .before .before .before .args .self)))
+unfolding elCauses
+so-far c = judge noRoom begin (c .refuse-if .ensures) (ap (leb maxEls) (c .before .size .ensures .is))
 
 returns : tie.Need-returns
-unfolding pushEl
-returns c = judged (stops (full (c .before .before .size .ensures) (c .before .if1 .taken)) (c .refuse-number .ensures))
+unfolding rule
+returns c = λ g. c .refuse .ensures g ∙ step-refuses _ _ (so-far (c .before .before .before .before)) _ (ap verdictOf (c .before .before .verdict .given .1))
+
+enum-told : tie.Need-enum-told
+enum-told c = search needs
+
+room : (c : tie.After-enum-told) → c .before .before .before .size .result < maxEls
+unfolding elCauses
+room c =
+    let judged = c .before .before in
+    let fits = none-apply _ (sym (so-far judged .is) ∙ ap verdictOf (c .enum-told .given .1)) .0 in
+    let u = judged .before .before .before .args .self .unification in
+    omega (arith, judged .before .size .ensures .is, leb-false maxEls (length (linksOf u)) fits)
 
 element-write-next : tie.Need-element-write-next
-element-write-next c = search needs
+element-write-next c = room c
 
 increase-size-requires : tie.Need-increase-size-requires
 increase-size-requires c κs = search needs
 
-cast-t11 : tie.Need-cast-t11
-cast-t11 c = search needs
+cast-t14 : tie.Need-cast-t14
+cast-t14 c = search needs
 
 accept-requires : tie.Need-accept-requires
 accept-requires c κs = search needs
 
 returns-2 : tie.Need-returns-2
-unfolding pushEl
+unfolding rule acceptance withEl
 returns-2 c =
-    let e1 = c .before .before in
-    let sized = e1 .before .size .ensures in
-    let start = e1 .before .before .before in
-    let a = start .args in
-    let s = a .self in
+    let told = c .before .before in
+    let judged = told .before .before in
+    let sized = judged .before .size .ensures in
+    let start = judged .before .before .before in
+    let s = start .args .self in
     let v = c .before .increase-size .result in
     let after = long _ (v .links) _ (c .before .increase-size .ok .1 .1 .0 .1 .0 .1) in
     let links = as-held (c .before .increase-size .ensures) in
-    let marks = one-more (s .unification) v _ (many-marks start) (many-links start) after _ (a .mark) (sized .is) (e1 .if1 .left) links in
-    judged (on (room sized (e1 .if1 .left))
-    (ends (accepts (sized .is) (c .accept .ensures) (λ i. with-links (links i) (with-marks (marks i) (structureOf s))))))
+    let marks = one-more (s .unification) v _ (many-marks start) (many-links start) after _ (start .args .mark) (sized .is) (room told) links in
+    λ g. step-accepts _ _ (so-far judged) (ap verdictOf (told .enum-told .given .1))
+    (λ none. accepts g (c .accept .ensures g) (ap number (sized .is)) (λ i. with-links (links i) (with-marks (marks i) (structureOf s))))
 
 pub push-el-spec : {M : Type 1} → statement M
 push-el-spec =
     tie.close
     (tie.spec
     size-requires
-    refuse-number-requires
+    refuse-if-requires
+    enum-known-verdict
+    refuse-requires
     returns
+    enum-told
     element-write-next
     increase-size-requires
-    cast-t11
+    cast-t14
     accept-requires
     returns-2)

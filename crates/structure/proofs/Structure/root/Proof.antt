@@ -6,11 +6,11 @@ use lib.ListN.{length}
 use Rattle.ids.specs.Answers.{Outcome}
 use Rattle.ids.proofs.Views.{long}
 use Rattle.unification.specs.Roots.{maxEls, linksOf, FindM}
-use Rattle.semantics.specs.Structure.{with-links, with-marks}
-use Rattle.semantics.specs.Calls.{rootOn}
-use Rattle.structure.specs.View.{structureOf}
 use Rattle.unification.proofs.Beside.{kept}
-use Rattle.structure.proofs.Laws.{root-length}
+use Rattle.semantics.specs.Structure.{with-links, with-marks}
+use Rattle.semantics.specs.Calls.{answers, machine}
+use Rattle.structure.specs.View.{structureOf}
+use Rattle.structure.proofs.Laws.{finding, root-steps, root-length}
 use borrow.Author.Needs.{needs}
 use Rattle.structure.proofs.Structure.root.Statement.{statement}
 use Rattle.structure.proofs.Structure.root.Tie as tie
@@ -27,7 +27,6 @@ root-requires : tie.Need-root-requires
 root-requires c κs = search needs
 
 returns : tie.Need-returns
-unfolding rootOn
 returns c =
     let start = c .before .before .before in
     let s = start .args .self in
@@ -35,9 +34,10 @@ returns c =
     let v = c .before .root .result .unification in
     let after = long _ (v .links) _ (c .before .root .ok .1 .1 .1 .0 .1 .1 .0 .1 .0 .1) in
     let many : length (linksOf v) ≡ length (linksOf (s .unification)) =
-    ap (λ (o : Outcome FindM (List ℕ)). length (o .left)) found ∙ root-length _ _ in
+    ap (λ (o : Outcome FindM (List ℕ)). length (o .after)) found ∙ root-length _ _ in
     let marked = kept (s .unification) v _ (many-marks start) (many-links start) after many in
-    λ i. record { answer = found i .answer; after = with-links (found i .left) (with-marks (marked i) (structureOf s)) }
+    let answer = finding (c .before .root .result .find) (ap (λ (o : Outcome FindM (List ℕ)). o .answer) found) in
+    λ g. (λ i. answers (answer i) (machine g (with-links (found i .after) (with-marks (marked i) (structureOf s))))) ∙ root-steps g (structureOf s) _
 
 pub root-spec : {M : Type 1} → statement M
 root-spec = tie.close (tie.spec root-requires returns)

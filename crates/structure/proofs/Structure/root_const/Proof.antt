@@ -1,7 +1,12 @@
 -- `Structure::root_const` meets its contract.
-use Rattle.semantics.specs.Structure.{with-links}
-use Rattle.semantics.specs.Calls.{rootConstOn}
+use mathlib.Core.Path.{ap, _∙_}
+use mathlib.Core.List.{List}
+use Prim.Native.Nat.{ℕ}
+use Rattle.ids.specs.Answers.{Outcome}
+use Rattle.unification.specs.Roots.{FindM}
+use Rattle.semantics.specs.Calls.{answers, machine}
 use Rattle.structure.specs.View.{structureOf}
+use Rattle.structure.proofs.Laws.{finding, root-const-steps}
 use borrow.Author.Needs.{needs}
 use Rattle.structure.proofs.Structure.root_const.Statement.{statement}
 use Rattle.structure.proofs.Structure.root_const.Tie as tie
@@ -10,10 +15,9 @@ root-const-requires : tie.Need-root-const-requires
 root-const-requires c κs = search needs
 
 returns : tie.Need-returns
-unfolding rootConstOn
 returns c =
-    let found = c .root-const .ensures in
-    λ i. record { answer = found i .answer; after = with-links (found i .left) (structureOf (c .before .before .args .self)) }
+    let found = finding (c .root-const .result) (ap (λ (o : Outcome FindM (List ℕ)). o .answer) (c .root-const .ensures)) in
+    λ g. (λ i. answers (found i) (machine g (structureOf (c .before .before .args .self)))) ∙ root-const-steps g _ _
 
 pub root-const-spec : {M : Type 1} → statement M
 root-const-spec = tie.close (tie.spec root-const-requires returns)
