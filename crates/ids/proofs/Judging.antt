@@ -1,11 +1,11 @@
 -- Laws of verdicts: what the code judges cause by cause is the first cause of a list, and what a verdict tells of a call.
-use mathlib.Core.Path.{_≡_, refl, sym, ap, subst, _∙_}
+use mathlib.Core.Path.{_≡_, refl, sym, ap, _∙_}
 use mathlib.Core.Bool.{Bool, true, false, _||_}
 use mathlib.Core.List.{List, [], _∷_, _++_, map, List·Memᴰ, List·Memᴰ·head, List·Memᴰ·tail}
 use mathlib.Core.Option.{Option, none, some}
 use Prim.Native.Nat.{ℕ}
 use native.Mathlib.Omega.{arith}
-use Rattle.ids.specs.Answers.{Answered, accepted, refused, Cause, firstOf, decided, Outcome, outcome, refusing, accepting, _if_}
+use Rattle.ids.specs.Answers.{accepted, refused, Cause, firstOf, decided, Outcome, outcome, refusing, accepting, _if_}
 use Rattle.ids.specs.Judge.{orIf}
 use Rattle.ids.specs.Ids.{tooLong}
 use Rattle.ids.specs.Sorted.{All}
