@@ -1,25 +1,22 @@
 -- Laws of the lists that a record gives, of conflicts beside an answer, of kinds, and of what a record answers where it fits and where not.
 use Prim.Native.Nat.{ℕ, _≤_, _<_, min}
 use mathlib.Core.Path.{_≡_, refl, sym, ap, _∙_}
-use mathlib.Core.Bool.{Bool, true, false}
+use mathlib.Core.Bool.{true, false}
 use mathlib.Core.List.{List, [], _∷_}
 use mathlib.Core.Option.{Option, none, some}
 use native.Mathlib.Omega.{arith}
 use lib.ListN.{length, take, getD, List·getD-eq-default}
 use Rattle.ids.specs.Limits.{maxList}
-use Rattle.ids.specs.Ids.{givenOf, whole}
-use Rattle.ids.proofs.Lists.{given-held, given-held-alike}
+use Rattle.ids.specs.Ids.{givenOf}
+use Rattle.ids.proofs.Lists.{given-held}
 use Rattle.ids.proofs.Views.{take-same}
 use Rattle.ids.proofs.Tests.{chosen, unchosen}
-use Rattle.signature.specs.Model.{Sig}
 use Rattle.semantics.specs.Calls.{Call, Machine, Step}
 use Rattle.semantics.specs.Sheet.{Record, Form, forms, formOf, callIn, carryOut}
 use Rattle.records.specs.View.{fitsForm}
 use Rattle.structure.specs.declared.Answer.{Answer}
 use Rattle.structure.specs.declared.Answer.the-variants as variants
 use Rattle.structure.specs.View.{answerOf}
-use Rattle.conflicts.specs.declared.Conflicting.{Conflicting}
-use Rattle.conflicts.specs.View.{conflictsOf, givenConflicts, handedConflicting}
 use Rattle.carrying.specs.declared.Carried.{Carried}
 use Rattle.carrying.specs.View.{carriedStep, conflictsBeside, CarriedM, carriedOf, withConflicts, formStep}
 
@@ -48,10 +45,6 @@ none-beside variants.Done = refl
 none-beside (variants.Closed c) = refl
 none-beside variants.Conflicting = refl
 none-beside (variants.Refused n) = refl
-
--- the conflicts that are given are those that are held
-pub conflicts-alike : (g : Sig) (r : Conflicting) {s : Step} → handedConflicting g r ≡ whole s → givenConflicts (r .conflicts) ≡ conflictsOf (r .conflicts)
-conflicts-alike g r is = ap (λ (s : Step). conflictsBeside (s .answer)) (given-held-alike is)
 
 -- the step of a record that is carried out, with the conflicts as they are held
 pub carried-step : (r : Carried) {s : Step} → carriedOf r ≡ withConflicts s → carriedStep r ≡ s

@@ -1,6 +1,6 @@
 -- What a call of a list answers, as the definitions speak of it.
 use Prim.Native.Nat.{ℕ}
-use mathlib.Core.List.{List, []}
+use mathlib.Core.List.{List}
 use mathlib.Core.Option.{none, some}
 use Rattle.ids.specs.Ids.{givenEls, Handed, whole}
 use Rattle.unification.specs.Roots.{found}

@@ -26,7 +26,7 @@ use Rattle.carrying.specs.View.{carriedStep}
 use Rattle.sheet.specs.declared.Stage.{Stage}
 use Rattle.sheet.specs.declared.Stage.the-variants as stages
 use Rattle.sheet.specs.declared.Progress.{Progress}
-use Rattle.sheet.specs.Pieces.{ProgressM, PieceM, standing, piece, startOf, refusal, followOf, answerPiece, stepPiece, doneBefore}
+use Rattle.sheet.specs.Pieces.{ProgressM, PieceM, standing, piece, startOf, refusalPiece, followOf, answerPiece, stepPiece, doneBefore}
 use Rattle.sheet.specs.Pieces.{visitPiece, onePrinted, listPiece, pieceAt, nextPiece}
 use Rattle.sheet.specs.View.{progressOf}
 
@@ -101,7 +101,7 @@ module _ (r : Record) (p : ProgressM) {k : ℕ} (before : k ≡ doneBefore (p .c
       → chainBroken (p .count) (eqb (p .count - 1 - doneBefore (p .count) (p .done)) 0) (r .next) ≡ b
   broken-before h = ap (λ (d : ℕ). chainBroken (p .count) (eqb (p .count - 1 - d) 0) (r .next)) (sym before) ∙ h
 
-  pub visited-broken : {q : PieceM} → chainBroken (p .count) (eqb (p .count - 1 - k) 0) (r .next) ≡ true → q ≡ refusal badChain (p .index) (p .machine) → q ≡ visitPiece r p
+  pub visited-broken : {q : PieceM} → chainBroken (p .count) (eqb (p .count - 1 - k) 0) (r .next) ≡ true → q ≡ refusalPiece badChain (p .index) (p .machine) → q ≡ visitPiece r p
   unfolding visitPiece
   visited-broken h e = e ∙ chosen _ (broken-before h)
 
@@ -141,7 +141,7 @@ visit-reads : (r s : Record) (p : ProgressM) → r .next ≡ s .next → callOf 
 unfolding visitPiece
 visit-reads r s p e f i =
     elim (chainBroken (p .count) (eqb (p .count - 1 - doneBefore (p .count) (p .done)) 0) (e i)) [
-      | true ↦ refusal badChain (p .index) (p .machine)
+      | true ↦ refusalPiece badChain (p .index) (p .machine)
       | false ↦ stepPiece (carryOut (f i) (p .machine)) (p .index) (p .count) (e i) (doneBefore (p .count) (p .done) + 1)
     ]
 

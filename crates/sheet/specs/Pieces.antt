@@ -53,8 +53,8 @@ startOf l = elim (badLength l) [ true ↦ standing stages.Refusing start 0 0 0 |
 -- The next piece.
 
 -- "A refusal prints `refused N at I` .. and stops"
-abbrev pub refusal : ℕ → ℕ → Machine → PieceM
-refusal k i m = piece (refusedLine k i) (standing stages.Ended m 0 0 0)
+abbrev pub refusalPiece : ℕ → ℕ → Machine → PieceM
+refusalPiece k i m = piece (refusedLine k i) (standing stages.Ended m 0 0 0)
 
 -- "next index 0 ends the chain"
 unfoldable pub followOf : Machine → ℕ → ℕ → ℕ → ProgressM
@@ -66,7 +66,7 @@ listingAll cs m n next k = record { stage = stages.Listing; machine = m; count =
 
 -- what the answer to a record prints
 unfoldable pub answerPiece : Answer → ℕ → Machine → ℕ → ℕ → ℕ → PieceM
-answerPiece (refuse x) i m n next k = refusal x i m
+answerPiece (refuse x) i m n next k = refusalPiece x i m
 answerPiece (number x) i m n next k = piece [] (followOf m n next k)
 answerPiece (says b) i m n next k = piece [] (followOf m n next k)
 answerPiece done i m n next k = piece [] (followOf m n next k)
@@ -87,7 +87,7 @@ doneBefore n k = min k (n - 1)
 unfoldable pub visitPiece : Record → ProgressM → PieceM
 visitPiece r p =
     elim (chainBroken (p .count) (eqb (p .count - 1 - doneBefore (p .count) (p .done)) 0) (r .next)) [
-      | true ↦ refusal badChain (p .index) (p .machine)
+      | true ↦ refusalPiece badChain (p .index) (p .machine)
       | false ↦ stepPiece (carryOut (callOf r) (p .machine)) (p .index) (p .count) (r .next) (doneBefore (p .count) (p .done) + 1)
     ]
 
@@ -110,7 +110,7 @@ listPiece (c ∷ cs) p = piece (conflictLine c) (onePrinted p)
 
 -- by the stage, where the record that comes next is given
 unfoldable pub pieceAt : Stage → Record → ProgressM → PieceM
-pieceAt stages.Refusing r p = refusal badSheet 0 (p .machine)
+pieceAt stages.Refusing r p = refusalPiece badSheet 0 (p .machine)
 pieceAt stages.Visiting r p = visitPiece r p
 pieceAt stages.Listing r p = listPiece (drop (p .printed) (p .conflicts)) p
 pieceAt stages.Ending r p = piece (endLine (p .done)) (standing stages.Ended (p .machine) 0 0 0)

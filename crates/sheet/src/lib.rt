@@ -17,7 +17,7 @@ ghost use Rattle.records.specs.View.{recordView};
 ghost use Rattle.conflicts.specs.View.{conflictsOf};
 ghost use Rattle.structure.specs.View.{machineOf};
 ghost use Rattle.carrying.specs.View.{carriedStep};
-ghost use Rattle.sheet.specs.Pieces.{isEnded, maxPieces, doneBefore, standing, piece as pieceM, startOf, refusal, followOf, stepPiece};
+ghost use Rattle.sheet.specs.Pieces.{isEnded, maxPieces, doneBefore, standing, piece as pieceM, startOf, refusalPiece, followOf, stepPiece};
 ghost use Rattle.sheet.specs.Pieces.{visitPiece, listPiece, pieceAt, nextPiece};
 ghost use Rattle.sheet.specs.View.{progressOf, pieceOf};
 ghost use Rattle.sheet.specs.declared.Stage.the-variants as stages;
@@ -113,7 +113,7 @@ pub fn start(length: usize) -> Progress
 
 // `refused N at I`, and nothing any more.
 fn refuse(machine: Machine, number: u16, index: u16) -> Piece
-    ensures { λ r. ⌜ pieceOf r ≡ refusal number index (machineOf machine) ⌝ }
+    ensures { λ r. ⌜ pieceOf r ≡ refusalPiece number index (machineOf machine) ⌝ }
 {
     let line = lines::refused_line(number, index);
     let progress = at_stage(Stage::Ended, machine, 0, 0, 0);

@@ -1,8 +1,8 @@
 -- `find_conflicts` meets its contract.
 use mathlib.Core.Path.{_∙_}
 use Rattle.signature.specs.Model.{sigOf}
+use Rattle.conflicts.proofs.Laws.{conflicts-alike}
 use Rattle.carrying.specs.View.{withConflicts}
-use Rattle.carrying.proofs.Laws.{conflicts-alike}
 use borrow.Author.Needs.{needs}
 use Rattle.carrying.proofs.find_conflicts.Statement.{statement}
 use Rattle.carrying.proofs.find_conflicts.Tie as tie
