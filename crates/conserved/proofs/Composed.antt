@@ -14,7 +14,7 @@ use Rattle.semantics.specs.Calls.{Call, Answer, closed, isAccepted, machine, St
 use Rattle.semantics.proofs.Judged.{lookedUp, lookup-steps}
 use Rattle.structure.specs.declared.Machine.{Machine}
 use Rattle.structure.specs.View.{machineOf, Looking}
-use Rattle.history.specs.Book.{Book, blank, History, noted, next, run, history, begin, taken, fed, mergesOf}
+use Rattle.history.specs.Book.{Book, blank, History, reached, noted, next, run, history, begin, taken, fed, mergesOf}
 use Rattle.history.specs.Book.{Conserved, Conservation}
 use Rattle.history.proofs.Histories.{history-goes-on}
 use Rattle.history.proofs.Conservation.{conservation}
@@ -46,7 +46,7 @@ made-step (ambient-parents ts r e) = ap (λ (l : Looking). l .step) e
 
 -- where a list of calls has come to
 abbrev come : Machine → Book → History
-come v b = record { machine = machineOf v; book = b }
+come v b = reached (machineOf v) b
 
 made-next : {v w : Machine} {k : Call} {a : Answer} (b : Book) → Made v k a w → come w (fed k (isAccepted a) (mergesOf a) b) ≡ next k (come v b)
 unfolding next noted
@@ -60,7 +60,7 @@ run-comes {b = b} {ks = k ∷ ks} (more m r) = run-comes r ∙ ap (run ks) (made
 
 pub run-history : {v z : Machine} {d : Book} {ks : List Call} → Fresh v → Run v blank ks z d → come z d ≡ history ks
 unfolding history begin calls.start
-run-history {ks = ks} f r = run-comes r ∙ ap (λ (m : calls.Machine). run ks (record { machine = m; book = blank })) (λ i. machine (f .sig i) (f .str i))
+run-history {ks = ks} f r = run-comes r ∙ ap (λ (m : calls.Machine). run ks (reached m blank)) (λ i. machine (f .sig i) (f .str i))
 
 -- For every list of calls that the code makes from fresh values, and every close after it that is accepted, with no element marked up to then:
 -- what `Conserved` says of the book and of the links of the structure that this close hands back.
