@@ -1,5 +1,6 @@
 -- `push_func` meets its contract.
 use mathlib.Core.Path.{ap, _∙_}
+use Rattle.signature.specs.Model.{func-entry}
 use Rattle.semantics.specs.Calls.{push-func, step}
 use Rattle.semantics.specs.Sheet.{funcForm}
 use Rattle.structure.specs.View.{machineOf}
@@ -26,7 +27,7 @@ returns c =
     let a = c .before .before .before .before .before .before .before .before .args in
     c .after-declaring .ensures
     ∙ ap withConflicts (c .before .push-func .ensures
-    ∙ (λ i. step (push-func (record { parents = c .before .before .before .types-in .ensures i; domain = c .before .before .types-in2 .ensures i; codomain = a .given .b })) (machineOf (a .machine))))
+    ∙ (λ i. step (push-func (func-entry (c .before .before .before .types-in .ensures i) (c .before .before .types-in2 .ensures i) (a .given .b))) (machineOf (a .machine))))
 
 pub push-func-spec : {M : Type 1} → statement M
 push-func-spec =

@@ -1,5 +1,6 @@
 -- `push_pred` meets its contract.
 use mathlib.Core.Path.{ap, _∙_}
+use Rattle.signature.specs.Model.{pred-entry}
 use Rattle.semantics.specs.Calls.{push-pred, step}
 use Rattle.semantics.specs.Sheet.{predForm}
 use Rattle.structure.specs.View.{machineOf}
@@ -26,7 +27,7 @@ returns c =
     let a = c .before .before .before .before .before .before .before .before .args in
     c .after-declaring .ensures
     ∙ ap withConflicts (c .before .push-pred .ensures
-    ∙ (λ i. step (push-pred (record { parents = c .before .before .before .types-in .ensures i; arity = c .before .before .types-in2 .ensures i })) (machineOf (a .machine))))
+    ∙ (λ i. step (push-pred (pred-entry (c .before .before .before .types-in .ensures i) (c .before .before .types-in2 .ensures i))) (machineOf (a .machine))))
 
 pub push-pred-spec : {M : Type 1} → statement M
 push-pred-spec =

@@ -1,5 +1,6 @@
 -- `push_type` meets its contract.
 use mathlib.Core.Path.{ap, _∙_}
+use Rattle.signature.specs.Model.{type-entry}
 use Rattle.semantics.specs.Calls.{push-type, step}
 use Rattle.semantics.specs.Sheet.{typeForm}
 use Rattle.structure.specs.View.{machineOf}
@@ -26,7 +27,7 @@ returns c =
     let a = c .before .before .before .before .before .before .before .args in
     c .after-declaring .ensures
     ∙ ap withConflicts (c .before .push-type .ensures
-    ∙ (λ i. step (push-type (record { kind = c .before .before .before .type-kind .ensures i; parents = c .before .before .types-in .ensures i })) (machineOf (a .machine))))
+    ∙ (λ i. step (push-type (type-entry (c .before .before .before .type-kind .ensures i) (c .before .before .types-in .ensures i))) (machineOf (a .machine))))
 
 pub push-type-spec : {M : Type 1} → statement M
 push-type-spec =
