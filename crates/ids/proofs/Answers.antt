@@ -18,7 +18,7 @@ module _ (n : ℕ) (b : Bool) (cs : List Cause) where
   unfolding firstOf
   first-passes h = rw (h, firstOf)
 
--- no cause is left
+-- there is no cause
 pub first-none : firstOf [] ≡ none
 unfolding firstOf
 first-none = refl

@@ -144,10 +144,3 @@ module _ {A S : Type 0} (before after : S) (value : A) (cs : List Cause) where
   refused-after n =
       decided-by (λ (o : Outcome A S). o .answer ≡ refused n → o .after ≡ before) cs (refusing before) (accepting value after) (λ m q e. refl)
       (λ none e. absurd (not-refused value n e))
-
-  -- an accepted call answers and leaves what the call is to do
-  pub accepted-after : (v : A) → outcome cs before value after .answer ≡ accepted v → (v ≡ value) × (outcome cs before value after .after ≡ after)
-  unfolding outcome
-  accepted-after v =
-      decided-by (λ (o : Outcome A S). o .answer ≡ accepted v → (v ≡ value) × (o .after ≡ after)) cs (refusing before) (accepting value after)
-      (λ m q e. absurd (not-refused v m (sym e))) (λ none e. (cc, refl))
