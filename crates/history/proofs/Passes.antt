@@ -374,8 +374,12 @@ module _ (g : Sig) (preds : List PredApp) where
   all-lawful : (w : Core) → Along (Lawful g preds) passes (Begun w) (RoundDone g preds w)
   unfolding passes
   all-lawful w = (
-    AfterDrain w, drain-lawful g preds w, (
-      AfterFunctionality w, functionality-lawful g preds w, (RoundDone g preds w, typing-lawful w, refl),
+    AfterDrain w,
+    drain-lawful g preds w,
+    (
+      AfterFunctionality w,
+      functionality-lawful g preds w,
+      (RoundDone g preds w, typing-lawful w, refl),
     ),
   )
 
