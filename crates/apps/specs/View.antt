@@ -1,6 +1,6 @@
 -- The tables of applications as the definitions speak of them.
 use Prim.Native.Nat.{ℕ}
-use mathlib.Core.List.{List, [], _∷_, map}
+use mathlib.Core.List.{List, [], map}
 use mathlib.Core.Option.{Option, none, some}
 use lib.ListN.{take}
 use Rattle.ids.specs.declared.ElId.{ElId}

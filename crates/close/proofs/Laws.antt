@@ -22,7 +22,6 @@ use Rattle.semantics.specs.Calls as calls
 use Rattle.semantics.specs.Calls.{machine, answers, closed, rule, closeRule, leaves, acceptance, refusal, stepBy, step}
 use Rattle.semantics.proofs.Judged.{close-first}
 use Rattle.semantics.proofs.Parts.{rewritten, asked, typedAll, round-parts}
-use Rattle.apps.specs.declared.FuncApps.{FuncApps}
 use Rattle.apps.specs.View.{funcAppsOf}
 use Rattle.merging.specs.declared.Core.{Core}
 use Rattle.merging.specs.declared.Worked.{Worked}
@@ -144,7 +143,7 @@ module _ (g : Sig) (preds : List PredApp) where
   unfolding roundsFrom
   goes k t h = rw (h, roundsFrom)
 
-  -- The rounds in progress: `count` ran and left `core` and `apps`, and `again` says whether another follows.
+  -- The rounds in progress: `count` ran and came to `core` and `apps`, and `again` says whether another follows.
   pub record Going (whole : closing.Rounds) (core : types.Core) (apps : List FuncApp) (again : Bool) (count : ℕ) : Type 0 where
     pub few : count ≤ suc fuel
     pub more : again ≡ true → (k : ℕ) → k + count ≡ fuel → after count (roundsFrom k g preds (closing.round g preds apps core)) ≡ whole
@@ -195,7 +194,7 @@ module _ (g : Sig) (preds : List PredApp) where
         regroup : (x : ℕ) → (count + 1) + x ≡ count + suc x
         regroup x = omega arith
 
--- A close: r is what the rounds came to, and w what the impositions left.
+-- A close: r is what the rounds came to, and w what the impositions come to after them.
 
 module _ (g : Sig) (s : model.Structure) (r : closing.Rounds) (w : types.Core)
     (ran : r ≡ closing.rounds g (s .pred-apps) (s .func-apps) (closing.coreOf s)) (imposed : w ≡ imposeAll (s .impositions) (r .core)) where

@@ -8,7 +8,7 @@ use structure::Closed;
 use structure::Stepped;
 use structure::Structure;
 ghost use mathlib.Core.Path.{_≡_};
-ghost use mathlib.Core.Bool.{_&&_, _||_};
+ghost use mathlib.Core.Bool.{_&&_};
 ghost use Prim.Native.Nat.{_+_};
 ghost use lib.Dec.{ltb};
 ghost use Rattle.unification.specs.Roots.{linksOf};
@@ -156,7 +156,7 @@ fn core_of(structure: Structure) -> Core
     }
 }
 
-// The structure with what the passes left.
+// The structure with the core that the passes reached.
 fn with_core(structure: Structure, core: Core, apps: FuncApps) -> Structure
     ensures { λ r. ⌜ structureOf r ≡ closing.withCore (coreOf core 0 0) (funcAppsOf apps) (structureOf structure) ⌝ }
 {

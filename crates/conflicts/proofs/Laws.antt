@@ -84,7 +84,7 @@ module _ (ls : List ℕ) (ps qs : ElIds) (i : ℕ) {R : Bool} (so-far : parentsM
   unfolding parentsMatch
   parents-done h = sym so-far ∙ ap (λ (l : List ℕ). parentsMatch ls l (drop i (elsOf qs))) (view-done elOf (ps .len) (ps .ids) i h)
 
-  -- the second list is: what is left of the first is not compared
+  -- the second list is: what remains of the first is not compared
   pub parents-past : length (elsOf qs) ≤ i → parentsMatch ls (drop (i + 1) (elsOf ps)) (drop (i + 1) (elsOf qs)) ≡ R
   parents-past h =
       ap (parentsMatch ls (drop (i + 1) (elsOf ps))) (view-done elOf (qs .len) (qs .ids) (i + 1) (omega arith))

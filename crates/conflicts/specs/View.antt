@@ -1,7 +1,7 @@
 -- Conflicts as the definitions speak of them.
 use Prim.Native.Nat.{ℕ}
 use mathlib.Core.List.{List, [], map}
-use lib.ListN.{take, length}
+use lib.ListN.{take}
 use Rattle.ids.specs.Ids.{padded, Handed}
 use Rattle.signature.specs.Model.{Sig}
 use Rattle.semantics.specs.Structure.{Fact, fact, empty, with-links, with-facts}

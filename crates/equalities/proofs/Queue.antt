@@ -1,5 +1,5 @@
 -- Laws of the queue of pairs, of which the last stands first, and of equalities.
-use mathlib.Core.Path.{_≡_, refl, sym, ap, _∙_}
+use mathlib.Core.Path.{_≡_, sym, ap, _∙_}
 use mathlib.Core.List.{List, [], _∷_, _++_, map, reverse, reverse-append}
 use Prim.Native.Nat.{ℕ, _+_, _≤_, _<_}
 use native.Mathlib.Omega.{arith}
@@ -10,7 +10,7 @@ use borrow.Author.Tests.{lt-ltb, le-ltb}
 use Rattle.ids.specs.Table.{Sized, lenOf}
 use Rattle.ids.proofs.Views.{length-view, view-pushed}
 use Rattle.ids.proofs.Counted.{len-kept, len-grown}
-use Rattle.unification.specs.Roots.{rootOf, shortOf, FindM, ShortM, findOf, shortenedOf}
+use Rattle.unification.specs.Roots.{shortOf, ShortM, findOf, shortenedOf}
 use Rattle.unification.proofs.Laws.{short-length}
 use Rattle.semantics.specs.Structure as model
 use Rattle.semantics.specs.Structure.{pair, maxPairs}

@@ -1,7 +1,7 @@
 -- The queue of equalities as the definitions speak of it.
 use Prim.Native.Nat.{ℕ}
 use mathlib.Core.Bool.{true, false}
-use mathlib.Core.List.{List, [], _∷_, map, reverse}
+use mathlib.Core.List.{List, _∷_, map, reverse}
 use lib.ListN.{length, take}
 use lib.Dec.{ltb}
 use Rattle.unification.specs.Roots.{linksOf}

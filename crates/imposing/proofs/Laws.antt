@@ -2,8 +2,8 @@
 use mathlib.Core.Path.{_≡_, refl, sym, ap, _∙_}
 use mathlib.Core.Bool.{Bool, true, false, not, _||_}
 use mathlib.Core.List.{List, [], _∷_}
-use mathlib.Core.Option.{Option, none, some}
-use Prim.Native.Nat.{ℕ, _+_, _*_, _≤_, _<_}
+use mathlib.Core.Option.{some}
+use Prim.Native.Nat.{ℕ, _+_, _≤_, _<_}
 use native.Mathlib.Nat.{add-comm, zero-add}
 use native.Mathlib.Numerals.{add-one}
 use native.Mathlib.Omega.{arith}
@@ -30,8 +30,7 @@ use Rattle.facts.specs.declared.InsertedFact.{InsertedFact}
 use Rattle.facts.specs.View.{factOf, factsOf, inserted, impositionsOf}
 use Rattle.equalities.specs.View.{pairsOf}
 use Rattle.merging.specs.declared.Core.{Core}
-use Rattle.merging.specs.declared.Worked.{Worked}
-use Rattle.merging.specs.View.{coreOf, marksOf, metOf, Toward, Passes}
+use Rattle.merging.specs.View.{coreOf, marksOf, metOf, Toward}
 use Rattle.merging.proofs.Laws.{counts}
 
 -- Two parents, by the finds of their roots.
@@ -108,7 +107,7 @@ module _ (t : Facts) (f : Fact) (i : ℕ) where
 
 -- A fact inserted.
 
--- what an insertion leaves
+-- what an insertion stays
 unfoldable pub inserting : Insertion Fact → types.Core → types.Core
 inserting g w =
     elim (g .full) [

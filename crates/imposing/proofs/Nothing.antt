@@ -8,7 +8,6 @@ use native.Mathlib.Numerals.{add-one}
 use native.Mathlib.Omega.{arith}
 use lib.ListN.{length, take, drop, getD, length-take, drop-of-length-le}
 use lib.Seq.{getD-take, drop-cons}
-use Rattle.ids.specs.declared.Ordering.{Ordering}
 use Rattle.ids.specs.declared.Ordering.the-variants.{Less, Equal, Greater}
 use Rattle.ids.specs.Table.{present}
 use Rattle.semantics.specs.Structure.{Fact, compareFact, canonicalFact}
@@ -20,7 +19,7 @@ use Rattle.facts.specs.declared.Impositions.{Impositions}
 use Rattle.facts.specs.View.{factOf, impositionsOf}
 use Rattle.merging.specs.declared.Core.{Core}
 use Rattle.merging.specs.View.{coreOf, Toward}
-use Rattle.merging.proofs.Laws.{leaves-here}
+use Rattle.merging.proofs.Laws.{stays-here}
 use Rattle.imposing.specs.Idle.{keepsTypes, isIdle}
 use Rattle.imposing.proofs.Kept.{Tells, all-tell, types-tell, all-free}
 use Rattle.imposing.proofs.Laws.{impositions-next}
@@ -94,7 +93,7 @@ idle-same f w h =
 pub idle-here : {before now : Core} {merges added : ℕ} (per : ℕ) {rest whole : types.Core → types.Core} (i : ℕ)
     → Toward before now merges added (i * per) rest whole → {then : types.Core → types.Core}
     → ((m a : ℕ) → then (coreOf now m a) ≡ rest (coreOf now m a)) → Toward before now merges added ((i + 1) * per) then whole
-idle-here per i so-far e = leaves-here so-far (omega (arith, add-mul i 1 per)) e
+idle-here per i so-far e = stays-here so-far (omega (arith, add-mul i 1 per)) e
 
 -- an imposition that changes nothing
 pub impositions-idle : (t : Impositions) (i : ℕ) (d : code.Fact) → i < length (impositionsOf t) → (w : types.Core)

@@ -21,7 +21,7 @@ begins c f = record {
 }
 
 module _ {before now : Core} {merges added most : ℕ} {rest whole : types.Core → types.Core} (so-far : Toward before now merges added most rest whole) where
-  -- a pass g is made: with it the rest, from where it was, is what is left then
+  -- a pass g is made: with it the rest, from where it was, is what remains then
   pub takes-here : (r : Worked) {more : ℕ} {g then : types.Core → types.Core} → Passes now r more g
       → ((m a : ℕ) → then (g (coreOf now m a)) ≡ rest (coreOf now m a))
       → Toward before (r .core) (merges + r .merges) (added + r .added) (most + more) then whole
@@ -41,18 +41,18 @@ module _ {before now : Core} {merges added most : ℕ} {rest whole : types.Core 
   takes r p e = takes-here r p (λ m a. e (coreOf now m a))
 
   -- there was nothing to do where it was, and there may be as many or more
-  pub leaves-here : {limit : ℕ} {then : types.Core → types.Core} → most ≤ limit → ((m a : ℕ) → then (coreOf now m a) ≡ rest (coreOf now m a))
+  pub stays-here : {limit : ℕ} {then : types.Core → types.Core} → most ≤ limit → ((m a : ℕ) → then (coreOf now m a) ≡ rest (coreOf now m a))
       → Toward before now merges added limit then whole
-  leaves-here h e = record {
+  stays-here h e = record {
     is = λ m a. e (merges + m) (added + a) ∙ so-far .is m a;
     merges-most = omega (arith, so-far .merges-most);
     added-most = omega (arith, so-far .added-most);
   }
 
   -- the same, from every core
-  pub leaves : {limit : ℕ} {then : types.Core → types.Core} → most ≤ limit → ((w : types.Core) → then w ≡ rest w)
+  pub stays : {limit : ℕ} {then : types.Core → types.Core} → most ≤ limit → ((w : types.Core) → then w ≡ rest w)
       → Toward before now merges added limit then whole
-  leaves h e = leaves-here h (λ m a. e (coreOf now m a))
+  stays h e = stays-here h (λ m a. e (coreOf now m a))
 
   -- the whole said otherwise, and from another core, where the two come to the same
   pub counts-as : {start : Core} {wanted : types.Core → types.Core} → ((m a : ℕ) → whole (coreOf before m a) ≡ wanted (coreOf start m a))
@@ -68,7 +68,7 @@ module _ {before now : Core} {merges added most : ℕ} {rest whole : types.Core 
 -- what a pass does at its core, in other words, with as many counted or more
 pub does : {before now : Core} {merges added most limit : ℕ} {g f : types.Core → types.Core} → Toward before now merges added most (λ w. w) g
     → most ≤ limit → ((m a : ℕ) → g (coreOf before m a) ≡ f (coreOf before m a)) → Toward before now merges added limit (λ w. w) f
-does p h e = leaves (counts-as p e) h (λ w. refl)
+does p h e = stays (counts-as p e) h (λ w. refl)
 
 -- a pass from a core that is g of another
 pub from : {before next : Core} {r : Worked} {most : ℕ} {g f : types.Core → types.Core} → ((m a : ℕ) → coreOf next m a ≡ g (coreOf before m a))
@@ -95,8 +95,8 @@ module _ {before now : Core} {merges added : ℕ} (per : ℕ) {rest whole : type
   -- a pass is made
   pub turn : (r : Worked) {g then : types.Core → types.Core} → Passes now r per g → ((w : types.Core) → then (g w) ≡ rest w)
       → Toward before (r .core) (merges + r .merges) (added + r .added) ((i + 1) * per) then whole
-  turn r p e = leaves (takes so-far r p e) (omega (arith, add-mul i 1 per)) (λ w. refl)
+  turn r p e = stays (takes so-far r p e) (omega (arith, add-mul i 1 per)) (λ w. refl)
 
   -- there is nothing to do
   pub idle-turn : {then : types.Core → types.Core} → ((w : types.Core) → then w ≡ rest w) → Toward before now merges added ((i + 1) * per) then whole
-  idle-turn e = leaves so-far (omega (arith, add-mul i 1 per)) e
+  idle-turn e = stays so-far (omega (arith, add-mul i 1 per)) e

@@ -36,7 +36,7 @@ unfoldable pub movedFact : ℕ → ℕ → model.Fact → model.Fact
 movedFact keep drop f = elim (eqb (f .el) drop) [ true ↦ factAt keep f | false ↦ f ]
 
 -- A pass in progress, begun at `before`: it is at `now` and has counted so many merges and additions, at most `most` each;
--- what is left to do there, `rest`, gives what the whole does, whatever was counted before the pass.
+-- what remains to do there, `rest`, gives what the whole does, whatever was counted before the pass.
 pub record Toward (before now : Core) (merges added most : ℕ) (rest whole : types.Core → types.Core) : Type 0 where
   pub is : (m a : ℕ) → rest (coreOf now (merges + m) (added + a)) ≡ whole (coreOf before m a)
   pub merges-most : merges ≤ most

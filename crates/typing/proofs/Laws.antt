@@ -24,7 +24,7 @@ use Rattle.semantics.proofs.Imposed.{imposeAll-none, imposeAll-one, imposeAll-a
 use Rattle.merging.specs.declared.Core.{Core}
 use Rattle.merging.specs.declared.Worked.{Worked}
 use Rattle.merging.specs.View.{coreOf, Toward, Passes}
-use Rattle.merging.proofs.Laws.{takes, leaves, leaves-here, first}
+use Rattle.merging.proofs.Laws.{takes, stays, stays-here, first}
 
 -- a list whose length is cut, or is not
 pub cut : (l : ElIds) (n : ℕ) → n ≤ l .len → map elOf (take n (l .ids)) ≡ take n (elsOf l)
@@ -109,7 +109,7 @@ module _ (g : Sig) (ts : TypeIds) (ps : List ℕ) (xs : ElIds) (i per base : ℕ
     pub arg-typed : (r : Worked) → Passes now r per (imposeAll here)
         → Toward before (r .core) (merges + r .merges) (added + r .added) (base + (i + 1) * per) (λ w. after (imposeAll next w)) whole
     arg-typed r p =
-        leaves
+        stays
         (takes so-far r p (λ w. ap after (sym (imposeAll-append here next w) ∙ ap (λ (l : List Fact). imposeAll l w) (sym here-and-next))))
         (omega (arith, add-mul i 1 per))
         (λ w. refl)
@@ -117,14 +117,14 @@ module _ (g : Sig) (ts : TypeIds) (ps : List ℕ) (xs : ElIds) (i per base : ℕ
     -- its type is absent
     pub arg-untyped : here ≡ [] → Toward before now merges added (base + (i + 1) * per) (λ w. after (imposeAll next w)) whole
     arg-untyped none =
-        leaves so-far (omega (arith, add-mul i 1 per))
+        stays so-far (omega (arith, add-mul i 1 per))
         (λ w. ap after (ap (λ (l : List Fact). imposeAll (l ++ next) w) (sym none) ∙ ap (λ (l : List Fact). imposeAll l w) (sym here-and-next)))
 
     -- its type changes nothing
     pub arg-idle : ((m a : ℕ) → coreOf now m a ≡ imposeAll here (coreOf now m a))
         → Toward before now merges added (base + (i + 1) * per) (λ w. after (imposeAll next w)) whole
     arg-idle idle =
-        leaves-here so-far (omega (arith, add-mul i 1 per))
+        stays-here so-far (omega (arith, add-mul i 1 per))
         (λ m a.
         let w = coreOf now m a in
         ap after (ap (imposeAll next) (idle m a) ∙ sym (imposeAll-append here next w) ∙ ap (λ (l : List Fact). imposeAll l w) (sym here-and-next)))
@@ -134,7 +134,7 @@ module _ (g : Sig) (ts : TypeIds) (ps : List ℕ) (xs : ElIds) (i per base : ℕ
   no-arg h =
       let none : (k : ℕ) → length (elsOf xs) ≤ k → (l : List ℕ) → demandedArgs g l ps (drop k (elsOf xs)) ≡ [] =
       λ k past l. ap (demandedArgs g l ps) (view-done elOf (xs .len) (xs .ids) k past) ∙ no-args g l ps in
-      leaves so-far (omega (arith, add-mul i 1 per))
+      stays so-far (omega (arith, add-mul i 1 per))
       (λ w.
       ap (λ (l : List Fact). after (imposeAll l w))
       (none (i + 1) (omega (arith, h)) (drop (i + 1) (typesOf ts)) ∙ sym (none i h (drop i (typesOf ts)))))
@@ -144,4 +144,4 @@ module _ (g : Sig) (ts : TypeIds) (ps : List ℕ) (xs : ElIds) (i per base : ℕ
   types-end limit h most =
       let none : demandedArgs g (drop i (typesOf ts)) ps (drop i (elsOf xs)) ≡ [] =
       ap (λ (l : List ℕ). demandedArgs g l ps (drop i (elsOf xs))) (view-done typeOf (ts .len) (ts .ids) i h) ∙ no-types g ps (drop i (elsOf xs)) in
-      leaves so-far most (λ w. ap after (sym (imposeAll-none w) ∙ ap (λ (l : List Fact). imposeAll l w) (sym none)))
+      stays so-far most (λ w. ap after (sym (imposeAll-none w) ∙ ap (λ (l : List Fact). imposeAll l w) (sym none)))

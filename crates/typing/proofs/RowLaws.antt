@@ -23,7 +23,7 @@ use Rattle.apps.specs.View.{funcAppOf, predAppOf, funcAppsOf, predAppsOf}
 use Rattle.merging.specs.declared.Core.{Core}
 use Rattle.merging.specs.declared.Worked.{Worked}
 use Rattle.merging.specs.View.{Toward, Passes}
-use Rattle.merging.proofs.Laws.{leaves, turn}
+use Rattle.merging.proofs.Laws.{stays, turn}
 use Rattle.typing.specs.Rows.{RowM, funcRow, predRow, resultRow, rows, rowsDemand, FuncIndex, PredIndex, RowAt}
 
 -- What the rows demand.
@@ -72,13 +72,13 @@ abbrev Next : {A : Type 0} → List A → ℕ → A → Type 0
 Next l k x = drop k l ≡ x ∷ drop (k + 1) l
 
 module _ {A : Type 0} (xs ys : List A) (k : ℕ) {x : A} where
-  next-left : k < length xs → Next xs k x → Next (xs ++ ys) k x
-  next-left h e =
+  next-first : k < length xs → Next xs k x → Next (xs ++ ys) k x
+  next-first h e =
       drop-append-le k xs ys (omega arith) ∙ ap (λ (l : List A). l ++ ys) e
       ∙ ap (λ (l : List A). x ∷ l) (sym (drop-append-le (k + 1) xs ys (omega arith)))
 
-  next-right : (j : ℕ) → length xs + j ≡ k → Next ys j x → Next (xs ++ ys) k x
-  next-right j is e =
+  next-second : (j : ℕ) → length xs + j ≡ k → Next ys j x → Next (xs ++ ys) k x
+  next-second j is e =
       let more : length xs + (j + 1) ≡ k + 1 = omega (arith, is) in
       ap (λ (n : ℕ). drop n (xs ++ ys)) (sym is) ∙ drop-append-add xs ys j ∙ e
       ∙ ap (λ (l : List A). x ∷ l) (sym (drop-append-add xs ys (j + 1)) ∙ ap (λ (n : ℕ). drop n (xs ++ ys)) more)
@@ -131,22 +131,22 @@ module _ (fs : List FuncM) (ps : List PredM) (apps : FuncApps) (preds : PredApps
         let same : i ≡ k = hi .args h in
         let row : funcRow fs (funcAppOf (getD (apps .items) k d)) ≡ r =
         ap (λ (x : ℕ). funcRow fs (funcAppOf (getD (apps .items) x d))) (sym same) ∙ sym (at .func h) in
-        next-left args (asked ++ results) k (omega (arith, many-args))
+        next-first args (asked ++ results) k (omega (arith, many-args))
         (next-view (funcRow fs) funcAppOf (apps .len) (apps .items) k d (omega (arith, hn)) ∙ ap (λ (x : RowM). x ∷ drop (k + 1) args) row)
 
     of-pred : n ≤ k → k < n + m → Next (args ++ (asked ++ results)) k r
     of-pred h l =
         let same : n + j ≡ k = hj .args h l in
-        next-right args (asked ++ results) k j (omega (arith, many-args, same))
-        (next-left asked results j (omega (arith, many-asked, same))
+        next-second args (asked ++ results) k j (omega (arith, many-args, same))
+        (next-first asked results j (omega (arith, many-asked, same))
         (next-view (predRow ps) predAppOf (preds .len) (preds .items) j e (omega (arith, hm, same))
         ∙ ap (λ (x : RowM). x ∷ drop (j + 1) asked) (sym (at .pred h l))))
 
     of-result : n + m ≤ k → Next (args ++ (asked ++ results)) k r
     of-result h =
         let same : n + m + i ≡ k = hi .result h in
-        next-right args (asked ++ results) k (m + i) (omega (arith, many-args, same))
-        (next-right asked results (m + i) i (omega (arith, many-asked))
+        next-second args (asked ++ results) k (m + i) (omega (arith, many-args, same))
+        (next-second asked results (m + i) i (omega (arith, many-asked))
         (next-view (resultRow fs) funcAppOf (apps .len) (apps .items) i d (omega (arith, hn, same, is))
         ∙ ap (λ (x : RowM). x ∷ drop (i + 1) results) (sym (at .result h))))
 
@@ -163,7 +163,7 @@ module _ (g : Sig) (all : List RowM) (k per : ℕ) {before now : Core} {merges a
   unfolding rowsDemand
   row-first {r} e =
       let here = demandedArgs g (r .expected) (r .parents) (r .els) in
-      leaves so-far (omega arith)
+      stays so-far (omega arith)
       (λ w. sym (imposeAll-append here (rowsDemand g (drop (k + 1) all)) w) ∙ ap (λ (l : List RowM). imposeAll (rowsDemand g l) w) (sym e))
 
   -- it is imposed
@@ -175,9 +175,9 @@ module _ (g : Sig) (all : List RowM) (k per : ℕ) {before now : Core} {merges a
       turn per k so-far made p
       (λ w. sym (imposeAll-append here (rowsDemand g (drop (k + 1) all)) w) ∙ ap (λ (l : List RowM). imposeAll (rowsDemand g l) w) (sym e))
 
-  -- none is left
+  -- none remains
   pub rows-end : (cap : ℕ) → length all ≤ k → k ≤ cap → Toward before now merges added (cap * per) (λ w. w) whole
   unfolding rowsDemand
   rows-end cap h most =
-      leaves so-far (mul-le-mul-right per most)
+      stays so-far (mul-le-mul-right per most)
       (λ w. sym (imposeAll-none w) ∙ ap (λ (l : List RowM). imposeAll (rowsDemand g l) w) (sym (drop-of-length-le all {i = k} h)))

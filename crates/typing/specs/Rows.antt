@@ -28,18 +28,21 @@ pub record RowM : Type 0 where
   pub parents : List ℕ
   pub els : List ℕ
 
+abbrev pub new-row : List ℕ → List ℕ → List ℕ → RowM
+new-row ts ps xs = record { expected = ts; parents = ps; els = xs }
+
 abbrev pub rowOf : Row → RowM
-rowOf r = record { expected = typesOf (r .expected); parents = elsOf (r .parents); els = elsOf (r .els) }
+rowOf r = new-row (typesOf (r .expected)) (elsOf (r .parents)) (elsOf (r .els))
 
 -- the rows of an application, by the functions or predicates that are declared
 abbrev pub funcRow : List FuncM → FuncApp → RowM
-funcRow fs x = record { expected = getD fs (x .func) noFunc .domain; parents = x .parents; els = x .args }
+funcRow fs x = new-row (getD fs (x .func) noFunc .domain) (x .parents) (x .args)
 
 abbrev pub predRow : List PredM → PredApp → RowM
-predRow ps x = record { expected = getD ps (x .pred) noPred .arity; parents = x .parents; els = x .args }
+predRow ps x = new-row (getD ps (x .pred) noPred .arity) (x .parents) (x .args)
 
 abbrev pub resultRow : List FuncM → FuncApp → RowM
-resultRow fs x = record { expected = getD fs (x .func) noFunc .codomain ∷ []; parents = x .parents; els = x .result ∷ [] }
+resultRow fs x = new-row (getD fs (x .func) noFunc .codomain ∷ []) (x .parents) (x .result ∷ [])
 
 unfoldable pub rows : List FuncM → List PredM → List FuncApp → List PredApp → List RowM
 rows fs ps apps preds = map (funcRow fs) apps ++ (map (predRow ps) preds ++ map (resultRow fs) apps)

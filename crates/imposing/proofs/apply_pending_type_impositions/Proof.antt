@@ -7,7 +7,7 @@ use Rattle.semantics.specs.Types.{imposeAll}
 use Rattle.facts.specs.View.{impositionsOf, noFact}
 use Rattle.merging.specs.View.{coreOf, Toward}
 use Rattle.imposing.specs.Bounds.{oneImposed}
-use Rattle.merging.proofs.Laws.{begins, leaves, turn}
+use Rattle.merging.proofs.Laws.{begins, stays, turn}
 use Rattle.imposing.proofs.Nothing.{idle-same, idle-here, impositions-idle}
 use Rattle.imposing.proofs.Laws.{impositions-next, impositions-done}
 use borrow.Author.Needs.{needs}
@@ -97,7 +97,7 @@ returns c =
     let t = sized .before .args .t2 in
     let l = c .before .loop in
     let past : length (impositionsOf t) ≤ l .i = omega (arith, sized .size .ensures .is, c .loop-test .left) in
-    leaves (l .inv .1) (omega (arith, l .inv .0, sized .size .ensures .most)) (impositions-done t (l .i) past)
+    stays (l .inv .1) (omega (arith, l .inv .0, sized .size .ensures .most)) (impositions-done t (l .i) past)
 
 pub apply-pending-type-impositions-spec : {M : Type 1} → statement M
 apply-pending-type-impositions-spec =

@@ -1,4 +1,4 @@
--- `insert_fact` meets its contract: what the table's insertion gives decides what is left.
+-- `insert_fact` meets its contract: what the table's insertion gives decides the core afterwards.
 use borrow.Author.Needs.{needs}
 use Rattle.facts.specs.View.{factOf}
 use Rattle.imposing.proofs.Laws.{refused, grown, known, met-first, met-again}

@@ -6,7 +6,7 @@ use Rattle.semantics.specs.Types.{refineAll}
 use Rattle.facts.specs.View.{factOf, factsOf}
 use Rattle.merging.specs.View.{Toward}
 use Rattle.imposing.specs.Bounds.{oneList}
-use Rattle.merging.proofs.Laws.{begins, leaves, turn, idle-turn}
+use Rattle.merging.proofs.Laws.{begins, stays, turn, idle-turn}
 use Rattle.imposing.proofs.Laws.{all-same, all-other, all-done}
 use borrow.Author.Needs.{needs}
 use Rattle.imposing.proofs.refine_all.Statement.{statement}
@@ -92,7 +92,7 @@ returns c =
     let a = sized .before .args in
     let l = c .before .loop in
     let past : length (factsOf (a .t2)) ≤ l .i = omega (arith, sized .size .ensures .is, c .loop-test .left) in
-    leaves (l .inv .1) (omega (arith, l .inv .0, sized .size .ensures .most)) (all-done (a .t2) (factOf (a .fact)) (l .i) past)
+    stays (l .inv .1) (omega (arith, l .inv .0, sized .size .ensures .most)) (all-done (a .t2) (factOf (a .fact)) (l .i) past)
 
 pub refine-all-spec : {M : Type 1} → statement M
 refine-all-spec =

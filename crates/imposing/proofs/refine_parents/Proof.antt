@@ -6,7 +6,7 @@ use Rattle.ids.specs.Ids.{elsOf}
 use Rattle.semantics.specs.Types.{refineParents}
 use Rattle.merging.specs.View.{Toward}
 use Rattle.imposing.specs.Bounds.{onePair}
-use Rattle.merging.proofs.Laws.{begins, leaves, turn, idle-turn}
+use Rattle.merging.proofs.Laws.{begins, stays, turn, idle-turn}
 use Rattle.imposing.proofs.Laws.{parents-next, parents-short, parents-done}
 use borrow.Author.Needs.{needs}
 use Rattle.imposing.proofs.refine_parents.Statement.{statement}
@@ -99,7 +99,7 @@ returns c =
     let a = sized .before .before .args in
     let l = c .before .loop in
     let past : length (elsOf (a .t2)) ≤ l .i = omega (arith, sized .before .size .ensures .is, c .loop-test .left) in
-    leaves (l .inv .1) (omega (arith, l .inv .0, sized .before .size .ensures .most)) (parents-done (a .t2) (a .t3) (l .i) past)
+    stays (l .inv .1) (omega (arith, l .inv .0, sized .before .size .ensures .most)) (parents-done (a .t2) (a .t3) (l .i) past)
 
 pub refine-parents-spec : {M : Type 1} → statement M
 refine-parents-spec =

@@ -3,7 +3,7 @@ use mathlib.Core.Path.{ap}
 use mathlib.Core.List.{[], _∷_}
 use Rattle.ids.specs.Ids.{elsOf}
 use Rattle.signature.specs.Model.{FuncM}
-use Rattle.typing.specs.Rows.{RowM}
+use Rattle.typing.specs.Rows.{new-row}
 use borrow.Author.Needs.{needs}
 use Rattle.typing.proofs.result_row.Statement.{statement}
 use Rattle.typing.proofs.result_row.Tie as tie
@@ -15,8 +15,7 @@ returns : tie.Need-returns
 returns c =
     let got = c .before .before .before in
     let app = got .before .args .app in
-    let row : FuncM → RowM = λ f. record { expected = f .codomain ∷ []; parents = elsOf (app .parents); els = app .result .0 ∷ [] } in
-    ap row (got .get .ensures)
+    ap (λ (f : FuncM). new-row (f .codomain ∷ []) (elsOf (app .parents)) (app .result .0 ∷ [])) (got .get .ensures)
 
 pub result-row-spec : {M : Type 1} → statement M
 result-row-spec = tie.close (tie.spec get-requires returns)

@@ -10,7 +10,7 @@ use Rattle.semantics.specs.Close.{demandedArgs}
 use Rattle.merging.specs.View.{coreOf, Toward}
 use Rattle.imposing.specs.Bounds.{oneImposed}
 use Rattle.imposing.proofs.Nothing.{idle-same}
-use Rattle.merging.proofs.Laws.{begins, leaves}
+use Rattle.merging.proofs.Laws.{begins, stays}
 use Rattle.typing.specs.Bounds.{oneRow}
 use Rattle.typing.proofs.Laws.{onlyTypes, type-absent, type-imposed, type-idle, arg-typed, arg-untyped, arg-idle, no-arg, types-end}
 use borrow.Author.Needs.{needs}
@@ -46,7 +46,7 @@ loop-holds c =
     let a = c .before .before .before .before .before .before .args in (
       omega arith,
       λ g same.
-          leaves
+          stays
           (begins (a .core) (imposeAll (demandedArgs g (typesOf (a .row .expected)) (elsOf (a .row .parents)) (elsOf (a .row .els)))))
           (omega arith)
           (λ w. refl),

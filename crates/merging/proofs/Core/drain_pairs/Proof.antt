@@ -5,7 +5,7 @@ use native.Mathlib.Omega.{arith}
 use Rattle.semantics.specs.Types.{drainPairs}
 use Rattle.equalities.specs.View.{pairsOf}
 use Rattle.merging.specs.View.{Toward}
-use Rattle.merging.proofs.Laws.{begins, takes, leaves}
+use Rattle.merging.proofs.Laws.{begins, takes, stays}
 use Rattle.merging.proofs.Merged.{undrained, drain-all, drain-last, drain-none}
 use borrow.Author.Needs.{needs}
 use Rattle.merging.proofs.Core.drain_pairs.Statement.{statement}
@@ -24,7 +24,7 @@ size-requires c κs = search needs
 loop-holds : tie.Need-loop-holds Inv-loop μ-loop
 loop-holds c =
     let a = c .before .args in
-    (omega arith, leaves (begins (a .self) (drainPairs (pairsOf (a .t2)))) (omega arith) (drain-all (a .t2) (c .size .ensures)))
+    (omega arith, stays (begins (a .self) (drainPairs (pairsOf (a .t2)))) (omega arith) (drain-all (a .t2) (c .size .ensures)))
 
 sub-at : tie.Need-sub-at Inv-loop μ-loop
 sub-at c = omega (arith, c .before .loop .inv .0, c .loop-test .taken)
@@ -63,7 +63,7 @@ loop-again c =
     let l = test .before .loop in
     let sized = test .before .before in (
       omega (arith, l .inv .0),
-      leaves (takes (l .inv .1) (joined .join .result) (joined .join .ensures)
+      stays (takes (l .inv .1) (joined .join .result) (joined .join .ensures)
           (drain-last (sized .before .args .t2) (sized .size .ensures) (l .i) _ (test .loop-test .taken) (l .inv .0)))
           (omega (arith, l .inv .0, test .loop-test .taken)) (λ w. refl),
     )
@@ -72,7 +72,7 @@ returns : tie.Need-returns Inv-loop μ-loop
 returns c =
     let l = c .before .loop in
     let sized = c .before .before in
-    leaves (l .inv .1) (omega (arith, sized .size .ensures .most)) (drain-none (sized .before .args .t2) (l .i) (c .loop-test .left))
+    stays (l .inv .1) (omega (arith, sized .size .ensures .most)) (drain-none (sized .before .args .t2) (l .i) (c .loop-test .left))
 
 pub drain-pairs-spec : {M : Type 1} → statement M
 drain-pairs-spec =

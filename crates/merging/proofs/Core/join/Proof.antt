@@ -5,7 +5,7 @@ use native.Mathlib.Omega.{arith}
 use Rattle.semantics.specs.Types.{joinRoots, join}
 use Rattle.equalities.specs.View.{pairOf}
 use Rattle.merging.specs.View.{coreOf}
-use Rattle.merging.proofs.Laws.{begins, leaves, counts-as}
+use Rattle.merging.proofs.Laws.{begins, stays, counts-as}
 use Rattle.merging.proofs.Merged.{join-less, join-more, join-same, join-found}
 use borrow.Author.Needs.{needs}
 use Rattle.merging.proofs.Core.join.Statement.{statement}
@@ -44,7 +44,7 @@ returns-2 c =
 returns-3 : tie.Need-returns-3
 returns-3 c =
     let e1 = c .before .before .before in
-    counts-as (leaves (begins _ (λ w. w)) (omega arith) (λ w. refl)) (λ m a. join-same _ (c .if2 .left) (e1 .if1 .left) ∙ found (e1 .before) m a)
+    counts-as (stays (begins _ (λ w. w)) (omega arith) (λ w. refl)) (λ m a. join-same _ (c .if2 .left) (e1 .if1 .left) ∙ found (e1 .before) m a)
 
 pub join-spec : {M : Type 1} → statement M
 join-spec =
