@@ -19,7 +19,7 @@ use Rattle.semantics.specs.Structure.{Fact, FuncApp, PredApp, Pair, Structure, 
 use Rattle.semantics.specs.Structure.{with-flags}
 use Rattle.semantics.specs.Types as types
 use Rattle.semantics.specs.Types.{Core, imposeAll, grew}
-use Rattle.semantics.specs.Close.{demanded, demandedAt, demandedArgs, funcArgs, predArgs, funcResults, demands, Turn, typed, round, Rounds, isNone}
+use Rattle.semantics.specs.Close.{demanded, demandedAt, demandedArgs, funcArgs, predArgs, funcResults, demands, Turn, round, Rounds, isNone}
 use Rattle.semantics.specs.Close.{lastRound, oneMore, roundsFrom, rounds, fuel, Closed, coreOf, canonicaliseRefs, withCore, imposedAfter, CloseRun, closeRun}
 use Rattle.semantics.specs.Close.{reportOf, afterClose, closeBy, close, turn, report}
 use Rattle.semantics.specs.Calls as calls
