@@ -3,9 +3,6 @@ use apps::FuncApp;
 use apps::PredApp;
 use bindings::AmbientEl;
 use bindings::VarEl;
-use close::CloseAnswer;
-use close::Closing;
-use facts::ConcreteType;
 use facts::Fact;
 use ids::ElId;
 use ids::ElIds;
@@ -19,12 +16,10 @@ use signature::Pred;
 use signature::Signature;
 use signature::Type;
 use signature::TypeKind;
+use structure::Answer;
+use structure::Machine;
+use structure::Stepped;
 use structure::Structure;
-
-pub struct Run {
-    pub signature: Signature,
-    pub structure: Structure,
-}
 
 fn wide(b: u8) -> u16 {
     b as u16
@@ -90,7 +85,7 @@ fn kind_of(a: u16, b: u16) -> TypeKind {
 }
 
 // Kinds 1 to 3.
-fn declare(run: Run, bytes: &[u8], index: u16) -> Signature {
+fn declare(run: Machine, bytes: &[u8], index: u16) -> Signature {
     let structure = run.structure;
     let signature = run.signature;
     let kind = word(bytes, index, 1);
@@ -129,7 +124,7 @@ fn declare(run: Run, bytes: &[u8], index: u16) -> Signature {
 }
 
 // Kinds 6 to 12.
-fn state(run: Run, bytes: &[u8], index: u16) -> Structure {
+fn state(run: Machine, bytes: &[u8], index: u16) -> Structure {
     let s = run.structure;
     let signature = run.signature;
     let kind = word(bytes, index, 1);
@@ -147,42 +142,18 @@ fn state(run: Run, bytes: &[u8], index: u16) -> Structure {
             r.structure
         }
         8 => {
-            let r = inserting::impose_type(
-                s,
-                signature,
-                Fact {
-                    el: ElId(a),
-                    ct: ConcreteType {
-                        typ: TypeId(b),
-                        parents: given,
-                    },
-                },
-            );
+            let fact = Fact::new(ElId(a), TypeId(b), given);
+            let r = inserting::impose_type(s, signature, fact);
             r.structure
         }
         9 => {
-            let r = inserting::insert_func_app_or_equate(
-                s,
-                signature,
-                FuncApp {
-                    func: FuncId(a),
-                    parents: given,
-                    args: listed,
-                    result: ElId(b),
-                },
-            );
+            let app = FuncApp::new(FuncId(a), given, listed, ElId(b));
+            let r = inserting::insert_func_app_or_equate(s, signature, app);
             r.structure
         }
         10 => {
-            let r = inserting::insert_pred_app(
-                s,
-                signature,
-                PredApp {
-                    pred: PredId(a),
-                    parents: given,
-                    args: listed,
-                },
-            );
+            let app = PredApp::new(PredId(a), given, listed);
+            let r = inserting::insert_pred_app(s, signature, app);
             r.structure
         }
         11 => {
@@ -206,29 +177,26 @@ fn state(run: Run, bytes: &[u8], index: u16) -> Structure {
     }
 }
 
-fn step(run: Run, bytes: &[u8], index: u16) -> Run {
+fn step(run: Machine, bytes: &[u8], index: u16) -> Machine {
     let structure = run.structure;
     let signature = run.signature;
     if word(bytes, index, 1) < 6 {
         let next = declare(run, bytes, index);
-        return Run {
+        return Machine {
             signature: next,
             structure,
         };
     }
-    let left = state(run, bytes, index);
-    Run {
+    let next = state(run, bytes, index);
+    Machine {
         signature,
-        structure: left,
+        structure: next,
     }
 }
 
 // The records of a sheet before its first close, carried out.
-fn build(bytes: &[u8]) -> Run {
-    let mut run = Run {
-        signature: Signature::new(),
-        structure: Structure::new(),
-    };
+fn build(bytes: &[u8]) -> Machine {
+    let mut run = Machine::new();
     let mut index: u16 = 0;
     for _visited in 0..1024u16 {
         if word(bytes, index, 1) == 13 {
@@ -245,24 +213,26 @@ fn build(bytes: &[u8]) -> Run {
 }
 
 // Changed, merges, rounds and facts; a refusal's number with 2 for changed.
-fn report(closing: Closing, out: &mut [u64; 4]) {
-    let answer = closing.answer;
-    out[3] = closing.structure.els.len as u64;
+fn report(stepped: Stepped, out: &mut [u64; 4]) {
+    let answer = stepped.answer;
+    out[3] = stepped.structure.els.len as u64;
     match answer {
-        CloseAnswer::Closed(c) => {
+        Answer::Closed(c) => {
             out[0] = if c.changed { 1 } else { 0 };
             out[1] = c.merges;
             out[2] = c.rounds;
         }
-        CloseAnswer::Refused(n) => {
+        Answer::Refused(n) => {
             out[0] = 2;
             out[1] = n as u64;
             out[2] = 0;
         }
+        // A close gives no other answer.
+        _ => {}
     }
 }
 
-// Builds the sheet once and closes it so many times. The flag differs from one close to the next, so that none can be left out.
+// Builds the sheet once and closes it so many times. The flag differs from one close to the next, so that none can be dropped.
 #[no_mangle]
 pub extern "C" fn bench_close(bytes: &[u8], times: u64, out: &mut [u64; 4]) {
     let run = build(bytes);
@@ -270,7 +240,7 @@ pub extern "C" fn bench_close(bytes: &[u8], times: u64, out: &mut [u64; 4]) {
     let mut structure = run.structure;
     for i in 0..times {
         structure.settled = i % 2 == 1;
-        let closing = close::close(structure, signature);
-        report(closing, out);
+        let stepped = close::close(structure, signature);
+        report(stepped, out);
     }
 }

@@ -1,24 +1,24 @@
--- Laws of the lists that a record gives, of its kind, of how a call's answer came out, and of what a record answers where it fits and where not.
+-- Laws of the lists that a record gives, of conflicts beside an answer, of kinds, and of what a record answers where it fits and where not.
 use Prim.Native.Nat.{ℕ, _≤_, _<_, min}
 use mathlib.Core.Path.{_≡_, refl, sym, ap, _∙_}
-use mathlib.Core.Bool.{Bool, true, false}
+use mathlib.Core.Bool.{true, false}
 use mathlib.Core.List.{List, [], _∷_}
 use mathlib.Core.Option.{Option, none, some}
 use native.Mathlib.Omega.{arith}
 use lib.ListN.{length, take, getD, List·getD-eq-default}
 use Rattle.ids.specs.Limits.{maxList}
-use Rattle.ids.specs.Answers.{Answered}
 use Rattle.ids.specs.Ids.{givenOf}
 use Rattle.ids.proofs.Lists.{given-held}
 use Rattle.ids.proofs.Views.{take-same}
 use Rattle.ids.proofs.Tests.{chosen, unchosen}
-use Rattle.signature.specs.Model.{Sig}
-use Rattle.semantics.specs.Structure.{Structure}
-use Rattle.semantics.specs.Calls.{Call, Answer, Machine, Step, onSig, onStructure}
+use Rattle.semantics.specs.Calls.{Call, Machine, Step}
 use Rattle.semantics.specs.Sheet.{Record, Form, forms, formOf, callIn, carryOut}
 use Rattle.records.specs.View.{fitsForm}
+use Rattle.structure.specs.declared.Answer.{Answer}
+use Rattle.structure.specs.declared.Answer.the-variants as variants
+use Rattle.structure.specs.View.{answerOf}
 use Rattle.carrying.specs.declared.Carried.{Carried}
-use Rattle.carrying.specs.View.{stepOf, CarriedM, carriedOf, carried, formStep}
+use Rattle.carrying.specs.View.{carriedStep, conflictsBeside, CarriedM, carriedOf, withConflicts, formStep}
 
 -- the four slots of a list
 abbrev pub slotsOf : List ℕ → List ℕ
@@ -37,17 +37,17 @@ pub slots-given : (xs : List ℕ) (n len : ℕ) → length xs ≡ maxList → le
 slots-given xs n len long h =
     ap (givenOf len) (four xs long) ∙ given-held len xs (omega arith) ∙ take-same len n xs (omega arith)
 
--- A call's answer, as the code's enum, came out as x.
-module _ {A B : Type 0} (f : A → Answer) (m : Machine) (view : B → Answered A) where
-  pub on-sig : (g : Sig) {x y : B} → y ≡ x → onSig f m (record { answer = view x; after = g }) ≡ onSig f m (record { answer = view y; after = g })
-  on-sig g e = ap (λ (x : B). onSig f m (record { answer = view x; after = g })) (sym e)
-
-  pub on-structure : (s : Structure) {x y : B} → y ≡ x
-      → onStructure f m (record { answer = view x; after = s }) ≡ onStructure f m (record { answer = view y; after = s })
-  on-structure s e = ap (λ (x : B). onStructure f m (record { answer = view x; after = s })) (sym e)
+-- no conflicts stand beside an answer that is given none
+pub none-beside : (a : Answer) → conflictsBeside (answerOf [] a) ≡ []
+none-beside (variants.Number n) = refl
+none-beside (variants.Says b) = refl
+none-beside variants.Done = refl
+none-beside (variants.Closed c) = refl
+none-beside variants.Conflicting = refl
+none-beside (variants.Refused n) = refl
 
 -- the step of a record that is carried out, with the conflicts as they are held
-pub carried-step : (r : Carried) {s : Step} → carriedOf r ≡ carried s → stepOf r ≡ s
+pub carried-step : (r : Carried) {s : Step} → carriedOf r ≡ withConflicts s → carriedStep r ≡ s
 carried-step r is = ap (λ (k : CarriedM). k .step) is
 
 -- Kinds by number.

@@ -3,12 +3,8 @@ use apps::FuncApp;
 use apps::PredApp;
 use bindings::AmbientEl;
 use bindings::VarEl;
-use close::CloseAnswer;
-use close::Closed;
-use close::Closing;
 use conflicts::Conflicting;
 use conflicts::TypeConflicts;
-use facts::ConcreteType;
 use facts::Fact;
 use ids::ElId;
 use ids::ElIds;
@@ -25,62 +21,32 @@ use signature::ModelIds;
 use signature::MorAppFunc;
 use signature::MorphismMemberTypes;
 use signature::Pred;
-use signature::Signature;
 use signature::Type;
 use signature::TypeKind;
-use structure::Doing;
-use structure::Done;
-use structure::Numbered;
-use structure::Numbering;
-use structure::Said;
-use structure::Saying;
-use structure::Structure;
+use structure::Answer;
+use structure::Machine;
+use structure::Stepped;
 ghost use mathlib.Core.Path.{_≡_};
 ghost use mathlib.Core.List.{[]};
 ghost use Prim.Native.Nat.{_≤_, min};
 ghost use lib.ListN.{take};
-ghost use Rattle.ids.specs.Ids.{givenEls, givenTypes, whole};
+ghost use Rattle.ids.specs.Ids.{givenEls, givenTypes};
 ghost use Rattle.ids.specs.Limits.{maxList};
-ghost use Rattle.signature.specs.Model.{kindOf};
-ghost use Rattle.signature.specs.Calls.{declared};
+ghost use Rattle.signature.specs.Model.{kindOf, sigOf};
 ghost use Rattle.semantics.specs.Calls as calls;
+ghost use Rattle.semantics.specs.Calls.{answers};
 ghost use Rattle.semantics.specs.Sheet as sheet;
-ghost use Rattle.structure.specs.View.{structureOf, numberingOf, sayingOf, doingOf};
-ghost use Rattle.close.specs.View.{closingOf};
+ghost use Rattle.structure.specs.View.{structureOf, machineOf, answerOf, stepOf};
+ghost use Rattle.declaring.specs.View.{declaringOf};
 ghost use Rattle.records.specs.View.{recordView};
 ghost use Rattle.conflicts.specs.View.{conflictsOf, givenConflicts, heldConflicting};
-ghost use Rattle.carrying.specs.View.{machineOf, answerOf, carriedOf, carried, formStep};
-
-pub struct Machine {
-    pub signature: Signature,
-    pub structure: Structure,
-}
+ghost use Rattle.carrying.specs.View.{carriedOf, withConflicts, formStep};
 
 // What a record's call answers; conflicts stand beside it, and none beside another answer.
-pub enum Answer {
-    Number(u16),
-    Says(bool),
-    Done,
-    Closed(Closed),
-    Conflicting,
-    Refused(u16),
-}
-
 pub struct Carried {
     pub answer: Answer,
     pub conflicts: TypeConflicts,
     pub machine: Machine,
-}
-
-impl Machine {
-    pub fn new() -> Self
-        ensures { λ r. ⌜ machineOf r ≡ calls.start ⌝ }
-    {
-        Machine {
-            signature: Signature::new(),
-            structure: Structure::new(),
-        }
-    }
 }
 
 // A count over the limit counts as the limit.
@@ -135,9 +101,9 @@ fn type_kind(a: u16, b: u16) -> TypeKind
     }
 }
 
-// An answer that is no list of conflicts.
+// An answer with no conflicts beside it.
 fn answered(machine: Machine, answer: Answer) -> Carried
-    ensures { λ r. ⌜ carriedOf r ≡ record { step = record { answer = answerOf [] answer; after = machineOf machine }; conflicts = whole [] } ⌝ }
+    ensures { λ r. ⌜ carriedOf r ≡ withConflicts (answers (answerOf [] answer) (machineOf machine)) ⌝ }
 {
     Carried {
         answer,
@@ -146,10 +112,10 @@ fn answered(machine: Machine, answer: Answer) -> Carried
     }
 }
 
-// What a record answers after its call, by what the call answers.
+// What a record answers after its call.
 
 fn after_declaring(machine: Machine, d: Declaring) -> Carried
-    ensures { λ r. ⌜ carriedOf r ≡ carried (calls.onSig calls.number (machineOf machine) (declared d)) ⌝ }
+    ensures { λ r. ⌜ carriedOf r ≡ withConflicts (declaringOf (structureOf (machine .structure)) d) ⌝ }
 {
     let signature = d.signature;
     let structure = machine.structure;
@@ -164,73 +130,22 @@ fn after_declaring(machine: Machine, d: Declaring) -> Carried
     }
 }
 
-fn after_numbering(machine: Machine, d: Numbering) -> Carried
-    ensures { λ r. ⌜ carriedOf r ≡ carried (calls.onStructure calls.number (machineOf machine) (numberingOf d)) ⌝ }
+fn after_step(machine: Machine, stepped: Stepped) -> Carried
+    ensures { λ r. ⌜ carriedOf r ≡ withConflicts (stepOf (sigOf (machine .signature)) stepped) ⌝ }
 {
     let signature = machine.signature;
-    let structure = d.structure;
+    let structure = stepped.structure;
     let next = Machine {
         signature,
         structure,
     };
-    let answer = d.answer;
-    match answer {
-        Numbered::Number(n) => answered(next, Answer::Number(n)),
-        Numbered::Refused(n) => answered(next, Answer::Refused(n)),
-    }
-}
-
-fn after_saying(machine: Machine, d: Saying) -> Carried
-    ensures { λ r. ⌜ carriedOf r ≡ carried (calls.onStructure calls.says (machineOf machine) (sayingOf d)) ⌝ }
-{
-    let signature = machine.signature;
-    let structure = d.structure;
-    let next = Machine {
-        signature,
-        structure,
-    };
-    let answer = d.answer;
-    match answer {
-        Said::Answer(b) => answered(next, Answer::Says(b)),
-        Said::Refused(n) => answered(next, Answer::Refused(n)),
-    }
-}
-
-fn after_doing(machine: Machine, d: Doing) -> Carried
-    ensures { λ r. ⌜ carriedOf r ≡ carried (calls.onStructure (λ u. calls.done) (machineOf machine) (doingOf d)) ⌝ }
-{
-    let signature = machine.signature;
-    let structure = d.structure;
-    let next = Machine {
-        signature,
-        structure,
-    };
-    let answer = d.answer;
-    match answer {
-        Done::Accepted => answered(next, Answer::Done),
-        Done::Refused(n) => answered(next, Answer::Refused(n)),
-    }
-}
-
-fn after_closing(machine: Machine, d: Closing) -> Carried
-    ensures { λ r. ⌜ carriedOf r ≡ carried (calls.onStructure calls.closed (machineOf machine) (closingOf d)) ⌝ }
-{
-    let signature = machine.signature;
-    let structure = d.structure;
-    let next = Machine {
-        signature,
-        structure,
-    };
-    let answer = d.answer;
-    match answer {
-        CloseAnswer::Closed(c) => answered(next, Answer::Closed(c)),
-        CloseAnswer::Refused(n) => answered(next, Answer::Refused(n)),
-    }
+    let answer = stepped.answer;
+    answered(next, answer)
 }
 
 fn after_conflicting(machine: Machine, d: Conflicting) -> Carried
     requires { ⌜ givenConflicts (d .conflicts) ≡ conflictsOf (d .conflicts) ⌝ }
-    ensures { λ r. ⌜ carriedOf r ≡ carried (calls.onStructure calls.conflicting (machineOf machine) (heldConflicting d)) ⌝ }
+    ensures { λ r. ⌜ carriedOf r ≡ withConflicts (heldConflicting (sigOf (machine .signature)) d) ⌝ }
 {
     let signature = machine.signature;
     let structure = d.structure;
@@ -250,7 +165,7 @@ fn after_conflicting(machine: Machine, d: Conflicting) -> Carried
 
 // Kind 1.
 fn push_type(machine: Machine, given: Record) -> Carried
-    ensures { λ r. ⌜ carriedOf r ≡ carried (calls.step (sheet.typeForm .call (recordView given)) (machineOf machine)) ⌝ }
+    ensures { λ r. ⌜ carriedOf r ≡ withConflicts (calls.step (sheet.typeForm .call (recordView given)) (machineOf machine)) ⌝ }
 {
     let signature = machine.signature;
     let structure = machine.structure;
@@ -264,7 +179,7 @@ fn push_type(machine: Machine, given: Record) -> Carried
 
 // Kind 2.
 fn push_pred(machine: Machine, given: Record) -> Carried
-    ensures { λ r. ⌜ carriedOf r ≡ carried (calls.step (sheet.predForm .call (recordView given)) (machineOf machine)) ⌝ }
+    ensures { λ r. ⌜ carriedOf r ≡ withConflicts (calls.step (sheet.predForm .call (recordView given)) (machineOf machine)) ⌝ }
 {
     let signature = machine.signature;
     let structure = machine.structure;
@@ -279,7 +194,7 @@ fn push_pred(machine: Machine, given: Record) -> Carried
 
 // Kind 3.
 fn push_func(machine: Machine, given: Record) -> Carried
-    ensures { λ r. ⌜ carriedOf r ≡ carried (calls.step (sheet.funcForm .call (recordView given)) (machineOf machine)) ⌝ }
+    ensures { λ r. ⌜ carriedOf r ≡ withConflicts (calls.step (sheet.funcForm .call (recordView given)) (machineOf machine)) ⌝ }
 {
     let signature = machine.signature;
     let structure = machine.structure;
@@ -295,7 +210,7 @@ fn push_func(machine: Machine, given: Record) -> Carried
 
 // Kind 4.
 fn push_model(machine: Machine, given: Record) -> Carried
-    ensures { λ r. ⌜ carriedOf r ≡ carried (calls.step (sheet.modelForm .call (recordView given)) (machineOf machine)) ⌝ }
+    ensures { λ r. ⌜ carriedOf r ≡ withConflicts (calls.step (sheet.modelForm .call (recordView given)) (machineOf machine)) ⌝ }
 {
     let signature = machine.signature;
     let structure = machine.structure;
@@ -313,7 +228,7 @@ fn push_model(machine: Machine, given: Record) -> Carried
 
 // Kind 5.
 fn push_mor_app_func(machine: Machine, given: Record) -> Carried
-    ensures { λ r. ⌜ carriedOf r ≡ carried (calls.step (sheet.morAppForm .call (recordView given)) (machineOf machine)) ⌝ }
+    ensures { λ r. ⌜ carriedOf r ≡ withConflicts (calls.step (sheet.morAppForm .call (recordView given)) (machineOf machine)) ⌝ }
 {
     let signature = machine.signature;
     let structure = machine.structure;
@@ -333,55 +248,47 @@ fn push_mor_app_func(machine: Machine, given: Record) -> Carried
 
 // Kind 6.
 fn push_el(machine: Machine, given: Record) -> Carried
-    ensures { λ r. ⌜ carriedOf r ≡ carried (calls.step (sheet.elForm .call (recordView given)) (machineOf machine)) ⌝ }
+    ensures { λ r. ⌜ carriedOf r ≡ withConflicts (calls.step (sheet.elForm .call (recordView given)) (machineOf machine)) ⌝ }
 {
     let structure = machine.structure;
     let mark = given.a == 1;
-    after_numbering(machine, structure.push_el(mark))
+    after_step(machine, structure.push_el(mark))
 }
 
 // Kind 7.
 fn equate(machine: Machine, given: Record) -> Carried
-    ensures { λ r. ⌜ carriedOf r ≡ carried (calls.step (sheet.equalityForm .call (recordView given)) (machineOf machine)) ⌝ }
+    ensures { λ r. ⌜ carriedOf r ≡ withConflicts (calls.step (sheet.equalityForm .call (recordView given)) (machineOf machine)) ⌝ }
 {
     let structure = machine.structure;
     let a = ElId(given.a);
     let b = ElId(given.b);
-    after_saying(machine, structure.equate(a, b))
+    after_step(machine, structure.equate(a, b))
 }
 
 // Kind 8.
 fn impose_type(machine: Machine, given: Record) -> Carried
-    ensures { λ r. ⌜ carriedOf r ≡ carried (calls.step (sheet.impositionForm .call (recordView given)) (machineOf machine)) ⌝ }
+    ensures { λ r. ⌜ carriedOf r ≡ withConflicts (calls.step (sheet.impositionForm .call (recordView given)) (machineOf machine)) ⌝ }
 {
     let signature = machine.signature;
     let structure = machine.structure;
     let slots = given.parents;
-    let fact = Fact {
-        el: ElId(given.a),
-        ct: ConcreteType {
-            typ: TypeId(given.b),
-            parents: els_in(slots, given.parent_count),
-        },
-    };
-    after_saying(machine, inserting::impose_type(structure, signature, fact))
+    let parents = els_in(slots, given.parent_count);
+    let fact = Fact::new(ElId(given.a), TypeId(given.b), parents);
+    after_step(machine, inserting::impose_type(structure, signature, fact))
 }
 
 // Kind 9.
 fn apply_func(machine: Machine, given: Record) -> Carried
-    ensures { λ r. ⌜ carriedOf r ≡ carried (calls.step (sheet.funcAppForm .call (recordView given)) (machineOf machine)) ⌝ }
+    ensures { λ r. ⌜ carriedOf r ≡ withConflicts (calls.step (sheet.funcAppForm .call (recordView given)) (machineOf machine)) ⌝ }
 {
     let signature = machine.signature;
     let structure = machine.structure;
     let slots = given.parents;
     let arg_slots = given.args;
-    let app = FuncApp {
-        func: FuncId(given.a),
-        parents: els_in(slots, given.parent_count),
-        args: els_in(arg_slots, given.arg_count),
-        result: ElId(given.b),
-    };
-    after_saying(
+    let parents = els_in(slots, given.parent_count);
+    let args = els_in(arg_slots, given.arg_count);
+    let app = FuncApp::new(FuncId(given.a), parents, args, ElId(given.b));
+    after_step(
         machine,
         inserting::insert_func_app_or_equate(structure, signature, app),
     )
@@ -389,18 +296,16 @@ fn apply_func(machine: Machine, given: Record) -> Carried
 
 // Kind 10.
 fn apply_pred(machine: Machine, given: Record) -> Carried
-    ensures { λ r. ⌜ carriedOf r ≡ carried (calls.step (sheet.predAppForm .call (recordView given)) (machineOf machine)) ⌝ }
+    ensures { λ r. ⌜ carriedOf r ≡ withConflicts (calls.step (sheet.predAppForm .call (recordView given)) (machineOf machine)) ⌝ }
 {
     let signature = machine.signature;
     let structure = machine.structure;
     let slots = given.parents;
     let arg_slots = given.args;
-    let app = PredApp {
-        pred: PredId(given.a),
-        parents: els_in(slots, given.parent_count),
-        args: els_in(arg_slots, given.arg_count),
-    };
-    after_saying(
+    let parents = els_in(slots, given.parent_count);
+    let args = els_in(arg_slots, given.arg_count);
+    let app = PredApp::new(PredId(given.a), parents, args);
+    after_step(
         machine,
         inserting::insert_pred_app(structure, signature, app),
     )
@@ -408,19 +313,19 @@ fn apply_pred(machine: Machine, given: Record) -> Carried
 
 // Kind 11.
 fn bind_var(machine: Machine, given: Record) -> Carried
-    ensures { λ r. ⌜ carriedOf r ≡ carried (calls.step (sheet.varForm .call (recordView given)) (machineOf machine)) ⌝ }
+    ensures { λ r. ⌜ carriedOf r ≡ withConflicts (calls.step (sheet.varForm .call (recordView given)) (machineOf machine)) ⌝ }
 {
     let structure = machine.structure;
     let v = VarEl {
         key: given.a,
         el: ElId(given.b),
     };
-    after_doing(machine, structure.insert_var_el(v))
+    after_step(machine, structure.insert_var_el(v))
 }
 
 // Kind 12.
 fn bind_ambient(machine: Machine, given: Record) -> Carried
-    ensures { λ r. ⌜ carriedOf r ≡ carried (calls.step (sheet.ambientForm .call (recordView given)) (machineOf machine)) ⌝ }
+    ensures { λ r. ⌜ carriedOf r ≡ withConflicts (calls.step (sheet.ambientForm .call (recordView given)) (machineOf machine)) ⌝ }
 {
     let signature = machine.signature;
     let structure = machine.structure;
@@ -428,21 +333,21 @@ fn bind_ambient(machine: Machine, given: Record) -> Carried
         typ: TypeId(given.a),
         el: ElId(given.b),
     };
-    after_doing(machine, structure.insert_ambient_model_el(signature, a))
+    after_step(machine, structure.insert_ambient_model_el(signature, a))
 }
 
 // Kind 13.
 fn run_close(machine: Machine) -> Carried
-    ensures { λ r. ⌜ carriedOf r ≡ carried (calls.step calls.close (machineOf machine)) ⌝ }
+    ensures { λ r. ⌜ carriedOf r ≡ withConflicts (calls.step calls.close (machineOf machine)) ⌝ }
 {
     let signature = machine.signature;
     let structure = machine.structure;
-    after_closing(machine, close::close(structure, signature))
+    after_step(machine, close::close(structure, signature))
 }
 
 // Kind 14.
 fn find_conflicts(machine: Machine) -> Carried
-    ensures { λ r. ⌜ carriedOf r ≡ carried (calls.step calls.type-conflicts (machineOf machine)) ⌝ }
+    ensures { λ r. ⌜ carriedOf r ≡ withConflicts (calls.step calls.type-conflicts (machineOf machine)) ⌝ }
 {
     let structure = machine.structure;
     after_conflicting(machine, conflicts::type_conflicts(structure))
@@ -451,7 +356,7 @@ fn find_conflicts(machine: Machine) -> Carried
 // The kinds that declare.
 fn declare(machine: Machine, given: Record) -> Carried
     requires { ⌜ (1 ≤ given .kind) × (given .kind ≤ 5) ⌝ }
-    ensures { λ r. ⌜ carriedOf r ≡ carried (formStep (sheet.formOf (given .kind)) (recordView given) (machineOf machine)) ⌝ }
+    ensures { λ r. ⌜ carriedOf r ≡ withConflicts (formStep (sheet.formOf (given .kind)) (recordView given) (machineOf machine)) ⌝ }
 {
     let kind = given.kind;
     match kind {
@@ -466,7 +371,7 @@ fn declare(machine: Machine, given: Record) -> Carried
 // The kinds that state something of elements.
 fn state(machine: Machine, given: Record) -> Carried
     requires { ⌜ (6 ≤ given .kind) × (given .kind ≤ 12) ⌝ }
-    ensures { λ r. ⌜ carriedOf r ≡ carried (formStep (sheet.formOf (given .kind)) (recordView given) (machineOf machine)) ⌝ }
+    ensures { λ r. ⌜ carriedOf r ≡ withConflicts (formStep (sheet.formOf (given .kind)) (recordView given) (machineOf machine)) ⌝ }
 {
     let kind = given.kind;
     match kind {
@@ -482,7 +387,7 @@ fn state(machine: Machine, given: Record) -> Carried
 
 // A record is carried out by the call of its kind; one that does not fit is refused, and the machine is as it was.
 pub fn carry_out(machine: Machine, given: Record) -> Carried
-    ensures { λ r. ⌜ carriedOf r ≡ carried (sheet.carryOut (sheet.callOf (recordView given)) (machineOf machine)) ⌝ }
+    ensures { λ r. ⌜ carriedOf r ≡ withConflicts (sheet.carryOut (sheet.callOf (recordView given)) (machineOf machine)) ⌝ }
 {
     if !given.fits() {
         return answered(machine, Answer::Refused(Refusal::MALFORMED));

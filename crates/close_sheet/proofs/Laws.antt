@@ -12,7 +12,8 @@ use lib.Signed.{ltZ}
 use borrow.Author.Tests.{eq-eqb, ne-eqb, eqb-true, eqb-false, lt-ltb, le-ltb, ltb-true, ltb-false}
 use Rattle.close_sheet.specs.declared.Reading.{Reading}
 use Rattle.close_sheet.specs.declared.Reading.the-variants as readings
-use Rattle.close_sheet.specs.Reading.{isNegative, maxBytes, counted, given, afterRead, Gave}
+use Rattle.semantics.specs.Sheet.{maxSheet}
+use Rattle.close_sheet.specs.Reading.{isNegative, counted, given, afterRead, Gave}
 
 -- a number below zero, by the code's test
 pub below-zero : (z : ℤ) → ltZ z (pos 0) ≡ isNegative z
@@ -34,15 +35,15 @@ module _ (at : ℕ) (failed : Bool) (n : ℕ) where
   unfolding given
   after-end h e = ap (λ (b : Bool). given b at n) (sym (eq-eqb n 0 e)) ∙ not-failed h
 
-  pub after-over : failed ≡ false → (n ≡ 0 → ⊥) → maxBytes < at + n → readings.Whole (maxBytes + 1) ≡ afterRead at failed n
+  pub after-over : failed ≡ false → (n ≡ 0 → ⊥) → maxSheet < at + n → readings.Whole (maxSheet + 1) ≡ afterRead at failed n
   unfolding given counted
   after-over h e l =
-      ap (λ (b : Bool). counted b (at + n)) (sym (lt-ltb maxBytes (at + n) l)) ∙ ap (λ (b : Bool). given b at n) (sym (ne-eqb n 0 e)) ∙ not-failed h
+      ap (λ (b : Bool). counted b (at + n)) (sym (lt-ltb maxSheet (at + n) l)) ∙ ap (λ (b : Bool). given b at n) (sym (ne-eqb n 0 e)) ∙ not-failed h
 
-  pub after-more : failed ≡ false → (n ≡ 0 → ⊥) → at + n ≤ maxBytes → readings.On (at + n) ≡ afterRead at failed n
+  pub after-more : failed ≡ false → (n ≡ 0 → ⊥) → at + n ≤ maxSheet → readings.On (at + n) ≡ afterRead at failed n
   unfolding given counted
   after-more h e l =
-      ap (λ (b : Bool). counted b (at + n)) (sym (le-ltb maxBytes (at + n) l)) ∙ ap (λ (b : Bool). given b at n) (sym (ne-eqb n 0 e)) ∙ not-failed h
+      ap (λ (b : Bool). counted b (at + n)) (sym (le-ltb maxSheet (at + n) l)) ∙ ap (λ (b : Bool). given b at n) (sym (ne-eqb n 0 e)) ∙ not-failed h
 
 -- the first a entries, where others are put after them
 pub kept-before : (a : ℕ) (xs zs : List ℕ) → a ≤ length xs → take a (take a xs ++ zs) ≡ take a xs
@@ -55,10 +56,10 @@ there (readings.On n) = suc n
 there (readings.Whole n) = 0
 there readings.Failed = 0
 
-pub grows : (at m : ℕ) → Gave at (readings.On m) → (at < m) × (m ≤ maxBytes)
+pub grows : (at m : ℕ) → Gave at (readings.On m) → (at < m) × (m ≤ maxSheet)
 unfolding there
-grows at m g = go (g .failed) (eqb (g .n) 0) (ltb maxBytes (at + g .n)) refl refl refl where
-  go : (f a b : Bool) → g .failed ≡ f → eqb (g .n) 0 ≡ a → ltb maxBytes (at + g .n) ≡ b → (at < m) × (m ≤ maxBytes)
+grows at m g = go (g .failed) (eqb (g .n) 0) (ltb maxSheet (at + g .n)) refl refl refl where
+  go : (f a b : Bool) → g .failed ≡ f → eqb (g .n) 0 ≡ a → ltb maxSheet (at + g .n) ≡ b → (at < m) × (m ≤ maxSheet)
   go true a b e h k =
       let none : suc m ≡ 0 = ap there (g .is ∙ sym (after-failed at (g .failed) (g .n) e)) in absurd (omega (arith, none))
   go false true b e h k =
@@ -67,6 +68,6 @@ grows at m g = go (g .failed) (eqb (g .n) 0) (ltb maxBytes (at + g .n)) refl ref
       let none : suc m ≡ 0 = ap there (g .is ∙ sym (after-over at (g .failed) (g .n) e (eqb-false _ 0 h) (ltb-true _ _ k))) in absurd (omega (arith, none))
   go false false false e h k =
       let some : g .n ≡ 0 → ⊥ = eqb-false (g .n) 0 h in
-      let most : at + g .n ≤ maxBytes = ltb-false maxBytes (at + g .n) k in
+      let most : at + g .n ≤ maxSheet = ltb-false maxSheet (at + g .n) k in
       let is : suc m ≡ suc (at + g .n) = ap there (g .is ∙ sym (after-more at (g .failed) (g .n) e some most)) in
       (omega (arith, is, some), omega (arith, is, most))

@@ -1,28 +1,24 @@
 -- What the reads of a sheet come to.
-use Prim.Native.Nat.{ℕ, _+_, _*_}
+use Prim.Native.Nat.{ℕ, _+_}
 use mathlib.Core.Path.{_≡_}
 use mathlib.Core.Bool.{Bool, true, false}
 use lib.Dec.{eqb, ltb}
 use lib.IntN.{ℤ, pos, negsuc}
-use Rattle.semantics.specs.Sheet.{maxRecords, recordBytes}
+use Rattle.semantics.specs.Sheet.{maxSheet}
 use Rattle.close_sheet.specs.declared.Reading.{Reading}
 use Rattle.close_sheet.specs.declared.Reading.the-variants as readings
 use Rattle.close_sheet.specs.declared.Input.{Input}
 use Rattle.close_sheet.specs.declared.Input.the-variants as inputs
 
--- the bytes of the longest sheet
-abbrev pub maxBytes : ℕ
-maxBytes = recordBytes * maxRecords
-
 -- so many bytes are there after a read that gave some: a sheet "over 32,768" is told by one byte more
 unfoldable pub counted : Bool → ℕ → Reading
-counted true m = readings.Whole (maxBytes + 1)
+counted true m = readings.Whole (maxSheet + 1)
 counted false m = readings.On m
 
 -- a read gave n bytes, where so many were there before it: none are the end of the input
 unfoldable pub given : Bool → ℕ → ℕ → Reading
 given true at n = readings.Whole at
-given false at n = counted (ltb maxBytes (at + n)) (at + n)
+given false at n = counted (ltb maxSheet (at + n)) (at + n)
 
 -- after a read that failed or gave n bytes
 unfoldable pub afterRead : ℕ → Bool → ℕ → Reading

@@ -7,7 +7,6 @@ use Rattle.ids.specs.declared.TypeId.{TypeId}
 use Rattle.ids.specs.declared.TypeIds.{TypeIds}
 use Rattle.ids.specs.Ids.{givenEls, givenTypes}
 use Rattle.unification.specs.declared.Finding.{Finding}
-use Rattle.unification.specs.Roots.{answered}
 use Rattle.signature.specs.declared.Type as code-type
 use Rattle.signature.specs.declared.Pred.{Pred}
 use Rattle.signature.specs.declared.Func.{Func}
@@ -16,11 +15,11 @@ use Rattle.signature.specs.declared.MorAppFunc.{MorAppFunc}
 use Rattle.signature.specs.declared.Declaring.{Declaring}
 use Rattle.signature.specs.declared.TypeLookup.{TypeLookup}
 use Rattle.signature.specs.declared.Signature.{Signature}
-use Rattle.signature.specs.Model.{sigOf, givenType, givenPred, givenFunc, modelOf, morAppOf}
+use Rattle.signature.specs.Model.{givenType, givenPred, givenFunc, modelOf, morAppOf}
 use Rattle.signature.specs.Calls as signing
-use Rattle.signature.specs.Calls.{declared}
 use Rattle.semantics.specs.Calls as calls
-use Rattle.semantics.specs.Calls.{Call, Answer, answerOf, number, says, done, closed, conflicting, found, typed, els, leading}
+use Rattle.semantics.specs.Calls.{Call, Answer, isAccepted, conflicting}
+use Rattle.semantics.proofs.Judged.{lookedUp}
 use Rattle.facts.specs.declared.Fact.{Fact}
 use Rattle.apps.specs.declared.FuncApp.{FuncApp}
 use Rattle.apps.specs.declared.PredApp.{PredApp}
@@ -28,18 +27,16 @@ use Rattle.bindings.specs.declared.VarEl.{VarEl}
 use Rattle.bindings.specs.declared.AmbientEl.{AmbientEl}
 use Rattle.bindings.specs.View.{varOf, ambientOf}
 use Rattle.structure.specs.declared.Structure.{Structure}
-use Rattle.structure.specs.declared.Numbering.{Numbering}
-use Rattle.structure.specs.declared.Saying.{Saying}
-use Rattle.structure.specs.declared.Doing.{Doing}
+use Rattle.structure.specs.declared.Stepped.{Stepped}
+use Rattle.structure.specs.declared.Machine.{Machine}
 use Rattle.structure.specs.declared.AmbientParents.{AmbientParents}
 use Rattle.structure.specs.declared.Rooting.{Rooting}
-use Rattle.structure.specs.View.{structureOf, numberingOf, sayingOf, doingOf, parentsOf, rootingOf}
+use Rattle.structure.specs.View.{answerOf, foundOf, lookedOf}
 use Rattle.facts.specs.View.{givenFact}
 use Rattle.inserting.specs.View.{givenFuncApp, givenPredApp}
-use Rattle.close.specs.declared.Closing.{Closing}
-use Rattle.close.specs.View.{closingOf}
+use Rattle.declaring.specs.View.{declaredOf}
 use Rattle.conflicts.specs.declared.Conflicting.{Conflicting}
-use Rattle.conflicts.specs.View.{conflictingOf}
+use Rattle.conflicts.specs.View.{givenConflicts}
 use Rattle.declaring.proofs.push_type.Reads as push-type-fn
 use Rattle.declaring.proofs.push_pred.Reads as push-pred-fn
 use Rattle.declaring.proofs.push_func.Reads as push-func-fn
@@ -60,76 +57,68 @@ use Rattle.signature.proofs.Signature.lookup_type.Reads as lookup-type-fn
 use Rattle.structure.proofs.Structure.ambient_parents.Reads as ambient-parents-fn
 use Rattle.signature.proofs.Signature.new.Reads as new-signature-fn
 use Rattle.structure.proofs.Structure.new.Reads as new-structure-fn
-use Rattle.history.specs.Book.{Book, fed, isAccepted, mergesOf}
+use Rattle.history.specs.Book.{Book, fed, mergesOf}
 
--- the code's two values
-pub record Values : Type 0 where
-  pub signature : Signature
-  pub structure : Structure
-
-abbrev pub machineOf : Values → calls.Machine
-machineOf v = record { sig = sigOf (v .signature); structure = structureOf (v .structure) }
-
-abbrev pub with-signature : Signature → Values → Values
+abbrev pub with-signature : Signature → Machine → Machine
 with-signature g v = record { signature = g; structure = v .structure }
 
-abbrev pub with-structure : Structure → Values → Values
+abbrev pub with-structure : Structure → Machine → Machine
 with-structure s v = record { signature = v .signature; structure = s }
 
 -- the arguments of a call that takes both values, or the structure alone, and one more
-abbrev both : {A : Type 0} → Values → A → Structure × (Signature × (A × Unit {0}))
+abbrev both : {A : Type 0} → Machine → A → Structure × (Signature × (A × Unit {0}))
 both v x = (v .structure, (v .signature, (x, tt)))
 
-abbrev one : {A : Type 0} → Values → A → Structure × (A × Unit {0})
+abbrev one : {A : Type 0} → Machine → A → Structure × (A × Unit {0})
 one v x = (v .structure, (x, tt))
 
--- A call was made: from which values, with what answer, and to which values. Each case asks what the code's function ensures, by the function's own name (`Learnt`),
+-- A call was made: from which two values, with what answer, and to which. Each case asks what the code's function ensures, by the function's own name (`Learnt`),
 -- of the arguments at entry, the result, and the arguments at exit.
-pub data Made (v : Values) : Call → Answer → Values → Type 0 where
+pub data Made (v : Machine) : Call → Answer → Machine → Type 0 where
   push-type : (t : code-type.Type) (r : Declaring) → push-type-fn.Learnt tt (both v t) r (both v t)
-      → Made v (calls.push-type (givenType t)) (answerOf number (declared r .answer)) (with-signature (r .signature) v)
+      → Made v (calls.push-type (givenType t)) (declaredOf (r .answer)) (with-signature (r .signature) v)
   push-pred : (p : Pred) (r : Declaring) → push-pred-fn.Learnt tt (both v p) r (both v p)
-      → Made v (calls.push-pred (givenPred p)) (answerOf number (declared r .answer)) (with-signature (r .signature) v)
+      → Made v (calls.push-pred (givenPred p)) (declaredOf (r .answer)) (with-signature (r .signature) v)
   push-func : (f : Func) (r : Declaring) → push-func-fn.Learnt tt (both v f) r (both v f)
-      → Made v (calls.push-func (givenFunc f)) (answerOf number (declared r .answer)) (with-signature (r .signature) v)
+      → Made v (calls.push-func (givenFunc f)) (declaredOf (r .answer)) (with-signature (r .signature) v)
   push-model : (m : ModelIds) (r : Declaring) → push-model-fn.Learnt tt (both v m) r (both v m)
-      → Made v (calls.push-model (modelOf m)) (answerOf number (declared r .answer)) (with-signature (r .signature) v)
+      → Made v (calls.push-model (modelOf m)) (declaredOf (r .answer)) (with-signature (r .signature) v)
   push-mor-app-func : (m : MorAppFunc) (r : Declaring) → push-mor-app-func-fn.Learnt tt (both v m) r (both v m)
-      → Made v (calls.push-mor-app (morAppOf m)) (answerOf number (declared r .answer)) (with-signature (r .signature) v)
-  push-el : (mark : Bool) (r : Numbering) → push-el-fn.Learnt tt (one v mark) r (one v mark)
-      → Made v (calls.push-el mark) (answerOf number (numberingOf r .answer)) (with-structure (r .structure) v)
-  equate : (a b : ElId) (r : Saying) → equate-fn.Learnt tt (v .structure, (a, (b, tt))) r (v .structure, (a, (b, tt)))
-      → Made v (calls.equate-els (a .0) (b .0)) (answerOf says (sayingOf r .answer)) (with-structure (r .structure) v)
-  impose-type : (f : Fact) (r : Saying) → impose-type-fn.Learnt tt (both v f) r (both v f)
-      → Made v (calls.impose-type (givenFact f)) (answerOf says (sayingOf r .answer)) (with-structure (r .structure) v)
-  insert-func-app-or-equate : (x : FuncApp) (r : Saying) → insert-func-app-fn.Learnt tt (both v x) r (both v x)
-      → Made v (calls.apply-func (givenFuncApp x)) (answerOf says (sayingOf r .answer)) (with-structure (r .structure) v)
-  insert-pred-app : (x : PredApp) (r : Saying) → insert-pred-app-fn.Learnt tt (both v x) r (both v x)
-      → Made v (calls.apply-pred (givenPredApp x)) (answerOf says (sayingOf r .answer)) (with-structure (r .structure) v)
-  insert-var-el : (x : VarEl) (r : Doing) → insert-var-el-fn.Learnt tt (one v x) r (one v x)
-      → Made v (calls.bind-var (varOf x)) (answerOf (λ u. done) (doingOf r .answer)) (with-structure (r .structure) v)
-  insert-ambient-model-el : (x : AmbientEl) (r : Doing) → insert-ambient-fn.Learnt tt (both v x) r (both v x)
-      → Made v (calls.bind-ambient (ambientOf x)) (answerOf (λ u. done) (doingOf r .answer)) (with-structure (r .structure) v)
-  close : (r : Closing) → close-fn.Learnt tt (v .structure, (v .signature, tt)) r (v .structure, (v .signature, tt))
-      → Made v calls.close (answerOf closed (closingOf r .answer)) (with-structure (r .structure) v)
+      → Made v (calls.push-mor-app (morAppOf m)) (declaredOf (r .answer)) (with-signature (r .signature) v)
+  push-el : (mark : Bool) (r : Stepped) → push-el-fn.Learnt tt (one v mark) r (one v mark)
+      → Made v (calls.push-el mark) (answerOf [] (r .answer)) (with-structure (r .structure) v)
+  equate : (a b : ElId) (r : Stepped) → equate-fn.Learnt tt (v .structure, (a, (b, tt))) r (v .structure, (a, (b, tt)))
+      → Made v (calls.equate-els (a .0) (b .0)) (answerOf [] (r .answer)) (with-structure (r .structure) v)
+  impose-type : (f : Fact) (r : Stepped) → impose-type-fn.Learnt tt (both v f) r (both v f)
+      → Made v (calls.impose-type (givenFact f)) (answerOf [] (r .answer)) (with-structure (r .structure) v)
+  insert-func-app-or-equate : (x : FuncApp) (r : Stepped) → insert-func-app-fn.Learnt tt (both v x) r (both v x)
+      → Made v (calls.apply-func (givenFuncApp x)) (answerOf [] (r .answer)) (with-structure (r .structure) v)
+  insert-pred-app : (x : PredApp) (r : Stepped) → insert-pred-app-fn.Learnt tt (both v x) r (both v x)
+      → Made v (calls.apply-pred (givenPredApp x)) (answerOf [] (r .answer)) (with-structure (r .structure) v)
+  insert-var-el : (x : VarEl) (r : Stepped) → insert-var-el-fn.Learnt tt (one v x) r (one v x)
+      → Made v (calls.bind-var (varOf x)) (answerOf [] (r .answer)) (with-structure (r .structure) v)
+  insert-ambient-model-el : (x : AmbientEl) (r : Stepped) → insert-ambient-fn.Learnt tt (both v x) r (both v x)
+      → Made v (calls.bind-ambient (ambientOf x)) (answerOf [] (r .answer)) (with-structure (r .structure) v)
+  close : (r : Stepped) → close-fn.Learnt tt (v .structure, (v .signature, tt)) r (v .structure, (v .signature, tt))
+      → Made v calls.close (answerOf [] (r .answer)) (with-structure (r .structure) v)
   type-conflicts : (r : Conflicting) → type-conflicts-fn.Learnt tt (v .structure, tt) r (v .structure, tt)
-      → Made v calls.type-conflicts (answerOf conflicting (conflictingOf r .answer)) (with-structure (r .structure) v)
+      → Made v calls.type-conflicts (conflicting (givenConflicts (r .conflicts))) (with-structure (r .structure) v)
   root : (e : ElId) (r : Rooting) → root-fn.Learnt tt (one v e) r (one v e)
-      → Made v (calls.root (e .0)) (answerOf found (rootingOf r .answer)) (with-structure (r .structure) v)
+      → Made v (calls.root (e .0)) (foundOf (r .find)) (with-structure (r .structure) v)
   root-const : (e : ElId) (r : Finding) → root-const-fn.Learnt tt (one v e) r (one v e)
-      → Made v (calls.root-const (e .0)) (answerOf found (answered r)) v
+      → Made v (calls.root-const (e .0)) (foundOf r) v
   lookup-type : (t : TypeId) (ps : ElIds) (r : TypeLookup) → lookup-type-fn.Learnt tt (v .signature, (t, (ps, tt))) r (v .signature, (t, (ps, tt)))
-      → Made v (calls.lookup-type (t .0) (givenEls ps)) (answerOf (λ x. typed (leading (givenEls ps) x)) (signing.lookedOf r)) v
+      → Made v (calls.lookup-type (t .0) (givenEls ps)) (lookedUp (givenEls ps) (signing.lookedOf r)) v
   ambient-parents : (ts : TypeIds) (r : AmbientParents) → ambient-parents-fn.Learnt tt (both v ts) r (both v ts)
-      → Made v (calls.ambient-parents (givenTypes ts)) (answerOf els (parentsOf r)) v
+      → Made v (calls.ambient-parents (givenTypes ts)) (lookedOf (givenEls (r .els)) (r .answer)) v
 
--- A list of calls was made, each on the values that the one before it left, and the book was fed with them.
-pub data Run : Values → Book → List Call → Values → Book → Type 0 where
-  none : {v : Values} {b : Book} → Run v b [] v b
-  more : {v w z : Values} {b d : Book} {k : Call} {a : Answer} {ks : List Call} → Made v k a w
+-- A list of calls was made, each on the values that the one before it handed back, and the book was fed with them.
+pub data Run : Machine → Book → List Call → Machine → Book → Type 0 where
+  none : {v : Machine} {b : Book} → Run v b [] v b
+  more : {v w z : Machine} {b d : Book} {k : Call} {a : Answer} {ks : List Call} → Made v k a w
       → Run w (fed k (isAccepted a) (mergesOf a) b) ks z d → Run v b (k ∷ ks) z d
 
 -- "A list begins at the empty signature and structure": what `new` ensures of both
-pub record Fresh (v : Values) : Type 0 where
+pub record Fresh (v : Machine) : Type 0 where
   pub sig : new-signature-fn.Learnt tt tt (v .signature) tt
   pub str : new-structure-fn.Learnt tt tt (v .structure) tt

@@ -1,7 +1,7 @@
 // The calls of kinds 1 to 5, with the structure's flag for number 4 beside the signature.
 use ids::FuncId;
 use ids::Refusal;
-use ids::TypeIds;
+use ids::Verdict;
 use signature::Declared;
 use signature::Declaring;
 use signature::Func;
@@ -12,28 +12,9 @@ use signature::Signature;
 use signature::Type;
 use signature::TypeKind;
 ghost use mathlib.Core.Path.{_≡_};
-ghost use mathlib.Core.List.{[], _∷_};
-ghost use Rattle.ids.specs.Answers.{accepted, _if_};
-ghost use Rattle.ids.specs.Ids.{givenTypes};
-ghost use Rattle.declarations.specs.Judge.{judgedBy, listCauses};
 ghost use Rattle.signature.specs.Model.{kindOf, modelOf, morAppOf, sigOf, givenType, givenPred, givenFunc};
 ghost use Rattle.signature.specs.Calls.{modelDeclared, modelIsModel, functions, modelIdsDeclared, functionGiven, repeats, anyGiven};
-ghost use Rattle.signature.specs.Calls.{pushType, pushPred, pushFunc, pushModel, pushMorApp, answered, declared};
-
-// An answer with one more cause judged: it stays where it is refused or the cause does not apply.
-fn refuse_if(answer: Declared, number: u16, applies: bool) -> Declared
-    ensures { λ r. ⌜ answered r ≡ judgedBy (answered answer) (number if applies ∷ []) ⌝ }
-{
-    match answer {
-        Declared::Refused(_) => answer,
-        Declared::Number(_) => {
-            if applies {
-                return Declared::Refused(number);
-            }
-            answer
-        }
-    }
-}
+ghost use Rattle.signature.specs.Calls.{pushType, pushPred, pushFunc, pushModel, pushMorApp, declared};
 
 // Whether the model type that a kind names, if it names one, is declared.
 fn model_is_declared(signature: Signature, kind: TypeKind) -> bool
@@ -64,112 +45,70 @@ fn is_given(signature: Signature, f: FuncId) -> bool
     ensures { λ r. ⌜ r ≡ functionGiven (sigOf signature) (f .0) ⌝ }
 {
     let models = signature.models;
-    if models.has_func(f) {
-        return true;
-    }
     let mor_app_funcs = signature.mor_app_funcs;
-    mor_app_funcs.has_func(f)
+    ids::or(models.has_func(f), mor_app_funcs.has_func(f))
 }
 
 // Whether a function that the model names was given before.
 fn any_is_given(signature: Signature, ids: ModelIds) -> bool
     ensures { λ r. ⌜ r ≡ anyGiven (sigOf signature) (functions (modelOf ids)) ⌝ }
 {
-    if is_given(signature, ids.dom) {
-        return true;
-    }
-    if is_given(signature, ids.cod) {
-        return true;
-    }
-    if is_given(signature, ids.id) {
-        return true;
-    }
-    is_given(signature, ids.comp)
+    let given = ids::or(is_given(signature, ids.id), is_given(signature, ids.comp));
+    let given = ids::or(is_given(signature, ids.cod), given);
+    ids::or(is_given(signature, ids.dom), given)
 }
 
 // Whether the model names a function twice.
 fn repeats(ids: ModelIds) -> bool
     ensures { λ r. ⌜ r ≡ repeats (functions (modelOf ids)) ⌝ }
 {
-    if ids.dom.0 == ids.cod.0 {
-        return true;
-    }
-    if ids.dom.0 == ids.id.0 {
-        return true;
-    }
-    if ids.dom.0 == ids.comp.0 {
-        return true;
-    }
-    if ids.cod.0 == ids.id.0 {
-        return true;
-    }
-    if ids.cod.0 == ids.comp.0 {
-        return true;
-    }
-    ids.id.0 == ids.comp.0
+    let dom = ids::or(ids.dom.0 == ids.id.0, ids.dom.0 == ids.comp.0);
+    let dom = ids::or(ids.dom.0 == ids.cod.0, dom);
+    let cod = ids::or(ids.cod.0 == ids.id.0, ids.cod.0 == ids.comp.0);
+    let later = ids::or(cod, ids.id.0 == ids.comp.0);
+    ids::or(dom, later)
 }
 
 // Whether every number that a model names is declared.
 fn model_ids_are_declared(signature: Signature, ids: ModelIds) -> bool
     ensures { λ r. ⌜ r ≡ modelIdsDeclared (sigOf signature) (modelOf ids) ⌝ }
 {
-    if !signature.is_type(ids.type_) {
-        return false;
-    }
-    if !signature.is_type(ids.mor) {
-        return false;
-    }
-    if !signature.is_func(ids.dom) {
-        return false;
-    }
-    if !signature.is_func(ids.cod) {
-        return false;
-    }
-    if !signature.is_func(ids.id) {
-        return false;
-    }
-    signature.is_func(ids.comp)
-}
-
-// The answer by the causes that predicates and functions have in common: `number` where none applies, over so many types.
-fn judge_lists(number: u16, types: u16, started: bool, parents: TypeIds, list: TypeIds) -> Declared
-    ensures { λ r. ⌜ answered r ≡ judgedBy (accepted number) (listCauses types started (givenTypes parents) (givenTypes list)) ⌝ }
-{
-    let answer = Declared::Number(number);
-    let answer = refuse_if(answer, Refusal::MALFORMED, parents.is_too_long());
-    let answer = refuse_if(answer, Refusal::MALFORMED, list.is_too_long());
-    let answer = refuse_if(answer, Refusal::TOO_LATE, started);
-    let answer = refuse_if(answer, Refusal::UNDECLARED, !parents.all_below(types));
-    refuse_if(answer, Refusal::UNDECLARED, !list.all_below(types))
+    let known = ids::and(signature.is_func(ids.id), signature.is_func(ids.comp));
+    let known = ids::and(signature.is_func(ids.cod), known);
+    let known = ids::and(signature.is_func(ids.dom), known);
+    let known = ids::and(signature.is_type(ids.mor), known);
+    ids::and(signature.is_type(ids.type_), known)
 }
 
 // Kind 1. `started` says that a call of kinds 6 to 14 was accepted.
 pub fn push_type(signature: Signature, started: bool, t: Type) -> Declaring
     ensures { λ r. ⌜ declared r ≡ pushType started (sigOf signature) (givenType t) ⌝ }
 {
-    let parents = t.parents;
-    let kind = t.kind;
     let types = signature.types;
     let n = types.size();
-    let answer = Declared::Number(n);
-    let answer = refuse_if(answer, Refusal::MALFORMED, parents.is_too_long());
-    let answer = refuse_if(answer, Refusal::TOO_LATE, started);
-    let answer = refuse_if(answer, Refusal::UNDECLARED, !parents.all_below(n));
-    let named = model_is_declared(signature, kind);
-    let answer = refuse_if(answer, Refusal::UNDECLARED, !named);
-    let model = model_is_model(signature, kind);
-    let answer = refuse_if(answer, Refusal::WRONG_KIND, !model);
-    let answer = refuse_if(answer, Refusal::NO_ROOM, Signature::MAX_TYPES as u16 <= n);
-    match answer {
-        Declared::Refused(_) => Declaring { answer, signature },
-        Declared::Number(_) => {
-            let mut next = signature;
-            next.types = types.push(t);
-            Declaring {
-                answer,
-                signature: next,
-            }
-        }
+    let parents = t.parents;
+    let kind = t.kind;
+    let named = ids::and(
+        signature.are_types(parents),
+        model_is_declared(signature, kind),
+    );
+    let verdict = Verdict::Accepted;
+    let verdict = verdict.refuse_if(Refusal::MALFORMED, parents.is_too_long());
+    let verdict = verdict.refuse_if(Refusal::TOO_LATE, started);
+    let verdict = verdict.refuse_if(Refusal::UNDECLARED, !named);
+    let verdict = verdict.refuse_if(Refusal::WRONG_KIND, !model_is_model(signature, kind));
+    let verdict = verdict.refuse_if(Refusal::NO_ROOM, Signature::MAX_TYPES as u16 <= n);
+    if let Verdict::Refused(number) = verdict {
+        return Declaring {
+            answer: Declared::Refused(number),
+            signature,
+        };
+    }
+    let mut next = signature;
+    next.types = types.push(t);
+    Declaring {
+        answer: Declared::Number(n),
+        signature: next,
     }
 }
 
@@ -177,21 +116,28 @@ pub fn push_type(signature: Signature, started: bool, t: Type) -> Declaring
 pub fn push_pred(signature: Signature, started: bool, p: Pred) -> Declaring
     ensures { λ r. ⌜ declared r ≡ pushPred started (sigOf signature) (givenPred p) ⌝ }
 {
-    let types = signature.types;
     let preds = signature.preds;
     let n = preds.size();
-    let answer = judge_lists(n, types.size(), started, p.parents, p.arity);
-    let answer = refuse_if(answer, Refusal::NO_ROOM, Signature::MAX_PREDS as u16 <= n);
-    match answer {
-        Declared::Refused(_) => Declaring { answer, signature },
-        Declared::Number(_) => {
-            let mut next = signature;
-            next.preds = preds.push(p);
-            Declaring {
-                answer,
-                signature: next,
-            }
-        }
+    let parents = p.parents;
+    let arity = p.arity;
+    let long = ids::or(parents.is_too_long(), arity.is_too_long());
+    let known = ids::and(signature.are_types(parents), signature.are_types(arity));
+    let verdict = Verdict::Accepted;
+    let verdict = verdict.refuse_if(Refusal::MALFORMED, long);
+    let verdict = verdict.refuse_if(Refusal::TOO_LATE, started);
+    let verdict = verdict.refuse_if(Refusal::UNDECLARED, !known);
+    let verdict = verdict.refuse_if(Refusal::NO_ROOM, Signature::MAX_PREDS as u16 <= n);
+    if let Verdict::Refused(number) = verdict {
+        return Declaring {
+            answer: Declared::Refused(number),
+            signature,
+        };
+    }
+    let mut next = signature;
+    next.preds = preds.push(p);
+    Declaring {
+        answer: Declared::Number(n),
+        signature: next,
     }
 }
 
@@ -199,22 +145,29 @@ pub fn push_pred(signature: Signature, started: bool, p: Pred) -> Declaring
 pub fn push_func(signature: Signature, started: bool, f: Func) -> Declaring
     ensures { λ r. ⌜ declared r ≡ pushFunc started (sigOf signature) (givenFunc f) ⌝ }
 {
-    let types = signature.types;
     let funcs = signature.funcs;
     let n = funcs.size();
-    let answer = judge_lists(n, types.size(), started, f.parents, f.domain);
-    let answer = refuse_if(answer, Refusal::UNDECLARED, !signature.is_type(f.codomain));
-    let answer = refuse_if(answer, Refusal::NO_ROOM, Signature::MAX_FUNCS as u16 <= n);
-    match answer {
-        Declared::Refused(_) => Declaring { answer, signature },
-        Declared::Number(_) => {
-            let mut next = signature;
-            next.funcs = funcs.push(f);
-            Declaring {
-                answer,
-                signature: next,
-            }
-        }
+    let parents = f.parents;
+    let domain = f.domain;
+    let long = ids::or(parents.is_too_long(), domain.is_too_long());
+    let known = ids::and(signature.are_types(domain), signature.is_type(f.codomain));
+    let known = ids::and(signature.are_types(parents), known);
+    let verdict = Verdict::Accepted;
+    let verdict = verdict.refuse_if(Refusal::MALFORMED, long);
+    let verdict = verdict.refuse_if(Refusal::TOO_LATE, started);
+    let verdict = verdict.refuse_if(Refusal::UNDECLARED, !known);
+    let verdict = verdict.refuse_if(Refusal::NO_ROOM, Signature::MAX_FUNCS as u16 <= n);
+    if let Verdict::Refused(number) = verdict {
+        return Declaring {
+            answer: Declared::Refused(number),
+            signature,
+        };
+    }
+    let mut next = signature;
+    next.funcs = funcs.push(f);
+    Declaring {
+        answer: Declared::Number(n),
+        signature: next,
     }
 }
 
@@ -224,27 +177,30 @@ pub fn push_model(signature: Signature, started: bool, ids: ModelIds) -> Declari
 {
     let models = signature.models;
     let n = models.size();
-    let answer = Declared::Number(n);
-    let answer = refuse_if(answer, Refusal::TOO_LATE, started);
     let known = model_ids_are_declared(signature, ids);
-    let answer = refuse_if(answer, Refusal::UNDECLARED, !known);
-    let answer = refuse_if(answer, Refusal::WRONG_KIND, !signature.is_model(ids.type_));
-    let mor = signature.is_mor_of(ids.type_, ids.mor);
-    let answer = refuse_if(answer, Refusal::WRONG_KIND, !mor);
-    let answer = refuse_if(answer, Refusal::GIVEN_AGAIN, models.has_type(ids.type_));
-    let answer = refuse_if(answer, Refusal::GIVEN_AGAIN, repeats(ids));
-    let answer = refuse_if(answer, Refusal::GIVEN_AGAIN, any_is_given(signature, ids));
-    let answer = refuse_if(answer, Refusal::NO_ROOM, Signature::MAX_MODELS as u16 <= n);
-    match answer {
-        Declared::Refused(_) => Declaring { answer, signature },
-        Declared::Number(_) => {
-            let mut next = signature;
-            next.models = models.push(ids);
-            Declaring {
-                answer,
-                signature: next,
-            }
-        }
+    let kinds = ids::and(
+        signature.is_model(ids.type_),
+        signature.is_mor_of(ids.type_, ids.mor),
+    );
+    let again = ids::or(repeats(ids), any_is_given(signature, ids));
+    let again = ids::or(models.has_type(ids.type_), again);
+    let verdict = Verdict::Accepted;
+    let verdict = verdict.refuse_if(Refusal::TOO_LATE, started);
+    let verdict = verdict.refuse_if(Refusal::UNDECLARED, !known);
+    let verdict = verdict.refuse_if(Refusal::WRONG_KIND, !kinds);
+    let verdict = verdict.refuse_if(Refusal::GIVEN_AGAIN, again);
+    let verdict = verdict.refuse_if(Refusal::NO_ROOM, Signature::MAX_MODELS as u16 <= n);
+    if let Verdict::Refused(number) = verdict {
+        return Declaring {
+            answer: Declared::Refused(number),
+            signature,
+        };
+    }
+    let mut next = signature;
+    next.models = models.push(ids);
+    Declaring {
+        answer: Declared::Number(n),
+        signature: next,
     }
 }
 
@@ -252,34 +208,32 @@ pub fn push_model(signature: Signature, started: bool, ids: ModelIds) -> Declari
 pub fn push_mor_app_func(signature: Signature, started: bool, m: MorAppFunc) -> Declaring
     ensures { λ r. ⌜ declared r ≡ pushMorApp started (sigOf signature) (morAppOf m) ⌝ }
 {
-    let types = m.types;
     let mor_app_funcs = signature.mor_app_funcs;
     let n = mor_app_funcs.size();
-    let answer = Declared::Number(n);
-    let answer = refuse_if(answer, Refusal::TOO_LATE, started);
-    let answer = refuse_if(answer, Refusal::UNDECLARED, !signature.is_func(m.func));
-    let morphism = signature.is_type(types.morphism_type);
-    let answer = refuse_if(answer, Refusal::UNDECLARED, !morphism);
-    let member = signature.is_type(types.member_type);
-    let answer = refuse_if(answer, Refusal::UNDECLARED, !member);
-    let mor = signature.is_mor(types.morphism_type);
-    let answer = refuse_if(answer, Refusal::WRONG_KIND, !mor);
-    let answer = refuse_if(answer, Refusal::GIVEN_AGAIN, is_given(signature, m.func));
-    let answer = refuse_if(answer, Refusal::GIVEN_AGAIN, mor_app_funcs.has_types(types));
-    let answer = refuse_if(
-        answer,
-        Refusal::NO_ROOM,
-        Signature::MAX_MOR_APPS as u16 <= n,
+    let types = m.types;
+    let morphism = types.morphism_type;
+    let known = ids::and(
+        signature.is_type(morphism),
+        signature.is_type(types.member_type),
     );
-    match answer {
-        Declared::Refused(_) => Declaring { answer, signature },
-        Declared::Number(_) => {
-            let mut next = signature;
-            next.mor_app_funcs = mor_app_funcs.push(m);
-            Declaring {
-                answer,
-                signature: next,
-            }
-        }
+    let known = ids::and(signature.is_func(m.func), known);
+    let again = ids::or(is_given(signature, m.func), mor_app_funcs.has_types(types));
+    let verdict = Verdict::Accepted;
+    let verdict = verdict.refuse_if(Refusal::TOO_LATE, started);
+    let verdict = verdict.refuse_if(Refusal::UNDECLARED, !known);
+    let verdict = verdict.refuse_if(Refusal::WRONG_KIND, !signature.is_mor(morphism));
+    let verdict = verdict.refuse_if(Refusal::GIVEN_AGAIN, again);
+    let verdict = verdict.refuse_if(Refusal::NO_ROOM, Signature::MAX_MOR_APPS as u16 <= n);
+    if let Verdict::Refused(number) = verdict {
+        return Declaring {
+            answer: Declared::Refused(number),
+            signature,
+        };
+    }
+    let mut next = signature;
+    next.mor_app_funcs = mor_app_funcs.push(m);
+    Declaring {
+        answer: Declared::Number(n),
+        signature: next,
     }
 }

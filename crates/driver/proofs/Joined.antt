@@ -5,10 +5,10 @@ use mathlib.Core.List.{List, _++_, append-assoc, append-nil}
 use native.Mathlib.Omega.{arith}
 use lib.ListN.{length, length-append, length-drop, take, drop}
 use lib.Seq.{drop-append-le, drop-append-add, take-append-le}
-use Rattle.semantics.specs.Calls.{Call, Machine}
+use Rattle.semantics.specs.Calls.{Call, Machine, answers, afterCalls}
 use Rattle.semantics.specs.Sheet.{recordAt, recordOf, recordBytes, words, carryOut}
-use Rattle.driver.specs.Calls.{callOf, wholeRecords, listed, callsBefore, afterCalls, lastAnswer, listBefore, runFrom}
-use Rattle.driver.proofs.Laws.{answers, after-append}
+use Rattle.driver.specs.Calls.{listCallOf, wholeRecords, callList, callsBefore, lastAnswer, listBefore, runFrom}
+use Rattle.driver.proofs.Laws.{after-append}
 
 module _ (xs ys : List ℕ) where
   -- the records of the first part
@@ -21,7 +21,7 @@ module _ (xs ys : List ℕ) where
   first-calls : (n : ℕ) → n ≤ wholeRecords xs → callsBefore (xs ++ ys) n ≡ callsBefore xs n
   unfolding callsBefore
   first-calls zero h = refl
-  first-calls (suc n) h = λ i. first-calls n (omega arith) i ++ listed (callOf (first-record n (omega arith) i))
+  first-calls (suc n) h = λ i. first-calls n (omega arith) i ++ callList (listCallOf (first-record n (omega arith) i))
 
   -- the records of the second part, where the first ends with a record
   module _ (n : ℕ) (whole : length xs ≡ recordBytes * n) where
@@ -39,15 +39,15 @@ module _ (xs ys : List ℕ) where
     second-calls (suc i) k e =
         let more : k ≡ suc (n + i) = omega arith in
         ap (callsBefore (xs ++ ys)) more
-        ∙ (λ j. second-calls i (n + i) refl j ++ listed (callOf (second-record i j)))
-        ∙ append-assoc (callsBefore xs n) (callsBefore ys i) (listed (callOf (recordAt ys i)))
+        ∙ (λ j. second-calls i (n + i) refl j ++ callList (listCallOf (second-record i j)))
+        ∙ append-assoc (callsBefore xs n) (callsBefore ys i) (callList (listCallOf (recordAt ys i)))
 
     both-after : (m : Machine) (i k : ℕ) → k ≡ n + i → afterCalls (callsBefore (xs ++ ys) k) m ≡ afterCalls (callsBefore ys i) (afterCalls (callsBefore xs n) m)
     both-after m i k e = ap (λ (ks : List Call). afterCalls ks m) (second-calls i k e) ∙ after-append (callsBefore xs n) (callsBefore ys i) m
 
     both-before : (m : Machine) (i : ℕ) → listBefore m (xs ++ ys) (suc (n + i)) ≡ listBefore (listBefore m xs n .after) ys (suc i)
     unfolding listBefore lastAnswer
-    both-before m i = λ j. answers (carryOut (callOf (second-record i j)) (both-after m i (n + i) refl j) .answer) (both-after m (suc i) (suc (n + i)) (omega arith) j)
+    both-before m i = λ j. answers (carryOut (listCallOf (second-record i j)) (both-after m i (n + i) refl j) .answer) (both-after m (suc i) (suc (n + i)) (omega arith) j)
 
     -- a second part of one record or more: what it answers and leaves on what the first leaves
     pub run-joined : (m : Machine) → 0 < wholeRecords ys → runFrom m (xs ++ ys) ≡ runFrom (runFrom m xs .after) ys

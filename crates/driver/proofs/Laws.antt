@@ -14,22 +14,23 @@ use Rattle.ids.specs.declared.TypeId.{TypeId}
 use Rattle.ids.proofs.Lists.{given-length}
 use Rattle.signature.specs.declared.Typed.{Typed}
 use Rattle.signature.specs.declared.Typed.the-variants.{At}
-use Rattle.signature.specs.Calls.{typedOf}
-use Rattle.semantics.specs.Calls.{Call, Answer, done, typed, leading, Machine, Step, start, step, onNeither}
+use Rattle.signature.specs.declared.TypeLookup.{TypeLookup}
+use Rattle.signature.specs.Calls.{TypedM, typedOf, lookedOf, lookupType}
+use Rattle.semantics.specs.Calls.{Call, lookup-type, done, typed, concrete-type, leading, Machine, Step, answers, start, step, afterCalls}
+use Rattle.semantics.proofs.Judged.{lookedUp, lookup-steps}
 use Rattle.semantics.specs.Sheet as sheet
 use Rattle.semantics.specs.Sheet.{Record, recordAt, carryOut}
 use Rattle.records.specs.View.{recordWithin}
 use Rattle.records.proofs.Laws.{record-within}
 use Rattle.semantics.specs.Conflicts.{Conflict}
-use Rattle.carrying.specs.declared.Answer as code
-use Rattle.carrying.specs.declared.Answer.the-variants as codes
-use Rattle.carrying.specs.View.{answerOf}
+use Rattle.structure.specs.declared.Answer as code
+use Rattle.structure.specs.declared.Answer.the-variants as codes
+use Rattle.structure.specs.View.{answerOf, elsIn}
 use Rattle.carrying.proofs.Laws as carried
 use Rattle.carrying.proofs.Laws.{slotsOf}
 use Rattle.history.specs.Book.{History, noted, next, run, begin, history}
-use Rattle.driver.specs.Calls.{rootKind, rootConstKind, lookupTypeKind, ambientParentsKind, callAt, callOf, wholeRecords, listed}
-use Rattle.driver.specs.Calls.{callsBefore, afterCalls, lastAnswer, listBefore}
-use Rattle.driver.specs.View.{elsIn}
+use Rattle.driver.specs.Calls.{rootKind, rootConstKind, lookupTypeKind, ambientParentsKind, callAt, listCallOf, wholeRecords, callList}
+use Rattle.driver.specs.Calls.{callsBefore, lastAnswer, listBefore}
 
 -- the four slots as they are given to a call
 pub slots-given : (xs : List ℕ) (n : ℕ) → length xs ≡ maxList → givenOf n (slotsOf xs) ≡ givenOf n xs
@@ -47,12 +48,10 @@ first-given (suc n) (suc len) (x ∷ xs) h = ap (λ (l : List ℕ). x ∷ l) (fi
 pub all-given : (n len : ℕ) (xs : List ℕ) → len ≤ n → givenOf len xs ≡ take n (givenOf len xs)
 all-given n len xs h = sym (take-all n (givenOf len xs) (omega (arith, given-length len xs)))
 
--- A call's answer, as the code's enum, came out as x.
-pub on-neither : {A B : Type 0} (f : A → Answer) (m : Machine) (view : B → Answered A) {x y : B} → y ≡ x → onNeither f m (view x) ≡ onNeither f m (view y)
-on-neither f m view e = ap (λ x. onNeither f m (view x)) (sym e)
-
-abbrev pub answers : Answer → Machine → Step
-answers a m = record { answer = a; after = m }
+-- the type lookup came out as x
+pub looked-up : (m : Machine) (t : ℕ) (ps : List ℕ) {x y : TypeLookup} → y ≡ x → lookedOf y ≡ lookupType (m .sig) t ps
+    → answers (lookedUp ps (lookedOf x)) m ≡ step (lookup-type t ps) m
+looked-up m t ps e is = ap (λ (x : Answered TypedM). answers (lookedUp ps x) m) (ap lookedOf (sym e) ∙ is) ∙ lookup-steps m t ps
 
 -- what a record of a sheet answers lists no elements
 pub lists-none : (cs : List Conflict) (a : code.Answer) → elsIn (answerOf cs a) ≡ []
@@ -65,10 +64,10 @@ lists-none cs (codes.Refused n) = refl
 
 -- a type came out, with its leading parents
 pub type-found : (m : Machine) (ps : List ℕ) {es : List ℕ} {x : Typed} (t : TypeId) (n : ℕ) → es ≡ take n ps → x ≡ At t n
-    → answers (typed (some (record { el = 0; typ = t .0; parents = es }))) m ≡ answers (typed (leading ps (typedOf x))) m
+    → answers (typed (some (concrete-type (t .0) es))) m ≡ answers (typed (leading ps (typedOf x))) m
 unfolding leading
 type-found m ps t n e h =
-    ap (λ (l : List ℕ). answers (typed (some (record { el = 0; typ = t .0; parents = l }))) m) e
+    ap (λ (l : List ℕ). answers (typed (some (concrete-type (t .0) l))) m) e
     ∙ ap (λ (y : Typed). answers (typed (leading ps (typedOf y))) m) (sym h)
 
 -- the call of a record is the call of the kind that it has
@@ -105,21 +104,21 @@ unfolding listBefore lastAnswer callsBefore afterCalls
 begins bytes e = ap (answers done) e
 
 -- what a record leaves is what its call does
-record-leaves : (o : Option Call) (m : Machine) → carryOut o m .after ≡ afterCalls (listed o) m
-unfolding carryOut listed afterCalls
+record-leaves : (o : Option Call) (m : Machine) → carryOut o m .after ≡ afterCalls (callList o) m
+unfolding carryOut callList afterCalls
 record-leaves none m = refl
 record-leaves (some k) m = refl
 
 -- one record more
 pub goes-on : (m : Machine) (bytes : List ℕ) (i : ℕ) {s : Step} {r : Record} → i < wholeRecords bytes → s ≡ listBefore m bytes i → r ≡ recordWithin bytes i
-    → carryOut (callOf r) (s .after) ≡ listBefore m bytes (i + 1)
+    → carryOut (listCallOf r) (s .after) ≡ listBefore m bytes (i + 1)
 unfolding listBefore lastAnswer callsBefore
 goes-on m bytes i {s} {r} within e f =
     let ks = callsBefore bytes i in
-    let o = callOf (recordAt bytes i) in
+    let o = listCallOf (recordAt bytes i) in
     let more : suc i ≡ i + 1 = omega arith in
     let same : r ≡ recordAt bytes i = f ∙ record-within bytes i within in
-    let left : carryOut o (afterCalls ks m) .after ≡ afterCalls (ks ++ listed o) m = record-leaves o (afterCalls ks m) ∙ sym (after-append ks (listed o) m) in
-    subst (λ (n : ℕ). carryOut (callOf r) (s .after) ≡ listBefore m bytes n) more (ap (λ (x : Record). carryOut (callOf x) (s .after)) same
+    let leaves : carryOut o (afterCalls ks m) .after ≡ afterCalls (ks ++ callList o) m = record-leaves o (afterCalls ks m) ∙ sym (after-append ks (callList o) m) in
+    subst (λ (n : ℕ). carryOut (listCallOf r) (s .after) ≡ listBefore m bytes n) more (ap (λ (x : Record). carryOut (listCallOf x) (s .after)) same
     ∙ ap (λ (x : Step). carryOut o (x .after)) e
-    ∙ ap (answers (carryOut o (afterCalls ks m) .answer)) left)
+    ∙ ap (answers (carryOut o (afterCalls ks m) .answer)) leaves)

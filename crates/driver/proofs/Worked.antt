@@ -7,12 +7,13 @@ use contract.Lifetimes.{Lfts}
 use denote.Ref.{now}
 use Rattle.ids.specs.Ids.{padded}
 use Rattle.unification.specs.Roots.{linksOf}
-use Rattle.semantics.specs.Close.{Closed}
-use Rattle.semantics.specs.Calls.{push-el, equate-els, root, close, closed}
+use Rattle.semantics.specs.Types.{anyMarked}
+use Rattle.semantics.specs.Close.{Closed, report}
+use Rattle.semantics.specs.Calls.{push-el, equate-els, root, close, closed, isAccepted}
 use Rattle.semantics.proofs.Computes.{everything}
 use Rattle.history.specs.Book as book
-use Rattle.history.specs.Book.{history, someMark, Conserved}
-use Rattle.driver.specs.Calls.{rootKind, callAt, listed, callsBefore, callsIn, afterCalls, lastAnswer, listBefore, runList}
+use Rattle.history.specs.Book.{history, Conserved}
+use Rattle.driver.specs.Calls.{rootKind, callAt, callList, callsBefore, callsIn, lastAnswer, listBefore, runList}
 use Rattle.driver.specs.declared.Responded.{Responded}
 use Rattle.driver.proofs.run.Reads as run-fn
 use Rattle.driver.proofs.Conserved.{Ends, run-conserves}
@@ -38,7 +39,7 @@ worked =
 
 -- the definitions that a list of bytes computes with
 computed : ℕ
-unfolding everything worked zeros callAt listed callsBefore afterCalls lastAnswer listBefore padded book.blank book.taken book.fed book.isAccepted book.mergesOf book.noted book.next book.run book.begin book.history book.someMark
+unfolding everything anyMarked isAccepted worked zeros callAt callList callsBefore lastAnswer listBefore padded book.blank book.taken book.fed book.mergesOf book.noted book.next book.run book.begin book.history
 computed = 0
 
 -- the calls that it is
@@ -48,7 +49,7 @@ worked-calls = refl
 
 -- "close 1 1 2"
 abbrev answered : Closed
-answered = record { changed = true; merges = 1; rounds = 2 }
+answered = report true 1 2
 
 pub worked-answers : runList worked .answer ≡ closed answered
 unfolding computed
@@ -62,7 +63,7 @@ pub worked-ends : Ends (callsIn worked) answered
 unfolding computed
 worked-ends = record { before = push-el false ∷ push-el false ∷ equate-els 0 1 ∷ root 1 ∷ root 9 ∷ []; is = refl; answers = refl }
 
-pub worked-unmarked : someMark (history (callsIn worked) .book .marks) ≡ false
+pub worked-unmarked : anyMarked (history (callsIn worked) .book .marks) ≡ false
 unfolding computed
 worked-unmarked = refl
 
@@ -72,4 +73,4 @@ pub worked-conserved : (κs : Lfts 1) (bytes : _) (r : Responded) → run-fn.Lea
 worked-conserved κs bytes r ran e =
     subst (λ (l : List ℕ). Conserved (history (callsIn l) .book) (linksOf (r .machine .structure .unification)) answered) e
     (run-conserves κs bytes r ran answered (subst (λ (l : List ℕ). Ends (callsIn l) answered) (sym e) worked-ends)
-    (subst (λ (l : List ℕ). someMark (history (callsIn l) .book .marks) ≡ false) (sym e) worked-unmarked))
+    (subst (λ (l : List ℕ). anyMarked (history (callsIn l) .book .marks) ≡ false) (sym e) worked-unmarked))

@@ -6,7 +6,7 @@ use mathlib.Core.Option.{Option, none, some}
 use lib.ListN.{length}
 use lib.Dec.{eqb}
 use Rattle.ids.specs.Ids.{givenOf}
-use Rattle.semantics.specs.Calls.{Call, root, root-const, lookup-type, ambient-parents, Answer, done, Machine, Step, start, step}
+use Rattle.semantics.specs.Calls.{Call, root, root-const, lookup-type, ambient-parents, Answer, done, Machine, Step, answers, start, afterCalls}
 use Rattle.semantics.specs.Sheet as sheet
 use Rattle.semantics.specs.Sheet.{Record, recordAt, recordBytes, carryOut}
 
@@ -37,38 +37,33 @@ callAt kind r =
     (when (eqb kind ambientParentsKind) (ambient-parents (givenOf (r .arg-count) (r .args)))
     (sheet.callOf r))))
 
-abbrev pub callOf : Record → Option Call
-callOf r = callAt (r .kind) r
+abbrev pub listCallOf : Record → Option Call
+listCallOf r = callAt (r .kind) r
 
 -- "Bytes after the last whole record are not looked at."
 abbrev pub wholeRecords : List ℕ → ℕ
 wholeRecords bytes = length bytes / recordBytes
 
-unfoldable pub listed : Option Call → List Call
-listed none = []
-listed (some k) = k ∷ []
+unfoldable pub callList : Option Call → List Call
+callList none = []
+callList (some k) = k ∷ []
 
 -- the calls of the first n records, in order: a record that does not fit is no call
 unfoldable pub callsBefore : List ℕ → ℕ → List Call
 callsBefore bytes zero = []
-callsBefore bytes (suc n) = callsBefore bytes n ++ listed (callOf (recordAt bytes n))
+callsBefore bytes (suc n) = callsBefore bytes n ++ callList (listCallOf (recordAt bytes n))
 
 abbrev pub callsIn : List ℕ → List Call
 callsIn bytes = callsBefore bytes (wholeRecords bytes)
 
--- what some calls leave of a machine, one after the other
-unfoldable pub afterCalls : List Call → Machine → Machine
-afterCalls [] m = m
-afterCalls (k ∷ ks) m = afterCalls ks (step k m .after)
-
 -- what the last of the first n records answers, after the calls before it; a list of no records is done
 unfoldable pub lastAnswer : Machine → List ℕ → ℕ → Answer
 lastAnswer m bytes zero = done
-lastAnswer m bytes (suc n) = carryOut (callOf (recordAt bytes n)) (afterCalls (callsBefore bytes n) m) .answer
+lastAnswer m bytes (suc n) = carryOut (listCallOf (recordAt bytes n)) (afterCalls (callsBefore bytes n) m) .answer
 
 -- after the first n records: the last one's answer, and what the calls leave
 unfoldable pub listBefore : Machine → List ℕ → ℕ → Step
-listBefore m bytes n = record { answer = lastAnswer m bytes n; after = afterCalls (callsBefore bytes n) m }
+listBefore m bytes n = answers (lastAnswer m bytes n) (afterCalls (callsBefore bytes n) m)
 
 -- a list from a given machine on
 abbrev pub runFrom : Machine → List ℕ → Step

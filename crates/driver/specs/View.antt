@@ -1,14 +1,15 @@
 -- What a call of a list answers, as the definitions speak of it.
 use Prim.Native.Nat.{ℕ}
-use mathlib.Core.List.{List, []}
-use mathlib.Core.Option.{Option, none, some}
+use mathlib.Core.List.{List}
+use mathlib.Core.Option.{none, some}
 use Rattle.ids.specs.Ids.{givenEls, Handed, whole}
 use Rattle.unification.specs.Roots.{found}
-use Rattle.semantics.specs.Structure.{Fact}
 use Rattle.semantics.specs.Conflicts.{Conflict}
 use Rattle.semantics.specs.Calls as calls
+use Rattle.semantics.specs.Calls.{answers, concrete-type}
+use Rattle.structure.specs.View.{machineOf, answerOf, elsIn}
 use Rattle.conflicts.specs.View.{conflictsOf, handedConflicts}
-use Rattle.carrying.specs.View.{machineOf, answerOf, conflictsBeside}
+use Rattle.carrying.specs.View.{conflictsBeside}
 use Rattle.driver.specs.declared.Response.{Response}
 use Rattle.driver.specs.declared.Response.the-variants as responses
 use Rattle.driver.specs.declared.Responded.{Responded}
@@ -16,28 +17,12 @@ use Rattle.driver.specs.declared.Responded.{Responded}
 abbrev pub responseOf : List Conflict → List ℕ → Response → calls.Answer
 responseOf cs es (responses.Answered a) = answerOf cs a
 responseOf cs es (responses.Found f) = calls.found (found f)
-responseOf cs es (responses.Typed t) = calls.typed (some (record { el = 0; typ = t .0; parents = es }))
+responseOf cs es (responses.Typed t) = calls.typed (some (concrete-type (t .0) es))
 responseOf cs es responses.Absent = calls.typed none
 responseOf cs es responses.Els = calls.els es
 
-abbrev pub stepOf : Responded → calls.Step
-stepOf r = record { answer = responseOf (conflictsOf (r .conflicts)) (givenEls (r .els)) (r .response); after = machineOf (r .machine) }
-
--- the elements that an answer lists: none where it is another
-abbrev pub parentsIn : Option Fact → List ℕ
-parentsIn none = []
-parentsIn (some f) = f .parents
-
-abbrev pub elsIn : calls.Answer → List ℕ
-elsIn (calls.number n) = []
-elsIn (calls.says b) = []
-elsIn calls.done = []
-elsIn (calls.closed c) = []
-elsIn (calls.conflicting cs) = []
-elsIn (calls.found f) = []
-elsIn (calls.typed t) = parentsIn t
-elsIn (calls.els es) = es
-elsIn (calls.refuse n) = []
+abbrev pub respondedStep : Responded → calls.Step
+respondedStep r = answers (responseOf (conflictsOf (r .conflicts)) (givenEls (r .els)) (r .response)) (machineOf (r .machine))
 
 -- a step, and the lists that stand beside its answer
 pub record RespondedM : Type 0 where
@@ -46,7 +31,7 @@ pub record RespondedM : Type 0 where
   pub conflicts : Handed (List Conflict)
 
 abbrev pub respondedOf : Responded → RespondedM
-respondedOf r = record { step = stepOf r; els = givenEls (r .els); conflicts = handedConflicts (r .conflicts) }
+respondedOf r = record { step = respondedStep r; els = givenEls (r .els); conflicts = handedConflicts (r .conflicts) }
 
 -- beside an answer stand the lists that it gives
 abbrev pub responded : calls.Step → RespondedM

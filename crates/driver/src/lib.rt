@@ -1,6 +1,4 @@
 // A list of calls carried out one after the other, refused ones included.
-use carrying::Answer;
-use carrying::Machine;
 use conflicts::TypeConflicts;
 use ids::ElId;
 use ids::ElIds;
@@ -9,21 +7,23 @@ use ids::TypeIds;
 use records::Record;
 use signature::TypeLookup;
 use signature::Typed;
+use structure::Answer;
 use structure::Looked;
+use structure::Machine;
 use unification::Find;
 use unification::Finding;
 ghost use mathlib.Core.Path.{_≡_};
 ghost use mathlib.Core.List.{[]};
 ghost use lib.ListN.{take};
 ghost use Rattle.ids.specs.Ids.{givenOf, givenEls, givenTypes, whole};
-ghost use Rattle.unification.specs.Roots.{answered};
 ghost use Rattle.signature.specs.Calls.{typedOf};
 ghost use Rattle.semantics.specs.Calls as calls;
+ghost use Rattle.semantics.specs.Calls.{answers};
 ghost use Rattle.semantics.specs.Sheet.{carryOut};
 ghost use Rattle.semantics.specs.Sheet as sheet;
 ghost use Rattle.records.specs.View.{recordView};
-ghost use Rattle.carrying.specs.View.{machineOf};
-ghost use Rattle.driver.specs.Calls.{callOf, runFrom, runList};
+ghost use Rattle.structure.specs.View.{machineOf, foundOf};
+ghost use Rattle.driver.specs.Calls.{listCallOf, runFrom, runList};
 ghost use Rattle.driver.specs.View.{responseOf, respondedOf, responded};
 
 // The kinds of the calls that no record of a sheet makes.
@@ -59,7 +59,7 @@ pub struct Responded {
 
 // A response with elements beside it.
 fn respond_els(machine: Machine, response: Response, els: ElIds) -> Responded
-    ensures { λ r. ⌜ respondedOf r ≡ record { step = record { answer = responseOf [] (givenEls els) response; after = machineOf machine }; els = givenEls els; conflicts = whole [] } ⌝ }
+    ensures { λ r. ⌜ respondedOf r ≡ record { step = answers (responseOf [] (givenEls els) response) (machineOf machine); els = givenEls els; conflicts = whole [] } ⌝ }
 {
     Responded {
         response,
@@ -71,13 +71,13 @@ fn respond_els(machine: Machine, response: Response, els: ElIds) -> Responded
 
 // A response with no list beside it.
 fn respond(machine: Machine, response: Response) -> Responded
-    ensures { λ r. ⌜ respondedOf r ≡ record { step = record { answer = responseOf [] [] response; after = machineOf machine }; els = []; conflicts = whole [] } ⌝ }
+    ensures { λ r. ⌜ respondedOf r ≡ record { step = answers (responseOf [] [] response) (machineOf machine); els = []; conflicts = whole [] } ⌝ }
 {
     respond_els(machine, response, ElIds::new())
 }
 
 fn refuse(machine: Machine, number: u16) -> Responded
-    ensures { λ r. ⌜ respondedOf r ≡ responded (record { answer = calls.refuse number; after = machineOf machine }) ⌝ }
+    ensures { λ r. ⌜ respondedOf r ≡ responded (calls.refusal (machineOf machine) number) ⌝ }
 {
     respond(machine, Response::Answered(Answer::Refused(number)))
 }
@@ -124,7 +124,7 @@ fn leading(els: ElIds, n: u16) -> ElIds
 }
 
 fn after_finding(machine: Machine, finding: Finding) -> Responded
-    ensures { λ r. ⌜ respondedOf r ≡ responded (record { answer = calls.answerOf calls.found (answered finding); after = machineOf machine }) ⌝ }
+    ensures { λ r. ⌜ respondedOf r ≡ responded (answers (foundOf finding) (machineOf machine)) ⌝ }
 {
     match finding {
         Finding::Found(f) => respond(machine, Response::Found(f)),
@@ -139,10 +139,10 @@ fn find_root(machine: Machine, el: ElId) -> Responded
     let structure = machine.structure;
     let rooting = structure.root(el);
     let finding = rooting.find;
-    let left = rooting.structure;
+    let shortened = rooting.structure;
     let next = Machine {
         signature,
-        structure: left,
+        structure: shortened,
     };
     after_finding(next, finding)
 }
@@ -156,7 +156,7 @@ fn find_root_const(machine: Machine, el: ElId) -> Responded
 
 // A type that was found, with as many of the parents as it has.
 fn after_lookup(machine: Machine, typed: Typed, parents: ElIds) -> Responded
-    ensures { λ r. ⌜ respondedOf r ≡ responded (record { answer = calls.typed (calls.leading (givenEls parents) (typedOf typed)); after = machineOf machine }) ⌝ }
+    ensures { λ r. ⌜ respondedOf r ≡ responded (answers (calls.typed (calls.leading (givenEls parents) (typedOf typed))) (machineOf machine)) ⌝ }
 {
     match typed {
         Typed::At(t, n) => respond_els(machine, Response::Typed(t), leading(parents, n)),
@@ -196,18 +196,18 @@ fn carry_out_as_sheet(machine: Machine, given: Record) -> Responded
     let carried = carrying::carry_out(machine, given);
     let answer = carried.answer;
     let conflicts = carried.conflicts;
-    let left = carried.machine;
+    let next = carried.machine;
     Responded {
         response: Response::Answered(answer),
         els: ElIds::new(),
         conflicts,
-        machine: left,
+        machine: next,
     }
 }
 
 // A record is carried out by the call of its kind; one that does not fit is refused, and the machine is as it was.
 fn carry_out(machine: Machine, given: Record) -> Responded
-    ensures { λ r. ⌜ respondedOf r ≡ responded (carryOut (callOf (recordView given)) (machineOf machine)) ⌝ }
+    ensures { λ r. ⌜ respondedOf r ≡ responded (carryOut (listCallOf (recordView given)) (machineOf machine)) ⌝ }
 {
     let kind = given.kind;
     let parents = given.parents;
@@ -233,8 +233,8 @@ pub fn run_from(machine: Machine, bytes: &[u8]) -> Responded
     let count = bytes.len() / Record::BYTES;
     let mut last = respond(machine, Response::Answered(Answer::Done));
     for i in 0..count {
-        let left = last.machine;
-        last = carry_out(left, records::record_in(bytes, i));
+        let reached = last.machine;
+        last = carry_out(reached, records::record_in(bytes, i));
     }
     last
 }

@@ -9,7 +9,7 @@ use native.Mathlib.Nat.{le-refl}
 use lib.ListN.{length, set}
 use lib.Seq.{getD-set-same, getD-set-other, set-out}
 use lib.Dec.{eqb}
-use borrow.Author.Tests.{eqb-true, eqb-false, ne-eqb}
+use borrow.Author.Tests.{eqb-true, eqb-false, eq-eqb, ne-eqb}
 use Rattle.ids.proofs.Sorted.{All}
 use Rattle.unification.specs.Roots.{rootOf, mergedOf, Formed}
 use Rattle.unification.proofs.Numbers.{less-or, same-or}
@@ -54,9 +54,23 @@ pub drain-counted : (w : Core) → Counted (with-pairs [] w) (drain w)
 unfolding drain
 drain-counted w = drainPairs-counted (w .pairs) (with-pairs [] w)
 
-pub drain-none : (w : Core) → w .pairs ≡ [] → drain w ≡ with-pairs [] w
-unfolding drain drainPairs
-drain-none w q = ap (λ ps. drainPairs ps (with-pairs [] w)) q
+-- the two elements of a pair have one root
+abbrev pub OneRoot : List ℕ → Pair → Type 0
+OneRoot ls p = rootOf ls (p .lhs) ≡ rootOf ls (p .rhs)
+
+join-same : (p : Pair) (w : Core) → OneRoot (w .links) p → join p w ≡ w
+unfolding join joinRoots
+join-same p w e = rw (join, joinRoots, eq-eqb (rootOf (w .links) (p .lhs)) (rootOf (w .links) (p .rhs)) e)
+
+drainPairs-same : (ps : List Pair) (w : Core) → All (OneRoot (w .links)) ps → drainPairs ps w ≡ w
+unfolding drainPairs
+drainPairs-same [] w h = refl
+drainPairs-same (p ∷ ps) w h = ap (drainPairs ps) (join-same p w (h .0)) ∙ drainPairs-same ps w (h .1)
+
+-- pairs within one class are dropped
+pub drain-same : (w : Core) → All (OneRoot (w .links)) (w .pairs) → drain w ≡ with-pairs [] w
+unfolding drain
+drain-same w h = drainPairs-same (w .pairs) (with-pairs [] w) h
 
 -- the number first met is as it was
 join-met : (p : Pair) (w : Core) → join p w .met ≡ w .met

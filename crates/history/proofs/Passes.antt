@@ -26,7 +26,7 @@ use Rattle.semantics.proofs.Queues.{drain-pairs}
 use Rattle.semantics.proofs.Stages.{Stage, Along}
 use Rattle.history.proofs.Tables.{all-of}
 use Rattle.history.proofs.Relation.{Equivalence, Rooted, Respects}
-use Rattle.history.proofs.Drain.{RootsAndMerges, HoldsOfPair, Inside, Unmarked, Apart, Joined, drain-law, drain-counted, drain-none}
+use Rattle.history.proofs.Drain.{RootsAndMerges, HoldsOfPair, Inside, Unmarked, Apart, Joined, drain-law, drain-counted, OneRoot, drain-same}
 use Rattle.history.proofs.Drain.{drain-grows}
 use Rattle.history.proofs.Functionality.{Canon, canon-image, enterAll-on, enterAll-back, settled-same}
 use Rattle.history.proofs.Imposing.{OnlyFactsGrew, plain-grown, unmarked-inserts, impose-inserts, imposeAll-counts}
@@ -55,12 +55,27 @@ pub record Passed (n total : ℕ) (w : Core) (xs : List FuncApp) (v : Core) (ys 
   pub ready : Ready n total v ys
   pub sound : Sound w xs v ys
 
--- nothing remains to do
+-- nothing remains to do, marks or not: the queue may hold pairs within one class
 pub record NoWork (g : Sig) (preds : List PredApp) (t : Turn) : Type 0 where
-  pub pairs : t .core .pairs ≡ []
+  pub joined : All (OneRoot (t .core .links)) (t .core .pairs)
   pub sorted : Sorted compareFuncApp (t .apps)
   pub canon : All (Canon (t .core .links)) (t .apps)
-  pub typed : imposeAll (demands g (t .apps) preds) (t .core) ≡ t .core
+  pub safe : All (Safe (t .core .links) (t .core .marks) (t .core .facts)) (demands g (t .apps) preds)
+
+-- the turn with no pair queued
+abbrev pub emptied : Turn → Turn
+emptied t = turn (types.with-pairs [] (t .core)) (t .apps) (t .worked)
+
+-- all is as it was, but that the queue may be dropped
+abbrev pub Rests : Turn → Turn → Type 0
+Rests t u = (u ≡ t) ⊎ (u ≡ emptied t)
+
+emptied-no-work : {g : Sig} {preds : List PredApp} (t : Turn) → NoWork g preds t → NoWork g preds (emptied t)
+emptied-no-work t r = record { joined = tt; sorted = r .sorted; canon = r .canon; safe = r .safe }
+
+emptied-rests : (t u : Turn) → Rests (emptied t) u → Rests t u
+emptied-rests t u (inl e) = inr e
+emptied-rests t u (inr e) = inr e
 
 -- The stages of a round that begins with the core w.
 
@@ -99,8 +114,8 @@ module _ (g : Sig) (preds : List PredApp) where
     pub passed : (n total : ℕ) (t : Turn) → Ready n total (t .core) (t .apps)
         → Passed n total (t .core) (t .apps) (p g preds t .core) (p g preds t .apps)
     pub leads : (t : Turn) → Quiet p t → A t → B (p g preds t)
-    -- where nothing remains to do it does nothing, and says so
-    pub idle : (t : Turn) → NoWork g preds t → p g preds t ≡ t
+    -- where nothing remains to do it does nothing, and says so; pairs within one class may be dropped
+    pub idle : (t : Turn) → NoWork g preds t → Rests t (p g preds t)
     -- merges only add up
     pub more : (t : Turn) → t .core .merges ≤ p g preds t .core .merges
     -- where it merges nothing, facts stay on roots
@@ -126,10 +141,14 @@ module _ (g : Sig) (preds : List PredApp) where
   abbrev AllLawful : List Pass → Stage → Stage → Type 1
   AllLawful = Along (Lawful g preds)
 
-  run-idle : (ps : List Pass) (A B : Stage) → AllLawful ps A B → (t : Turn) → NoWork g preds t → runPasses ps g preds t ≡ t
+  run-idle : (ps : List Pass) (A B : Stage) → AllLawful ps A B → (t : Turn) → NoWork g preds t → Rests t (runPasses ps g preds t)
   unfolding runPasses
-  run-idle [] A B l t r = refl
-  run-idle (p ∷ ps) A C l t r = ap (runPasses ps g preds) (l .1 .idle t r) ∙ run-idle ps (l .0) C (l .2) t r
+  run-idle [] A B l t r = inl refl
+  run-idle (p ∷ ps) A C l t r = elim (l .1 .idle t r) [
+    | inl e ↦ subst (λ (u : Turn). Rests t (runPasses ps g preds u)) (sym e) (run-idle ps (l .0) C (l .2) t r)
+    | inr e ↦ subst (λ (u : Turn). Rests t (runPasses ps g preds u)) (sym e)
+        (emptied-rests t (runPasses ps g preds (emptied t)) (run-idle ps (l .0) C (l .2) (emptied t) (emptied-no-work t r)))
+  ]
 
   run-more : (ps : List Pass) (A B : Stage) → AllLawful ps A B → (t : Turn) → t .core .merges ≤ runPasses ps g preds t .core .merges
   unfolding runPasses
@@ -178,10 +197,10 @@ module _ (g : Sig) (preds : List PredApp) where
       let both = still-both p ps A (l .0) C (l .1) (l .2) t e in
       run-rooted ps (l .0) C (l .2) (p g preds t) (both .1) (l .1 .rooted t (both .0) h)
 
--- a report of no work by a pass that left all as it was
-reports-none : (t : Turn) (w : Core) (apps : List FuncApp) (work : Bool) → w ≡ t .core → apps ≡ t .apps → work ≡ false → reports w apps work t ≡ t
-reports-none t w apps work p q e =
-    λ i. turn (p i) (q i) ((ap (λ (b : Bool). t .worked || b) e ∙ or-false (t .worked)) i)
+-- a report of no work by a pass that left the core v and the applications as they were
+reports-none : (t : Turn) (w v : Core) (work : Bool) → w ≡ v → work ≡ false → reports w (t .apps) work t ≡ turn v (t .apps) (t .worked)
+reports-none t w v work p e =
+    λ i. turn (p i) (t .apps) ((ap (λ (b : Bool). t .worked || b) e ∙ or-false (t .worked)) i)
 
 -- The drain.
 
@@ -215,9 +234,9 @@ drain-lawful g preds w = record {
       subst (λ (x : Core). AfterDrain x (drainPass g preds t)) h (record { merges = drain-grows (t .core); none = drain-pairs (t .core) });
   idle = λ t r.
       let v = t .core in
-      let e : drain v ≡ v = drain-none v (r .pairs) ∙ (λ i. types.with-pairs (sym (r .pairs) i) v) in
-      reports-none t (drain v) (t .apps) (ltb (v .merges) (drain v .merges)) e refl
-      (ap (λ (x : Core). ltb (v .merges) (x .merges)) e ∙ le-ltb (v .merges) (v .merges) (le-refl (v .merges)));
+      let e = drain-same v (r .joined) in
+      inr (reports-none t (drain v) (types.with-pairs [] v) (ltb (v .merges) (drain v .merges)) e
+      (ap (λ (x : Core). ltb (v .merges) (x .merges)) e ∙ le-ltb (v .merges) (v .merges) (le-refl (v .merges))));
   more = λ t. drain-counted (t .core) .grew;
   rooted = λ t e h. subst (λ (x : Core). OnRoots (x .links) (x .facts)) (sym (drain-counted (t .core) .still e)) h;
 }
@@ -269,8 +288,8 @@ functionality-lawful g preds w = record {
         idle = λ e. enterAll-none ls (t .apps) (begin t) (or-second (t .worked) (rewritten t .queued) e) .1 ∙ h .none;
       };
   idle = λ t r.
-      ap (λ (x : Rewritten). rewrote x t) (settled-same (t .core .links) (t .core .pairs) false (t .apps) (r .sorted) (r .canon))
-      ∙ reports-none t (t .core) (t .apps) false refl refl refl;
+      inl (ap (λ (x : Rewritten). rewrote x t) (settled-same (t .core .links) (t .core .pairs) false (t .apps) (r .sorted) (r .canon))
+      ∙ reports-none t (t .core) (t .core) false refl refl);
   more = λ t. le-refl (t .core .merges);
   rooted = λ t e h. h;
 }
@@ -343,7 +362,9 @@ module _ (g : Sig) (preds : List PredApp) where
   typing-lawful w = record {
     passed = λ n total t r. grown-passed n total (t .core) (imposed t) (t .apps) (unmarked-grown (asked t) (t .core) (r .plain)) r;
     leads = λ t q. elim q [ inl u ↦ typing-done w t (unmarked-grown (asked t) (t .core) u .merges) | inr e ↦ typing-done w t e ];
-    idle = λ t r. reports-none t (imposed t) (t .apps) (grew (t .core) (imposed t)) (r .typed) refl (grew-none (t .core) (imposed t) (r .typed));
+    idle = λ t r.
+        let e = safe-idle (asked t) (t .core) (r .safe) in
+        inl (reports-none t (imposed t) (t .core) (grew (t .core) (imposed t)) e (grew-none (t .core) (imposed t) e));
     more = λ t. imposeAll-counts (asked t) (t .core);
     rooted = λ t e h. subst (λ (x : Core). OnRoots (x .links) (x .facts)) (sym (impose-inserts (asked t) (t .core) e)) (insertAll-roots (asked t) (t .core) h);
   }
@@ -362,16 +383,20 @@ module _ (g : Sig) (preds : List PredApp) where
     ),
   )
 
-  -- after a round that left no pair and met no number, another does nothing
-  pub round-idle : (xs : List FuncApp) (w : Core) → NoWork g preds (turn w xs false) → round g preds xs w ≡ turn w xs false
+  -- where nothing remains to do a round does nothing but drop pairs within one class
+  pub round-idle : (xs : List FuncApp) (w : Core) → NoWork g preds (turn w xs false) → Rests (turn w xs false) (round g preds xs w)
   unfolding round
   round-idle xs w = run-idle g preds passes (Begun w) (RoundDone g preds w) (all-lawful w) (turn w xs false)
 
+  -- after a round that left no pair and met no number, another does nothing
   pub done-idle : (w : Core) (t : Turn) → RoundDone g preds w t → t .core .met ≡ none → t .core .pairs ≡ []
       → round g preds (t .apps) (t .core) ≡ turn (t .core) (t .apps) false
   done-idle w t d m e =
-      round-idle (t .apps) (t .core)
-      (record { pairs = e; sorted = d .table .sorted; canon = d .table .canon; typed = safe-idle (asked t) (t .core) (d .safe m) })
+      elim (round-idle (t .apps) (t .core)
+      (record { joined = subst (All (OneRoot (t .core .links))) (sym e) tt; sorted = d .table .sorted; canon = d .table .canon; safe = d .safe m })) [
+        | inl q ↦ q
+        | inr q ↦ q ∙ (λ i. turn (types.with-pairs (sym e i) (t .core)) (t .apps) false)
+      ]
 
   module _ (xs : List FuncApp) (w : Core) where
     pub round-more : w .merges ≤ round g preds xs w .core .merges

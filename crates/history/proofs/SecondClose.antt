@@ -1,6 +1,7 @@
 -- A close that merges nothing is followed by one that reports no change, marks or not.
 use mathlib.Core.Path.{_≡_, refl, sym, subst, ap, ap₂, _∙_}
 use mathlib.Core.Bool.{Bool, true, false, _&&_, and-true}
+use mathlib.Core.Logic.{inl, inr}
 use mathlib.Core.List.{List, [], _∷_, _++_, map, map-append}
 use mathlib.Core.Option.{none}
 use Prim.Native.Nat.{ℕ, zero, suc, _≤_, _<_}
@@ -16,18 +17,19 @@ use Rattle.signature.specs.Model.{Sig, predAt}
 use Rattle.signature.specs.Calls.{TypedM, at, absent, concreteTypeAt}
 use Rattle.semantics.specs.Structure.{Fact, FuncApp, PredApp, Pair, Structure, compareFuncApp, comparePredApp, canonicalFact, canonicalPredApp, fact}
 use Rattle.semantics.specs.Structure.{with-flags}
+use Rattle.semantics.specs.Types as types
 use Rattle.semantics.specs.Types.{Core, imposeAll, grew}
-use Rattle.semantics.specs.Close.{demanded, demandedAt, demandedArgs, funcArgs, predArgs, funcResults, demands, Turn, typed, round, Rounds, isNone}
-use Rattle.semantics.specs.Close.{lastRound, oneMore, roundsFrom, rounds, fuel, Closed, coreOf, canonicaliseRefs, withCore, imposedAfter, closeRun}
+use Rattle.semantics.specs.Close.{demanded, demandedAt, demandedArgs, funcArgs, predArgs, funcResults, demands, Turn, round, Rounds, isNone}
+use Rattle.semantics.specs.Close.{lastRound, oneMore, roundsFrom, rounds, fuel, Closed, coreOf, canonicaliseRefs, withCore, imposedAfter, CloseRun, closeRun}
 use Rattle.semantics.specs.Close.{reportOf, afterClose, closeBy, close, turn, report}
 use Rattle.semantics.specs.Calls as calls
 use Rattle.semantics.specs.Calls.{closed, machine, Step, rule, closeRule, acceptance, refusal, stepBy, step}
 use Rattle.semantics.proofs.Judged.{close-first}
 use Rattle.semantics.proofs.Cases.{and-second}
-use Rattle.history.proofs.Drain.{Apart}
+use Rattle.history.proofs.Drain.{Apart, OneRoot}
 use Rattle.history.proofs.Functionality.{Canon}
 use Rattle.history.proofs.Imposing.{impose-inserts, imposeAll-counts, plain-grown}
-use Rattle.history.proofs.Passes.{RoundDone, round-idle, done-idle, round-more, still-done, still-rooted}
+use Rattle.history.proofs.Passes.{RoundDone, Rests, round-idle, done-idle, round-more, still-done, still-rooted}
 use Rattle.history.proofs.Rounds.{stop, isNone-none, none-isNone}
 use Rattle.history.proofs.Closing.{accepted-close}
 use Rattle.history.proofs.Unjoined.{Safe, OnRoots, imposed-safe, safe-idle, rewrittenFacts, safe-rewritten, safe-image, safe-moved}
@@ -153,9 +155,9 @@ module _ (g : Sig) (preds : List PredApp) where
 abbrev pub noChange : Closed
 noChange = report false 0 1
 
--- a structure in which nothing remains to do
+-- a structure in which nothing remains to do: its queue may hold pairs within one class
 pub record Idle (g : Sig) (s : Structure) : Type 0 where
-  pub pairs : s .pairs ≡ []
+  pub joined : All (OneRoot (s .links)) (s .pairs)
   pub sorted : Sorted compareFuncApp (s .func-apps)
   pub canon : All (Canon (s .links)) (s .func-apps)
   pub demanded : All (Safe (s .links) (s .marks) (s .facts)) (demands g (s .func-apps) (s .pred-apps))
@@ -165,29 +167,37 @@ module _ (g : Sig) (s : Structure) (i : Idle g s) where
   abbrev begun : Turn
   begun = turn (coreOf s) (s .func-apps) false
 
-  rest : round g (s .pred-apps) (s .func-apps) (coreOf s) ≡ begun
+  rest : Rests begun (round g (s .pred-apps) (s .func-apps) (coreOf s))
   unfolding coreOf
   rest =
       round-idle g (s .pred-apps) (s .func-apps) (coreOf s)
-      (record {
-        pairs = i .pairs;
-        sorted = i .sorted;
-        canon = i .canon;
-        typed = safe-idle (demands g (s .func-apps) (s .pred-apps)) (coreOf s) (i .demanded);
-      })
+      (record { joined = i .joined; sorted = i .sorted; canon = i .canon; safe = i .demanded })
 
-  -- its close runs one round, which does nothing
-  idle-run : closeRun g s ≡ record { rounds = lastRound begun; core = coreOf s }
-  unfolding closeRun rounds imposedAfter lastRound coreOf
-  idle-run =
-      ap (λ (r : Rounds). imposedAfter r s) (ap (roundsFrom fuel g (s .pred-apps)) rest ∙ stop g (s .pred-apps) fuel begun refl)
-      ∙ (λ j. record { rounds = lastRound begun; core = safe-idle (s .impositions) (coreOf s) (i .imposed) j })
+  -- what a close comes to whose one round leaves the pairs ps
+  abbrev idleRun : List Pair → CloseRun
+  idleRun ps =
+      let w = types.with-pairs ps (coreOf s) in
+      record { rounds = lastRound (turn w (s .func-apps) false); core = w }
+
+  -- its close runs one round, which does nothing but drop pairs
+  idle-run : (ps : List Pair) × (closeRun g s ≡ idleRun ps)
+  idle-run = elim rest [ inl e ↦ (s .pairs, (unfold coreOf in run (s .pairs) e)) | inr e ↦ ([], run [] e) ]
+    where
+      run : (ps : List Pair) → round g (s .pred-apps) (s .func-apps) (coreOf s) ≡ turn (types.with-pairs ps (coreOf s)) (s .func-apps) false
+          → closeRun g s ≡ idleRun ps
+      run ps e = unfold closeRun rounds imposedAfter lastRound coreOf in
+          ap (λ (r : Rounds). imposedAfter r s) (ap (roundsFrom fuel g (s .pred-apps)) e
+          ∙ stop g (s .pred-apps) fuel (turn (types.with-pairs ps (coreOf s)) (s .func-apps) false) refl)
+          ∙ (λ j. record {
+            rounds = lastRound (turn (types.with-pairs ps (coreOf s)) (s .func-apps) false);
+            core = safe-idle (s .impositions) (types.with-pairs ps (coreOf s)) (i .imposed) j;
+          })
 
   pub idle-met : closeRun g s .core .met ≡ none
-  idle-met = rw idle-run (unfold coreOf in refl)
+  idle-met = rw (idle-run .1) (unfold coreOf in refl)
 
   pub idle-report : reportOf (closeRun g s) ≡ noChange
-  idle-report = rw idle-run (unfold reportOf lastRound grew coreOf in refl)
+  idle-report = rw (idle-run .1) (unfold reportOf lastRound grew coreOf in refl)
 
   idle-close : close g s .answer ≡ accepted noChange
   unfolding close closeBy outcome
@@ -202,7 +212,7 @@ pub idle-step : (g : Sig) (s : Structure) (x y : Bool) → Idle g s → step cal
 unfolding step stepBy rule closeRule acceptance
 idle-step g s x y i =
     let s′ = with-flags x y s in
-    let i′ : Idle g s′ = record { pairs = i .pairs; sorted = i .sorted; canon = i .canon; demanded = i .demanded; imposed = i .imposed } in
+    let i′ : Idle g s′ = record { joined = i .joined; sorted = i .sorted; canon = i .canon; demanded = i .demanded; imposed = i .imposed } in
     let m = machine g s′ in
     ap (λ (t : Step). t .answer) (decided-accepts (refusal m) (acceptance (closeRule (closeRun g s′) m)) (close-first (closeRun g s′) ∙ idle-met g s′ i′))
     ∙ ap closed (idle-report g s′ i′)
@@ -250,7 +260,7 @@ module _ (g : Sig) (s : Structure) (on : OnRoots (s .links) (s .facts)) where
       λ l h. all-map (safe-rewritten ls ms (w .facts) on-now) l (safe-moved (sym (grown .links)) (sym (grown .marks)) (w .facts) l h) in
       let image = safe-image ls ms (rewrittenFacts ls ms (w .facts)) in
       record {
-        pairs = grown .pairs ∙ ap (λ (v : Core). v .pairs) (same .core) ∙ same .pairs;
+        joined = subst (All (OneRoot ls)) (sym (grown .pairs ∙ ap (λ (v : Core). v .pairs) (same .core) ∙ same .pairs)) tt;
         sorted = subst (Sorted compareFuncApp) (sym (same .apps)) (did .table .sorted);
         canon = subst (λ k. All (Canon k) (r .apps)) (sym links) (subst (All (Canon (first .core .links))) (sym (same .apps)) (did .table .canon));
         demanded = demands-rewritten (Safe ls ms (rewrittenFacts ls ms (w .facts))) g ls image (r .apps) (s .pred-apps)

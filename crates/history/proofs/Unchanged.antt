@@ -4,7 +4,7 @@ use mathlib.Core.List.{List, [], _∷_, _++_}
 use mathlib.Core.Bool.{true, not}
 use Rattle.semantics.specs.Valid.{Valid}
 use Rattle.semantics.specs.Close.{Closed, closeRun, afterClose, reportOf}
-use Rattle.semantics.specs.Calls.{Call, close, closed, Machine, machine, step}
+use Rattle.semantics.specs.Calls.{Call, close, closed, Machine, step}
 use Rattle.history.specs.Book.{History, noted, next, history}
 use Rattle.history.proofs.Histories.{history-valid, history-next}
 use Rattle.history.proofs.Closing.{closed-step}

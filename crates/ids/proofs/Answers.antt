@@ -5,6 +5,7 @@ use mathlib.Core.List.{List, [], _∷_}
 use mathlib.Core.Option.{none, some}
 use Prim.Native.Nat.{ℕ}
 use Rattle.ids.specs.Answers.{Cause, firstOf, _if_}
+use Rattle.ids.proofs.Sorted.{no-test}
 
 module _ (n : ℕ) (b : Bool) (cs : List Cause) where
   -- a cause that applies gives its number
@@ -17,7 +18,7 @@ module _ (n : ℕ) (b : Bool) (cs : List Cause) where
   unfolding firstOf
   first-passes h = rw (h, firstOf)
 
--- no cause is left
+-- there is no cause
 pub first-none : firstOf [] ≡ none
 unfolding firstOf
 first-none = refl
@@ -45,3 +46,7 @@ or-left b h = rw h
 
 pub or-neither : {a b : Bool} → a ≡ false → b ≡ false → (a || b) ≡ false
 or-neither h k = rw (h, k)
+
+pub neither : (a b : Bool) → (a || b) ≡ false → (a ≡ false) × (b ≡ false)
+neither true b h = (h, no-test refl h)
+neither false b h = (refl, h)

@@ -1,11 +1,11 @@
 -- Laws of verdicts: what the code judges cause by cause is the first cause of a list, and what a verdict tells of a call.
-use mathlib.Core.Path.{_≡_, refl, sym, ap, subst, _∙_}
+use mathlib.Core.Path.{_≡_, refl, sym, ap, _∙_}
 use mathlib.Core.Bool.{Bool, true, false, _||_}
 use mathlib.Core.List.{List, [], _∷_, _++_, map, List·Memᴰ, List·Memᴰ·head, List·Memᴰ·tail}
 use mathlib.Core.Option.{Option, none, some}
 use Prim.Native.Nat.{ℕ}
 use native.Mathlib.Omega.{arith}
-use Rattle.ids.specs.Answers.{Answered, accepted, refused, Cause, firstOf, decided, Outcome, outcome, refusing, accepting, _if_}
+use Rattle.ids.specs.Answers.{accepted, refused, Cause, firstOf, decided, Outcome, outcome, refusing, accepting, _if_}
 use Rattle.ids.specs.Judge.{orIf}
 use Rattle.ids.specs.Ids.{tooLong}
 use Rattle.ids.specs.Sorted.{All}
@@ -144,10 +144,3 @@ module _ {A S : Type 0} (before after : S) (value : A) (cs : List Cause) where
   refused-after n =
       decided-by (λ (o : Outcome A S). o .answer ≡ refused n → o .after ≡ before) cs (refusing before) (accepting value after) (λ m q e. refl)
       (λ none e. absurd (not-refused value n e))
-
-  -- an accepted call answers and leaves what the call is to do
-  pub accepted-after : (v : A) → outcome cs before value after .answer ≡ accepted v → (v ≡ value) × (outcome cs before value after .after ≡ after)
-  unfolding outcome
-  accepted-after v =
-      decided-by (λ (o : Outcome A S). o .answer ≡ accepted v → (v ≡ value) × (o .after ≡ after)) cs (refusing before) (accepting value after)
-      (λ m q e. absurd (not-refused v m (sym e))) (λ none e. (cc, refl))

@@ -1,6 +1,6 @@
 -- A verdict reached cause by cause, as the code judges a call.
 use Prim.Native.Nat.{ℕ}
-use mathlib.Core.Bool.{Bool, true, false}
+use mathlib.Core.Bool.{true, false}
 use mathlib.Core.Option.{Option, none, some}
 use Rattle.ids.specs.declared.Verdict.{Verdict}
 use Rattle.ids.specs.declared.Verdict.the-variants as verdicts

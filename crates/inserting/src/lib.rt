@@ -45,7 +45,11 @@ pub fn impose_type(structure: Structure, signature: Signature, fact: Fact) -> St
 }
 
 // Kind 9: a function application, or the equality of its result with the one that is stored.
-pub fn insert_func_app_or_equate(structure: Structure, signature: Signature, app: FuncApp) -> Stepped
+pub fn insert_func_app_or_equate(
+    structure: Structure,
+    signature: Signature,
+    app: FuncApp,
+) -> Stepped
     ensures { λ r. ⌜ stepOf (sigOf signature) r ≡ step (apply-func (givenFuncApp app)) (machine (sigOf signature) (structureOf structure)) ⌝ }
 {
     let parents = app.parents;
@@ -102,13 +106,8 @@ fn fact_is_declared(structure: Structure, signature: Signature, fact: Fact) -> b
     ensures { λ r. ⌜ r ≡ factDeclared (sigOf signature) (structureOf structure) (factOf fact) ⌝ }
 {
     let parents = fact.ct.parents;
-    if !structure.is_el(fact.el) {
-        return false;
-    }
-    if !signature.is_type(fact.ct.typ) {
-        return false;
-    }
-    structure.are_els(parents)
+    let named = ids::and(signature.is_type(fact.ct.typ), structure.are_els(parents));
+    ids::and(structure.is_el(fact.el), named)
 }
 
 // Whether a predicate application can be made of what is declared.
@@ -117,13 +116,8 @@ fn pred_app_is_declared(structure: Structure, signature: Signature, app: PredApp
 {
     let parents = app.parents;
     let args = app.args;
-    if !is_pred(signature, app.pred) {
-        return false;
-    }
-    if !structure.are_els(parents) {
-        return false;
-    }
-    structure.are_els(args)
+    let named = ids::and(structure.are_els(parents), structure.are_els(args));
+    ids::and(is_pred(signature, app.pred), named)
 }
 
 // Whether an application can be made of what is declared.
@@ -132,16 +126,9 @@ fn app_is_declared(structure: Structure, signature: Signature, app: FuncApp) -> 
 {
     let parents = app.parents;
     let args = app.args;
-    if !signature.is_func(app.func) {
-        return false;
-    }
-    if !structure.are_els(parents) {
-        return false;
-    }
-    if !structure.are_els(args) {
-        return false;
-    }
-    structure.is_el(app.result)
+    let found = ids::and(structure.are_els(args), structure.is_el(app.result));
+    let named = ids::and(structure.are_els(parents), found);
+    ids::and(signature.is_func(app.func), named)
 }
 
 fn is_pred(signature: Signature, pred: PredId) -> bool

@@ -33,11 +33,11 @@ put-short line xs e = rw e (omega (arith, length-take maxLine (line ++ xs)))
 pub then : (line xs ys : List ℕ) {next last : List ℕ} → next ≡ putOf line xs → last ≡ putOf next ys → last ≡ putOf line (xs ++ ys)
 then line xs ys e h = h ∙ ap (λ (l : List ℕ). putOf l ys) e ∙ put-put line xs ys
 
--- a turn of a loop: what was added is no more left to add
+-- a turn of a loop: what was added is no more to be added
 pub put-turn : (line xs ys : List ℕ) {next R : List ℕ} → putOf line (xs ++ ys) ≡ R → next ≡ putOf line xs → putOf next ys ≡ R
 put-turn line xs ys turn e = ap (λ (l : List ℕ). putOf l ys) e ∙ put-put line xs ys ∙ turn
 
--- a loop's end: nothing is left to add
+-- a loop's end: nothing more is to be added
 pub put-done : (line rest : List ℕ) {R : List ℕ} → length line ≤ maxLine → rest ≡ [] → putOf line rest ≡ R → line ≡ R
 put-done line rest h e turn = sym (put-none line h) ∙ ap (putOf line) (sym e) ∙ turn
 

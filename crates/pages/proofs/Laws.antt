@@ -9,7 +9,7 @@ use lib.ListN.{length, take, getD, set}
 use lib.Seq.{take-suc, take-suc-set, take-length}
 use Rattle.semantics.specs.Sheet.{prints, stops}
 use Rattle.sheet.specs.Pieces.{isEnded, ProgressM, PieceM, nextPiece, restOf, piecesOf}
-use Rattle.sheet.proofs.Pieces.{rest-next, pieces-next, ended-none, some-left}
+use Rattle.sheet.proofs.Pieces.{rest-next, pieces-next, ended-none, some-to-come}
 use Rattle.pages.specs.Pages.{Filled, Put}
 
 -- a text with no byte of the line yet, one with one more, and one with all of them
@@ -68,4 +68,4 @@ module _ {bytes : List ℕ} {p : ProgressM} {text : List ℕ} {n : ℕ} {q : Pro
 pub fewer : (bytes : List ℕ) (q : ProgressM) {r : PieceM} → r ≡ nextPiece bytes q → isEnded (q .stage) ≡ false → piecesOf bytes (r .progress) < piecesOf bytes q
 fewer bytes q {r} e on =
     let less : piecesOf bytes (r .progress) ≡ piecesOf bytes q - 1 = ap (λ (x : PieceM). piecesOf bytes (x .progress)) e ∙ pieces-next bytes q in
-    omega (arith, less, some-left bytes q on)
+    omega (arith, less, some-to-come bytes q on)

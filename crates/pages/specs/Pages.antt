@@ -11,7 +11,7 @@ use Rattle.sheet.specs.Pieces.{ProgressM, restOf, piecesOf}
 pub record Filled (bytes : List ℕ) (p : ProgressM) (text : List ℕ) (n : ℕ) (q : ProgressM) : Type 0 where
   -- what was to be printed is the page, and what is to be printed after it
   pub rest : restOf bytes p ≡ prints (take n text) (restOf bytes q)
-  -- fewer pieces are left, unless none were
+  -- fewer pieces are to come, unless none were
   pub less : piecesOf bytes q ≤ piecesOf bytes p - 1
   -- the text has so many bytes
   pub within : n ≤ length text

@@ -5,8 +5,6 @@ use apps::PredApp;
 use apps::PredApps;
 use bindings::AmbientEls;
 use bindings::VarEls;
-use carrying::Answer;
-use carrying::Machine;
 use conflicts::TypeConflicts;
 use driver::Response;
 use equalities::Pairs;
@@ -22,6 +20,8 @@ use records::Record;
 use sheet::Progress;
 use sheet::Stage;
 use signature::Signature;
+use structure::Answer;
+use structure::Machine;
 use structure::Structure;
 use unification::Unification;
 
@@ -229,7 +229,7 @@ fn put_pairs(text: &mut [u8; MAX_TEXT], n: usize, pairs: Pairs) -> usize {
     let k = pairs.size();
     for i in 0..k {
         let pair = pairs.items[i];
-        at = put_line(text, at, pair_line(b"q", pair.left.0, pair.right.0));
+        at = put_line(text, at, pair_line(b"q", pair.lhs.0, pair.rhs.0));
     }
     at
 }
@@ -330,11 +330,11 @@ fn respond(text: &mut [u8; MAX_TEXT], n: usize, machine: Machine, bytes: &[u8]) 
     let response = responded.response;
     let els = responded.els;
     let conflicts = responded.conflicts;
-    let left = responded.machine;
+    let next = responded.machine;
     let at = put_conflicts(text, n, conflicts);
     Printed {
         n: put_line(text, at, response_line(response, els, conflicts.len)),
-        machine: left,
+        machine: next,
     }
 }
 
@@ -425,10 +425,10 @@ fn run_record(
     dumps: bool,
 ) -> Printed {
     let printed = respond(text, n, machine, bytes);
-    let left = printed.machine;
+    let next = printed.machine;
     Printed {
-        n: put_dump(text, printed.n, left, dumps),
-        machine: left,
+        n: put_dump(text, printed.n, next, dumps),
+        machine: next,
     }
 }
 
@@ -448,8 +448,8 @@ fn run_list(
             return at;
         }
         let printed = run_record(bytes, text, at, machine, dumps);
-        let left = printed.machine;
-        machine = left;
+        let next = printed.machine;
+        machine = next;
         at = printed.n;
     }
     skip(bytes, length % Record::BYTES);

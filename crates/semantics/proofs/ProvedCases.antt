@@ -11,7 +11,8 @@ use Prim.Native.String.{String, [] as no-text, _∷_ as _∷ᵗ_}
 use lib.ListN.{length, take, getD}
 use Rattle.ids.specs.Table.{lookupOf}
 use Rattle.unification.specs.Roots.{maxEls}
-use Rattle.signature.specs.Model.{Kind, plain, model, mor, maxTypes, maxPreds, maxFuncs}
+use Rattle.signature.specs.Model.{Kind, plain, model, mor, maxTypes, maxPreds, maxFuncs, type-entry, pred-entry, func-entry, model-entry}
+use Rattle.signature.specs.Model.{mor-app-entry}
 use Rattle.semantics.specs.Structure.{Fact, fact, func-app, pred-app, variable, ambient, compareFuncApp, resultOf, maxPairs}
 use Rattle.semantics.specs.Structure.{maxImpositions, maxFuncApps, maxPredApps, maxFacts, maxVars, with-facts}
 use Rattle.semantics.specs.Types.{factsAt}
@@ -166,13 +167,13 @@ entry next kind a b ps xs =
     littleEndian (next ∷ kind ∷ a ∷ b ∷ length ps ∷ length xs ∷ (slots ps ++ (slots xs ++ (0 ∷ 0 ∷ []))))
 
 abbrev pub typ : Kind → List ℕ → Call
-typ k ps = push-type (record { kind = k; parents = ps })
+typ k ps = push-type (type-entry k ps)
 
 abbrev pub func : List ℕ → List ℕ → ℕ → Call
-func ps ds c = push-func (record { parents = ps; domain = ds; codomain = c })
+func ps ds c = push-func (func-entry ps ds c)
 
 abbrev pub pred : List ℕ → List ℕ → Call
-pred ps ds = push-pred (record { parents = ps; arity = ds })
+pred ps ds = push-pred (pred-entry ps ds)
 
 abbrev pub plainEl : Call
 plainEl = push-el false
@@ -213,10 +214,10 @@ downFrom zero call = []
 downFrom (suc n) call = call n ∷ downFrom n call
 
 abbrev pub modelOf : ℕ → ℕ → List ℕ → Call
-modelOf t m fs = push-model (record { typ = t; mor = m; dom = getD fs 0 0; cod = getD fs 1 0; id = getD fs 2 0; comp = getD fs 3 0 })
+modelOf t m fs = push-model (model-entry t m (getD fs 0 0) (getD fs 1 0) (getD fs 2 0) (getD fs 3 0))
 
 abbrev pub morApp : ℕ → ℕ → ℕ → Call
-morApp f mo me = push-mor-app (record { func = f; morphism-type = mo; member-type = me })
+morApp f mo me = push-mor-app (mor-app-entry f mo me)
 
 abbrev pub var : ℕ → ℕ → Call
 var k e = bind-var (variable k e)

@@ -7,7 +7,7 @@ use lib.ListN.{length, take, drop, getD}
 use lib.Dec.{eqb, leb, ltb}
 use Rattle.ids.specs.Answers.{badSheet, badChain, malformed}
 use Rattle.ids.specs.Limits.{maxList}
-use Rattle.signature.specs.Model.{Kind, plain, model, enum, mor}
+use Rattle.signature.specs.Model.{Kind, plain, model, enum, mor, type-entry, pred-entry, func-entry, model-entry, mor-app-entry}
 use Rattle.semantics.specs.Structure.{fact, func-app, pred-app, variable, ambient}
 use Rattle.semantics.specs.Close.{Closed}
 use Rattle.semantics.specs.Conflicts.{Conflict}
@@ -112,7 +112,7 @@ typeForm = record {
   b = λ a b. eqb a 3 || eqb b 0;
   parents = listed;
   args = unused;
-  call = λ r. push-type (record { kind = kindOf (r .a) (r .b); parents = parentsOf r });
+  call = λ r. push-type (type-entry (kindOf (r .a) (r .b)) (parentsOf r));
 }
 
 -- "2 predicate (arguments are its arity)"
@@ -122,7 +122,7 @@ predForm = record {
   b = λ a. zeroOnly;
   parents = listed;
   args = listed;
-  call = λ r. push-pred (record { parents = parentsOf r; arity = argsOf r });
+  call = λ r. push-pred (pred-entry (parentsOf r) (argsOf r));
 }
 
 -- "3 function (B codomain, arguments its domain)"
@@ -132,7 +132,7 @@ funcForm = record {
   b = λ a. any;
   parents = listed;
   args = listed;
-  call = λ r. push-func (record { parents = parentsOf r; domain = argsOf r; codomain = r .b });
+  call = λ r. push-func (func-entry (parentsOf r) (argsOf r) (r .b));
 }
 
 -- "4 model (A type, B mor, four arguments dom, cod, id, comp)"
@@ -142,14 +142,7 @@ modelForm = record {
   b = λ a. any;
   parents = unused;
   args = exactly 4;
-  call = λ r. push-model (record {
-    typ = r .a;
-    mor = r .b;
-    dom = getD (r .args) 0 0;
-    cod = getD (r .args) 1 0;
-    id = getD (r .args) 2 0;
-    comp = getD (r .args) 3 0;
-  });
+  call = λ r. push-model (model-entry (r .a) (r .b) (getD (r .args) 0 0) (getD (r .args) 1 0) (getD (r .args) 2 0) (getD (r .args) 3 0));
 }
 
 -- "5 morphism application function (A function; arguments morphism type, member type)"
@@ -159,7 +152,7 @@ morAppForm = record {
   b = λ a. zeroOnly;
   parents = unused;
   args = exactly 2;
-  call = λ r. push-mor-app (record { func = r .a; morphism-type = getD (r .args) 0 0; member-type = getD (r .args) 1 0 });
+  call = λ r. push-mor-app (mor-app-entry (r .a) (getD (r .args) 0 0) (getD (r .args) 1 0));
 }
 
 -- "6 element (A mark, 0 or 1)"

@@ -12,21 +12,22 @@ use Rattle.ids.proofs.Tests.{chosen, unchosen}
 use Rattle.ids.proofs.Views.{view-next, view-done}
 use Rattle.semantics.specs.Conflicts.{Conflict}
 use Rattle.semantics.specs.Calls as calls
-use Rattle.semantics.specs.Sheet.{maxRecords, recordBytes, words, Record, recordOf, recordAt, forms, formOf, callIn, callOf, carryOut}
+use Rattle.semantics.specs.Sheet.{maxRecords, recordBytes, maxSheet, words, Record, recordOf, recordAt, forms, formOf, callIn, callOf, carryOut}
 use Rattle.semantics.specs.Sheet.{chainBroken, badLength, conflictLine}
 use Rattle.records.specs.View.{recordIn, blank}
 use Rattle.records.proofs.Laws.{record-in}
 use Rattle.conflicts.specs.declared.TypeConflict.{TypeConflict}
 use Rattle.conflicts.specs.View.{conflictOf, conflictsOf}
 use Rattle.lines.specs.View.{conflictsEnd}
-use Rattle.carrying.specs.declared.Answer.{Answer}
+use Rattle.structure.specs.declared.Answer.{Answer}
+use Rattle.structure.specs.View.{machineOf, answerOf}
 use Rattle.carrying.specs.declared.Carried.{Carried}
-use Rattle.carrying.specs.View.{machineOf, answerOf, stepOf}
+use Rattle.carrying.specs.View.{carriedStep}
 use Rattle.sheet.specs.declared.Stage.{Stage}
 use Rattle.sheet.specs.declared.Stage.the-variants as stages
 use Rattle.sheet.specs.declared.Progress.{Progress}
-use Rattle.sheet.specs.Pieces.{ProgressM, PieceM, standing, piece, startOf, refusal, followOf, answerPiece, stepPiece, doneBefore}
-use Rattle.sheet.specs.Pieces.{visitPiece, oneMore, listPiece, pieceAt, nextPiece}
+use Rattle.sheet.specs.Pieces.{ProgressM, PieceM, standing, piece, startOf, refusalPiece, followOf, answerPiece, stepPiece, doneBefore}
+use Rattle.sheet.specs.Pieces.{visitPiece, onePrinted, listPiece, pieceAt, nextPiece}
 use Rattle.sheet.specs.View.{progressOf}
 
 -- a line and a progress
@@ -52,11 +53,11 @@ module _ (n : ℕ) {m : calls.Machine} {q : ProgressM} (fresh : m ≡ calls.star
   unfolding badLength
   starts-uneven h k = starts-bad (rw (ne-eqb n 0 h, ne-eqb _ 0 k))
 
-  pub starts-long : (n ≡ 0 → ⊥) → n % recordBytes ≡ 0 → recordBytes * maxRecords < n → q ≡ standing stages.Refusing m 0 0 0 → q ≡ startOf n
+  pub starts-long : (n ≡ 0 → ⊥) → n % recordBytes ≡ 0 → maxSheet < n → q ≡ standing stages.Refusing m 0 0 0 → q ≡ startOf n
   unfolding badLength
   starts-long h k l = starts-bad (rw (ne-eqb n 0 h, eq-eqb _ 0 k, lt-ltb _ n l))
 
-  pub starts : (n ≡ 0 → ⊥) → n % recordBytes ≡ 0 → n ≤ recordBytes * maxRecords → q ≡ standing stages.Visiting m (n / recordBytes) 0 0 → q ≡ startOf n
+  pub starts : (n ≡ 0 → ⊥) → n % recordBytes ≡ 0 → n ≤ maxSheet → q ≡ standing stages.Visiting m (n / recordBytes) 0 0 → q ≡ startOf n
   unfolding badLength startOf
   starts h k l e =
       let good : badLength n ≡ false = rw (ne-eqb n 0 h, eq-eqb _ 0 k, le-ltb _ n l) in
@@ -75,7 +76,7 @@ module _ (m : calls.Machine) (n next k : ℕ) {q : ProgressM} where
 
 -- by its answer
 pub answered : (s : Carried) (i n next k : ℕ) {a : Answer} {q : PieceM} → s .answer ≡ a
-    → q ≡ answerPiece (answerOf (conflictsOf (s .conflicts)) a) i (machineOf (s .machine)) n next k → q ≡ stepPiece (stepOf s) i n next k
+    → q ≡ answerPiece (answerOf (conflictsOf (s .conflicts)) a) i (machineOf (s .machine)) n next k → q ≡ stepPiece (carriedStep s) i n next k
 answered s i n next k e h =
     h ∙ ap (λ (a : Answer). answerPiece (answerOf (conflictsOf (s .conflicts)) a) i (machineOf (s .machine)) n next k) (sym e)
 
@@ -100,7 +101,7 @@ module _ (r : Record) (p : ProgressM) {k : ℕ} (before : k ≡ doneBefore (p .c
       → chainBroken (p .count) (eqb (p .count - 1 - doneBefore (p .count) (p .done)) 0) (r .next) ≡ b
   broken-before h = ap (λ (d : ℕ). chainBroken (p .count) (eqb (p .count - 1 - d) 0) (r .next)) (sym before) ∙ h
 
-  pub visited-broken : {q : PieceM} → chainBroken (p .count) (eqb (p .count - 1 - k) 0) (r .next) ≡ true → q ≡ refusal badChain (p .index) (p .machine) → q ≡ visitPiece r p
+  pub visited-broken : {q : PieceM} → chainBroken (p .count) (eqb (p .count - 1 - k) 0) (r .next) ≡ true → q ≡ refusalPiece badChain (p .index) (p .machine) → q ≡ visitPiece r p
   unfolding visitPiece
   visited-broken h e = e ∙ chosen _ (broken-before h)
 
@@ -122,7 +123,7 @@ module _ (p : Progress) {n : ℕ} (long : n ≡ length (conflictsOf (p .conflict
       e ∙ both (ap conflictsEnd long) refl ∙ ap (λ (cs : List Conflict). listPiece cs (progressOf p)) (sym none)
 
   -- one more is printed
-  pub listed-one : p .printed < n → (d : TypeConflict) → q ≡ piece (conflictLine (conflictOf (getD (p .conflicts .items) (p .printed) d))) (oneMore (progressOf p))
+  pub listed-one : p .printed < n → (d : TypeConflict) → q ≡ piece (conflictLine (conflictOf (getD (p .conflicts .items) (p .printed) d))) (onePrinted (progressOf p))
       → q ≡ listPiece (drop (p .printed) (conflictsOf (p .conflicts))) (progressOf p)
   unfolding listPiece
   listed-one h d e =
@@ -140,7 +141,7 @@ visit-reads : (r s : Record) (p : ProgressM) → r .next ≡ s .next → callOf 
 unfolding visitPiece
 visit-reads r s p e f i =
     elim (chainBroken (p .count) (eqb (p .count - 1 - doneBefore (p .count) (p .done)) 0) (e i)) [
-      | true ↦ refusal badChain (p .index) (p .machine)
+      | true ↦ refusalPiece badChain (p .index) (p .machine)
       | false ↦ stepPiece (carryOut (f i) (p .machine)) (p .index) (p .count) (e i) (doneBefore (p .count) (p .done) + 1)
     ]
 
@@ -156,7 +157,7 @@ nothing-past : (bytes : List ℕ) (i : ℕ) → length bytes ≤ recordBytes * i
 unfolding recordAt words
 nothing-past bytes i h = ap (λ (l : List ℕ). recordOf (words (take recordBytes l))) (drop-of-length-le bytes {i = recordBytes * i} h)
 
-pub reads : (bytes : List ℕ) (p : ProgressM) {given : Record} {q : PieceM} → length bytes ≡ recordBytes * maxRecords → given ≡ recordIn bytes (p .index)
+pub reads : (bytes : List ℕ) (p : ProgressM) {given : Record} {q : PieceM} → length bytes ≡ maxSheet → given ≡ recordIn bytes (p .index)
     → q ≡ pieceAt (p .stage) given p → q ≡ nextPiece bytes p
 unfolding recordIn recordOf callOf callIn formOf forms
 reads bytes p {given} {q} long e is = is ∙ go (ltb (p .index) maxRecords) refl where

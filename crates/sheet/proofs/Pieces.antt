@@ -10,16 +10,16 @@ use lib.ListN.{length, take, drop}
 use lib.Seq.{take-all, drop-drop}
 use lib.Dec.{eqb, leb, ltb, eqb·suc-zero}
 use borrow.Author.Tests.{eqb-true, eqb-false, leb-false, ltb-false}
-use Rattle.ids.specs.Answers.{Answered, accepted, refused, outcome, decided, badSheet, badChain}
+use Rattle.ids.specs.Answers.{badSheet, badChain}
 use Rattle.ids.proofs.Tests.{chosen}
-use Rattle.unification.specs.Roots.{maxEls}
-use Rattle.semantics.specs.Structure.{Structure}
 use Rattle.semantics.specs.Conflicts.{Conflict, typeConflicts}
 use Rattle.semantics.specs.Calls as calls
-use Rattle.semantics.specs.Calls.{Call, Answer, number, says, done, closed, conflicting, found, typed, els, refuse, Machine, step, answerOf}
-use Rattle.semantics.specs.Sheet.{maxRecords, recordBytes, Record, recordAt, callOf, carryOut, Ran, prints, stops, chainBroken, visit}
+use Rattle.semantics.specs.Calls.{Call, Answer, number, says, done, closed, conflicting, found, typed, els, refuse, Machine, Step}
+use Rattle.semantics.specs.Calls.{rule, acceptance, step}
+use Rattle.semantics.specs.Sheet.{recordBytes, maxSheet, Record, recordAt, callOf, carryOut, Ran, prints, stops, chainBroken, visit}
 use Rattle.semantics.specs.Sheet.{carried, printAnswer, runRecords, badLength, runSheet, conflictLine, conflictLines}
 use Rattle.semantics.specs.Sheet.{refusedLine, endLine}
+use Rattle.semantics.proofs.Judged.{step-by}
 use Rattle.validity.proofs.Calls.{ValidMachine, start-valid, step-valid}
 use Rattle.records.proofs.Laws.{sheet-record}
 use Rattle.conflicts.proofs.Laws.{below-length}
@@ -28,7 +28,7 @@ use Rattle.lines.proofs.Whole.{conflicts-printed}
 use Rattle.sheet.specs.declared.Stage.{Stage}
 use Rattle.sheet.specs.declared.Stage.the-variants as stages
 use Rattle.sheet.specs.Pieces.{isEnded, ProgressM, PieceM, standing, piece, startOf, followOf, answerPiece, doneBefore, visitPiece}
-use Rattle.sheet.specs.Pieces.{oneMore, listPiece, pieceAt, nextPiece, pieces, visiting, following, restAt, restOf, answerPieces}
+use Rattle.sheet.specs.Pieces.{onePrinted, listPiece, pieceAt, nextPiece, pieces, visiting, following, restAt, restOf, answerPieces}
 use Rattle.sheet.specs.Pieces.{visitPieces, recordPieces, piecesVisiting, piecesFollowing, piecesAt, piecesOf, piecesOfOne, maxPieces}
 use Rattle.sheet.specs.Pieces.{Holds}
 
@@ -76,25 +76,25 @@ module _ {R : Type 0} (bytes : List ℕ) (n : ℕ) (ends : ℕ → Machine → R
     (same : (b : Bool) (i : ℕ) (m : Machine) (one two : Machine → R)
     → (chainBroken n b (recordAt bytes i .next) ≡ false → (a : Machine) → one a ≡ two a) → seen b i m one ≡ seen b i m two)
     (final : (i k : ℕ) (m : Machine) → run zero i k m ≡ seen true i m (ends (suc k)))
-    (onward : (left i k : ℕ) (m : Machine) → run (suc left) i k m
-    ≡ seen false i m (λ a. elim (eqb (recordAt bytes i .next) 0) [ true ↦ ends (suc k) a | false ↦ run left (recordAt bytes i .next) (suc k) a ]))
+    (onward : (visits i k : ℕ) (m : Machine) → run (suc visits) i k m
+    ≡ seen false i m (λ a. elim (eqb (recordAt bytes i .next) 0) [ true ↦ ends (suc k) a | false ↦ run visits (recordAt bytes i .next) (suc k) a ]))
   where
     abbrev after : ℕ → ℕ → Machine → R
     after next k m = elim (eqb next 0) [ true ↦ ends k m | false ↦ run (n - 1 - doneBefore n k) next (doneBefore n k) m ]
 
-    run-sees : (left i k : ℕ) (m : Machine) → n - 1 - k ≡ left → run left i k m ≡ seen (eqb left 0) i m (after (recordAt bytes i .next) (suc k))
+    run-sees : (visits i k : ℕ) (m : Machine) → n - 1 - k ≡ visits → run visits i k m ≡ seen (eqb visits 0) i m (after (recordAt bytes i .next) (suc k))
     run-sees zero i k m e =
         final i k m ∙ same true i m (ends (suc k)) (after (recordAt bytes i .next) (suc k)) (λ whole a. chosen _ (last-zero n true _ whole refl))
-    run-sees (suc left) i k m e =
+    run-sees (suc visits) i k m e =
         let on : doneBefore n (suc k) ≡ suc k = omega arith in
-        let fewer : n - 1 - suc k ≡ left = omega arith in
-        let same-run : (a : Machine) → run left (recordAt bytes i .next) (suc k) a
+        let fewer : n - 1 - suc k ≡ visits = omega arith in
+        let same-run : (a : Machine) → run visits (recordAt bytes i .next) (suc k) a
         ≡ run (n - 1 - doneBefore n (suc k)) (recordAt bytes i .next) (doneBefore n (suc k)) a =
         λ a. ap (λ (f : ℕ). run f (recordAt bytes i .next) (suc k) a) (sym fewer) ∙ ap (λ (d : ℕ). run (n - 1 - d) (recordAt bytes i .next) d a) (sym on) in
-        onward left i k m
+        onward visits i k m
         ∙ same false i m _ (after (recordAt bytes i .next) (suc k))
         (λ whole a. ap (λ (r : R). elim (eqb (recordAt bytes i .next) 0) [ true ↦ ends (suc k) a | false ↦ r ]) (same-run a))
-        ∙ ap (λ (b : Bool). seen b i m (after (recordAt bytes i .next) (suc k))) (sym (eqb·suc-zero left))
+        ∙ ap (λ (b : Bool). seen b i m (after (recordAt bytes i .next) (suc k))) (sym (eqb·suc-zero visits))
 
     run-from : (i k : ℕ) (m : Machine) → run (n - 1 - k) i k m ≡ seen (eqb (n - 1 - k) 0) i m (after (recordAt bytes i .next) (k + 1))
     run-from i k m =
@@ -173,11 +173,11 @@ module _ (bytes : List ℕ) where
         record {
           rest =
               run-from bytes n (λ k m. stops (endLine k) m) (λ b i m rest. visit n b (recordAt bytes i) i m rest) (runRecords bytes n)
-              (λ b i m one two. visit-same n b (recordAt bytes i) m i one two) (λ i k m. refl) (λ left i k m. refl) (p .index) (doneBefore n (p .done)) (p .machine)
+              (λ b i m one two. visit-same n b (recordAt bytes i) m i one two) (λ i k m. refl) (λ visits i k m. refl) (p .index) (doneBefore n (p .done)) (p .machine)
               ∙ on .rest;
           one =
-              run-from bytes n (λ k m. 1) (λ b i m rest. visitPieces n b (recordAt bytes i) m rest) (λ left i k m. recordPieces bytes n left i m)
-              (λ b i m one two. count-same n b (recordAt bytes i) m one two) (λ i k m. refl) (λ left i k m. refl) (p .index) (doneBefore n (p .done)) (p .machine)
+              run-from bytes n (λ k m. 1) (λ b i m rest. visitPieces n b (recordAt bytes i) m rest) (λ visits i k m. recordPieces bytes n visits i m)
+              (λ b i m one two. count-same n b (recordAt bytes i) m one two) (λ i k m. refl) (λ visits i k m. refl) (p .index) (doneBefore n (p .done)) (p .machine)
               ∙ on .one;
         }
 
@@ -196,10 +196,10 @@ module _ (bytes : List ℕ) where
     listing-on at (c ∷ cs) e =
         let after = following bytes (p .count) (p .index) (p .done) (p .machine) in
         let rest-of = conflictLines cs ++ conflictsEnd (length (p .conflicts)) in
-        let left : drop (p .printed + 1) (p .conflicts) ≡ cs = sym (drop-drop 1 (p .printed) (p .conflicts)) ∙ ap (drop {A = Conflict} 1) e in
-        let here : (x : Stage) → x ≡ stages.Listing → restAt x bytes (oneMore p) ≡ prints rest-of after =
-        λ x h. ap (λ (s : Stage). restAt s bytes (oneMore p)) h
-        ∙ ap (λ (ds : List Conflict). prints (conflictLines ds ++ conflictsEnd (length (p .conflicts))) after) left in
+        let after-one : drop (p .printed + 1) (p .conflicts) ≡ cs = sym (drop-drop 1 (p .printed) (p .conflicts)) ∙ ap (drop {A = Conflict} 1) e in
+        let here : (x : Stage) → x ≡ stages.Listing → restAt x bytes (onePrinted p) ≡ prints rest-of after =
+        λ x h. ap (λ (s : Stage). restAt s bytes (onePrinted p)) h
+        ∙ ap (λ (ds : List Conflict). prints (conflictLines ds ++ conflictsEnd (length (p .conflicts))) after) after-one in
         record {
           rest =
               ap (λ (ds : List Conflict). prints (conflictLines ds ++ conflictsEnd (length (p .conflicts))) after) e
@@ -209,12 +209,12 @@ module _ (bytes : List ℕ) where
               ∙ ap (prints (conflictLine c)) (sym (here (p .stage) at));
           one =
               let now : length (drop (p .printed) (p .conflicts)) ≡ suc (length cs) = ap (length {A = Conflict}) e in
-              let then : length (drop (p .printed + 1) (p .conflicts)) ≡ length cs = ap (length {A = Conflict}) left in
-              let same : piecesOf bytes (oneMore p) ≡ piecesAt stages.Listing bytes (oneMore p) = ap (λ (s : Stage). piecesAt s bytes (oneMore p)) at in
+              let then : length (drop (p .printed + 1) (p .conflicts)) ≡ length cs = ap (length {A = Conflict}) after-one in
+              let same : piecesOf bytes (onePrinted p) ≡ piecesAt stages.Listing bytes (onePrinted p) = ap (λ (s : Stage). piecesAt s bytes (onePrinted p)) at in
               omega (arith, now, then, same);
         }
 
-    -- by the stage: what was left is the next piece and what is left after it, in one piece less; none are left only at the end
+    -- by the stage: what was to come is the next piece and what comes after it, in one piece less; none are to come only at the end
     record Next (s : Stage) : Type 0 where
       pub rest : restAt s bytes p ≡ prints (pieceAt s (recordAt bytes (p .index)) p .line) (restOf bytes (pieceAt s (recordAt bytes (p .index)) p .progress))
       pub less : piecesOf bytes (pieceAt s (recordAt bytes (p .index)) p .progress) ≡ piecesAt s bytes p - 1
@@ -242,14 +242,14 @@ module _ (bytes : List ℕ) where
     pub pieces-next : piecesOf bytes (nextPiece bytes p .progress) ≡ piecesOf bytes p - 1
     pieces-next = next (p .stage) refl .less
 
-    none-left : piecesOf bytes p ≡ 0 → p .stage ≡ stages.Ended
-    none-left = next (p .stage) refl .none
+    none-to-come : piecesOf bytes p ≡ 0 → p .stage ≡ stages.Ended
+    none-to-come = next (p .stage) refl .none
 
-    -- pieces are left exactly before the end
-    pub some-left : isEnded (p .stage) ≡ false → 0 < piecesOf bytes p
+    -- pieces are to come exactly before the end
+    pub some-to-come : isEnded (p .stage) ≡ false → 0 < piecesOf bytes p
     unfolding isEnded
-    some-left h =
-        let some : piecesOf bytes p ≡ 0 → ⊥ = λ none. true≢false (sym (ap isEnded (none-left none)) ∙ h) in
+    some-to-come h =
+        let some : piecesOf bytes p ≡ 0 → ⊥ = λ none. true≢false (sym (ap isEnded (none-to-come none)) ∙ h) in
         omega (arith, some)
 
     pub ended-none : isEnded (p .stage) ≡ true → piecesOf bytes p ≡ 0
@@ -282,35 +282,35 @@ module _ (bytes : List ℕ) where
 -- The start.
 
 -- a length that is not refused
-good-length : (l : ℕ) → badLength l ≡ false → (0 < l / recordBytes) × (l ≤ recordBytes * maxRecords)
+good-length : (l : ℕ) → badLength l ≡ false → (0 < l / recordBytes) × (l ≤ maxSheet)
 unfolding badLength
-good-length l h = go (eqb l 0) (eqb (l % recordBytes) 0) (ltb (recordBytes * maxRecords) l) refl refl refl where
-  go : (a b c : Bool) → eqb l 0 ≡ a → eqb (l % recordBytes) 0 ≡ b → ltb (recordBytes * maxRecords) l ≡ c → (0 < l / recordBytes) × (l ≤ recordBytes * maxRecords)
-  go true b c e f k = absurd (true≢false (sym (ap (λ (t : Bool). t || (not (eqb (l % recordBytes) 0) || ltb (recordBytes * maxRecords) l)) e) ∙ h))
+good-length l h = go (eqb l 0) (eqb (l % recordBytes) 0) (ltb (maxSheet) l) refl refl refl where
+  go : (a b c : Bool) → eqb l 0 ≡ a → eqb (l % recordBytes) 0 ≡ b → ltb (maxSheet) l ≡ c → (0 < l / recordBytes) × (l ≤ maxSheet)
+  go true b c e f k = absurd (true≢false (sym (ap (λ (t : Bool). t || (not (eqb (l % recordBytes) 0) || ltb (maxSheet) l)) e) ∙ h))
   go false false c e f k =
-      absurd (true≢false (sym (ap (λ (t : Bool). t || (not (eqb (l % recordBytes) 0) || ltb (recordBytes * maxRecords) l)) e ∙ ap (λ (t : Bool). not t || ltb (recordBytes * maxRecords) l) f) ∙ h))
+      absurd (true≢false (sym (ap (λ (t : Bool). t || (not (eqb (l % recordBytes) 0) || ltb (maxSheet) l)) e ∙ ap (λ (t : Bool). not t || ltb (maxSheet) l) f) ∙ h))
   go false true true e f k =
-      absurd (true≢false (sym (ap (λ (t : Bool). t || (not (eqb (l % recordBytes) 0) || ltb (recordBytes * maxRecords) l)) e
-      ∙ ap (λ (t : Bool). not t || ltb (recordBytes * maxRecords) l) f ∙ k) ∙ h))
+      absurd (true≢false (sym (ap (λ (t : Bool). t || (not (eqb (l % recordBytes) 0) || ltb (maxSheet) l)) e
+      ∙ ap (λ (t : Bool). not t || ltb (maxSheet) l) f ∙ k) ∙ h))
   go false true false e f k =
       let some : l ≡ 0 → ⊥ = eqb-false l 0 e in
       let even : l % recordBytes ≡ 0 = eqb-true (l % recordBytes) 0 f in
-      (omega (arith, some, even), ltb-false (recordBytes * maxRecords) l k)
+      (omega (arith, some, even), ltb-false (maxSheet) l k)
 
 -- a sheet's records are those of the array that it is the first part of
 module _ (bytes : List ℕ) (n : ℕ) where
-  records-same : (left i k : ℕ) (m : Machine) → i < n / recordBytes
-      → runRecords bytes (n / recordBytes) left i k m ≡ runRecords (take n bytes) (n / recordBytes) left i k m
+  records-same : (visits i k : ℕ) (m : Machine) → i < n / recordBytes
+      → runRecords bytes (n / recordBytes) visits i k m ≡ runRecords (take n bytes) (n / recordBytes) visits i k m
   unfolding runRecords
   records-same zero i k m h =
       ap (λ (r : Record). visit (n / recordBytes) true r i m (λ (after : Machine). stops (endLine (suc k)) after)) (sym (sheet-record bytes n i h))
-  records-same (suc left) i k m h =
+  records-same (suc visits) i k m h =
       visit-same (n / recordBytes) false (recordAt bytes i) m i _ _
       (λ whole a. ap (λ (r : Ran). elim (eqb (recordAt bytes i .next) 0) [ true ↦ stops (endLine (suc k)) a | false ↦ r ])
-      (records-same left (recordAt bytes i .next) (suc k) a (next-in (n / recordBytes) false (recordAt bytes i .next) whole)))
+      (records-same visits (recordAt bytes i .next) (suc k) a (next-in (n / recordBytes) false (recordAt bytes i .next) whole)))
       ∙ ap
       (λ (r : Record). visit (n / recordBytes) false r i m (λ (after : Machine).
-      elim (eqb (r .next) 0) [ true ↦ stops (endLine (suc k)) after | false ↦ runRecords (take n bytes) (n / recordBytes) left (r .next) (suc k) after ]))
+      elim (eqb (r .next) 0) [ true ↦ stops (endLine (suc k)) after | false ↦ runRecords (take n bytes) (n / recordBytes) visits (r .next) (suc k) after ]))
       (sym (sheet-record bytes n i h))
 
 -- what is to be printed at the start is what the sheet prints
@@ -328,7 +328,7 @@ start-rest sheet bytes holds = go (badLength (length sheet)) refl where
       let good = good-length (length sheet) h in
       let zeroth : doneBefore n 0 ≡ 0 = omega arith in
       let all : n - 1 - 0 ≡ n - 1 = omega arith in
-      let whole : take (length sheet) bytes ≡ sheet = sym holds ∙ take-all (recordBytes * maxRecords) sheet (good .1) in
+      let whole : take (length sheet) bytes ≡ sheet = sym holds ∙ take-all (maxSheet) sheet (good .1) in
       ap (λ (d : ℕ). runRecords bytes n (n - 1 - d) 0 d calls.start) zeroth
       ∙ ap (λ (f : ℕ). runRecords bytes n f 0 0 calls.start) all
       ∙ records-same bytes (length sheet) (n - 1) 0 0 calls.start (good .0)
@@ -337,39 +337,37 @@ start-rest sheet bytes holds = go (badLength (length sheet)) refl where
 -- At most so many pieces: a valid machine has at most as many conflicts as elements.
 
 module _ (k : ℕ) where
-  -- an answer of a call that lists no conflicts
-  plain : {A : Type 0} (f : A → Answer) → ((a : A) → answerPieces (f a) k ≡ suc k) → (x : Answered A) → answerPieces (answerOf f x) k ≤ piecesOfOne + k
-  unfolding answerOf answerPieces
-  plain f one (accepted a) = omega (arith, one a)
-  plain f one (refused n) = omega arith
+  -- an answer that lists no conflicts
+  one : suc k ≤ piecesOfOne + k
+  one = omega arith
 
-  listing : (s : Structure) → length (s .links) ≤ maxEls → answerPieces (answerOf conflicting (calls.conflicts s .answer)) k ≤ piecesOfOne + k
-  unfolding answerOf answerPieces calls.conflicts outcome decided typeConflicts
-  listing s h =
-      let is : answerPieces (answerOf conflicting (calls.conflicts s .answer)) k ≡ suc (suc (length (typeConflicts s) + k)) = refl in
-      let most : length (typeConflicts s) ≤ length (s .links) = below-length s (length (s .links)) in
-      omega (arith, is, most, h)
+  effect-pieces : (c : Call) (m : Machine) → ValidMachine m → answerPieces (rule c m .answer) k ≤ piecesOfOne + k
+  unfolding rule calls.equalityRule calls.impositionRule calls.applicationRule calls.closeRule answerPieces
+  effect-pieces (calls.push-type t) m v = one
+  effect-pieces (calls.push-pred p) m v = one
+  effect-pieces (calls.push-func f) m v = one
+  effect-pieces (calls.push-model x) m v = one
+  effect-pieces (calls.push-mor-app x) m v = one
+  effect-pieces (calls.push-el mark) m v = one
+  effect-pieces (calls.equate-els a b) m v = one
+  effect-pieces (calls.impose-type f) m v = one
+  effect-pieces (calls.apply-func x) m v = one
+  effect-pieces (calls.apply-pred x) m v = one
+  effect-pieces (calls.bind-var x) m v = one
+  effect-pieces (calls.bind-ambient a) m v = one
+  effect-pieces calls.close m v = one
+  effect-pieces calls.type-conflicts m v =
+      let most : length (typeConflicts (m .structure)) ≤ length (m .structure .links) = unfold typeConflicts in below-length (m .structure) (length (m .structure .links)) in
+      omega (arith, most, v .structure .els-most)
+  effect-pieces (calls.root e) m v = one
+  effect-pieces (calls.root-const e) m v = one
+  effect-pieces (calls.lookup-type t ps) m v = one
+  effect-pieces (calls.ambient-parents ts) m v = one
 
   step-pieces : (c : Call) (m : Machine) → ValidMachine m → answerPieces (step c m .answer) k ≤ piecesOfOne + k
-  unfolding step answerPieces
-  step-pieces (calls.push-type t) m v = plain number (λ a. refl) _
-  step-pieces (calls.push-pred p) m v = plain number (λ a. refl) _
-  step-pieces (calls.push-func f) m v = plain number (λ a. refl) _
-  step-pieces (calls.push-model x) m v = plain number (λ a. refl) _
-  step-pieces (calls.push-mor-app x) m v = plain number (λ a. refl) _
-  step-pieces (calls.push-el mark) m v = plain number (λ a. refl) _
-  step-pieces (calls.equate-els a b) m v = plain says (λ a. refl) _
-  step-pieces (calls.impose-type f) m v = plain says (λ a. refl) _
-  step-pieces (calls.apply-func x) m v = plain says (λ a. refl) _
-  step-pieces (calls.apply-pred x) m v = plain says (λ a. refl) _
-  step-pieces (calls.bind-var x) m v = plain (λ u. done) (λ a. refl) _
-  step-pieces (calls.bind-ambient a) m v = plain (λ u. done) (λ a. refl) _
-  step-pieces calls.close m v = plain closed (λ a. refl) _
-  step-pieces calls.type-conflicts m v = listing (m .structure) (v .structure .els-most)
-  step-pieces (calls.root e) m v = plain found (λ a. refl) _
-  step-pieces (calls.root-const e) m v = plain found (λ a. refl) _
-  step-pieces (calls.lookup-type t ps) m v = plain (λ r. typed (calls.leading ps r)) (λ a. refl) _
-  step-pieces (calls.ambient-parents ts) m v = plain els (λ a. refl) _
+  unfolding answerPieces acceptance
+  step-pieces c m v =
+      step-by c m (λ (s : Step). answerPieces (s .answer) k ≤ piecesOfOne + k) (λ n q. omega arith) (λ clear. effect-pieces c m v)
 
   carry-pieces : (c : Option Call) (m : Machine) → ValidMachine m → answerPieces (carryOut c m .answer) k ≤ piecesOfOne + k
   unfolding carryOut answerPieces
@@ -393,16 +391,16 @@ visit-most n last r m after most v h =
     choice-most true x e = omega arith
     choice-most false x e = e
 
-records-most : (bytes : List ℕ) (n left i : ℕ) (m : Machine) → ValidMachine m → recordPieces bytes n left i m ≤ piecesOfOne * suc left + 1
+records-most : (bytes : List ℕ) (n visits i : ℕ) (m : Machine) → ValidMachine m → recordPieces bytes n visits i m ≤ piecesOfOne * suc visits + 1
 unfolding recordPieces
 records-most bytes n zero i m v = omega (arith, visit-most n true (recordAt bytes i) m (λ a. 1) 1 v (λ a w. omega arith))
-records-most bytes n (suc left) i m v =
+records-most bytes n (suc visits) i m v =
     omega (
       arith,
-      visit-most n false (recordAt bytes i) m _ (piecesOfOne * suc left + 1) v (λ a w. choice-most (eqb (recordAt bytes i .next) 0) _ (records-most bytes n left (recordAt bytes i .next) a w)),
+      visit-most n false (recordAt bytes i) m _ (piecesOfOne * suc visits + 1) v (λ a w. choice-most (eqb (recordAt bytes i .next) 0) _ (records-most bytes n visits (recordAt bytes i .next) a w)),
     )
   where
-    choice-most : (t : Bool) (x : ℕ) → x ≤ piecesOfOne * suc left + 1 → elim t [ true ↦ 1 | false ↦ x ] ≤ piecesOfOne * suc left + 1
+    choice-most : (t : Bool) (x : ℕ) → x ≤ piecesOfOne * suc visits + 1 → elim t [ true ↦ 1 | false ↦ x ] ≤ piecesOfOne * suc visits + 1
     choice-most true x e = omega arith
     choice-most false x e = e
 
@@ -433,4 +431,4 @@ module _ (sheet bytes : List ℕ) (holds : Holds bytes sheet) (k : ℕ) where
   -- and after as many as the limit it has ended
   pub pieces-end : maxPieces ≤ k → last .progress .stage ≡ stages.Ended
   pieces-end h =
-      none-left bytes (last .progress) (omega (arith, h, pieces-fewer bytes k (startOf (length sheet)), pieces-most bytes (length sheet)))
+      none-to-come bytes (last .progress) (omega (arith, h, pieces-fewer bytes k (startOf (length sheet)), pieces-most bytes (length sheet)))

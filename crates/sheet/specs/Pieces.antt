@@ -10,7 +10,7 @@ use Rattle.ids.specs.Answers.{badSheet, badChain}
 use Rattle.unification.specs.Roots.{maxEls}
 use Rattle.semantics.specs.Conflicts.{Conflict}
 use Rattle.semantics.specs.Calls.{Answer, number, says, done, closed, conflicting, found, typed, els, refuse, Machine, Step, start}
-use Rattle.semantics.specs.Sheet.{maxRecords, recordBytes, Record, recordAt, callOf, carryOut, chainBroken, Ran, prints, stops, runRecords}
+use Rattle.semantics.specs.Sheet.{maxRecords, recordBytes, maxSheet, Record, recordAt, callOf, carryOut, chainBroken, Ran, prints, stops, runRecords}
 use Rattle.semantics.specs.Sheet.{badLength, closeLine, conflictLine, conflictLines, refusedLine, endLine}
 use Rattle.lines.specs.View.{conflictsEnd}
 use Rattle.sheet.specs.declared.Stage.{Stage}
@@ -53,25 +53,25 @@ startOf l = elim (badLength l) [ true ↦ standing stages.Refusing start 0 0 0 |
 -- The next piece.
 
 -- "A refusal prints `refused N at I` .. and stops"
-abbrev pub refusal : ℕ → ℕ → Machine → PieceM
-refusal k i m = piece (refusedLine k i) (standing stages.Ended m 0 0 0)
+abbrev pub refusalPiece : ℕ → ℕ → Machine → PieceM
+refusalPiece k i m = piece (refusedLine k i) (standing stages.Ended m 0 0 0)
 
 -- "next index 0 ends the chain"
 unfoldable pub followOf : Machine → ℕ → ℕ → ℕ → ProgressM
 followOf m n next k = elim (eqb next 0) [ true ↦ standing stages.Ending m n next k | false ↦ standing stages.Visiting m n next k ]
 
 -- the conflicts of record 14 are listed, one in a piece
-abbrev pub listed : List Conflict → Machine → ℕ → ℕ → ℕ → ProgressM
-listed cs m n next k = record { stage = stages.Listing; machine = m; count = n; index = next; done = k; conflicts = cs; printed = 0 }
+abbrev pub listingAll : List Conflict → Machine → ℕ → ℕ → ℕ → ProgressM
+listingAll cs m n next k = record { stage = stages.Listing; machine = m; count = n; index = next; done = k; conflicts = cs; printed = 0 }
 
 -- what the answer to a record prints
 unfoldable pub answerPiece : Answer → ℕ → Machine → ℕ → ℕ → ℕ → PieceM
-answerPiece (refuse x) i m n next k = refusal x i m
+answerPiece (refuse x) i m n next k = refusalPiece x i m
 answerPiece (number x) i m n next k = piece [] (followOf m n next k)
 answerPiece (says b) i m n next k = piece [] (followOf m n next k)
 answerPiece done i m n next k = piece [] (followOf m n next k)
 answerPiece (closed c) i m n next k = piece (closeLine c) (followOf m n next k)
-answerPiece (conflicting cs) i m n next k = piece [] (listed cs m n next k)
+answerPiece (conflicting cs) i m n next k = piece [] (listingAll cs m n next k)
 answerPiece (found f) i m n next k = piece [] (followOf m n next k)
 answerPiece (typed t) i m n next k = piece [] (followOf m n next k)
 answerPiece (els es) i m n next k = piece [] (followOf m n next k)
@@ -87,13 +87,13 @@ doneBefore n k = min k (n - 1)
 unfoldable pub visitPiece : Record → ProgressM → PieceM
 visitPiece r p =
     elim (chainBroken (p .count) (eqb (p .count - 1 - doneBefore (p .count) (p .done)) 0) (r .next)) [
-      | true ↦ refusal badChain (p .index) (p .machine)
+      | true ↦ refusalPiece badChain (p .index) (p .machine)
       | false ↦ stepPiece (carryOut (callOf r) (p .machine)) (p .index) (p .count) (r .next) (doneBefore (p .count) (p .done) + 1)
     ]
 
 -- one more conflict is printed
-abbrev pub oneMore : ProgressM → ProgressM
-oneMore p = record {
+abbrev pub onePrinted : ProgressM → ProgressM
+onePrinted p = record {
   stage = p .stage;
   machine = p .machine;
   count = p .count;
@@ -106,11 +106,11 @@ oneMore p = record {
 -- "`conflict E T p.. / U q..` per conflict .., then `conflicts N`", where some are still to be printed
 unfoldable pub listPiece : List Conflict → ProgressM → PieceM
 listPiece [] p = piece (conflictsEnd (length (p .conflicts))) (followOf (p .machine) (p .count) (p .index) (p .done))
-listPiece (c ∷ cs) p = piece (conflictLine c) (oneMore p)
+listPiece (c ∷ cs) p = piece (conflictLine c) (onePrinted p)
 
 -- by the stage, where the record that comes next is given
 unfoldable pub pieceAt : Stage → Record → ProgressM → PieceM
-pieceAt stages.Refusing r p = refusal badSheet 0 (p .machine)
+pieceAt stages.Refusing r p = refusalPiece badSheet 0 (p .machine)
 pieceAt stages.Visiting r p = visitPiece r p
 pieceAt stages.Listing r p = listPiece (drop (p .printed) (p .conflicts)) p
 pieceAt stages.Ending r p = piece (endLine (p .done)) (standing stages.Ended (p .machine) 0 0 0)
@@ -171,11 +171,11 @@ visitPieces n last r m after =
 -- as `runRecords` goes
 unfoldable pub recordPieces : List ℕ → ℕ → ℕ → ℕ → Machine → ℕ
 recordPieces bytes n zero i m = visitPieces n true (recordAt bytes i) m (λ after. 1)
-recordPieces bytes n (suc left) i m =
+recordPieces bytes n (suc visits) i m =
     visitPieces n false (recordAt bytes i) m (λ after.
     elim (eqb (recordAt bytes i .next) 0) [
       | true ↦ 1
-      | false ↦ recordPieces bytes n left (recordAt bytes i .next) after
+      | false ↦ recordPieces bytes n visits (recordAt bytes i .next) after
     ])
 
 unfoldable pub piecesVisiting : List ℕ → ℕ → ℕ → ℕ → Machine → ℕ
@@ -205,4 +205,4 @@ maxPieces = piecesOfOne * maxRecords + 1
 
 -- an array holds a sheet's bytes as far as there is room for them
 abbrev pub Holds : List ℕ → List ℕ → Type 0
-Holds bytes sheet = take (recordBytes * maxRecords) sheet ≡ take (length sheet) bytes
+Holds bytes sheet = take maxSheet sheet ≡ take (length sheet) bytes

@@ -1,7 +1,7 @@
 -- A sheet under way and a piece of it, as the definitions speak of them.
 use Rattle.conflicts.specs.View.{conflictsOf}
 use Rattle.lines.specs.View.{lineOf}
-use Rattle.carrying.specs.View.{machineOf}
+use Rattle.structure.specs.View.{machineOf}
 use Rattle.sheet.specs.Pieces.{ProgressM, PieceM}
 use Rattle.sheet.specs.declared.Progress.{Progress}
 use Rattle.sheet.specs.declared.Piece.{Piece}

@@ -1,11 +1,11 @@
 // A sheet's records along their chain, and what they print, piece by piece.
-use carrying::Answer;
 use carrying::Carried;
-use carrying::Machine;
 use conflicts::TypeConflicts;
 use ids::Refusal;
 use lines::Line;
 use records::Record;
+use structure::Answer;
+use structure::Machine;
 use structure::Structure;
 ghost use mathlib.Core.Path.{_≡_};
 ghost use mathlib.Core.List.{[]};
@@ -15,8 +15,9 @@ ghost use lib.Dec.{eqb};
 ghost use Rattle.semantics.specs.Sheet.{endLine, chainBroken};
 ghost use Rattle.records.specs.View.{recordView};
 ghost use Rattle.conflicts.specs.View.{conflictsOf};
-ghost use Rattle.carrying.specs.View.{machineOf, stepOf};
-ghost use Rattle.sheet.specs.Pieces.{isEnded, maxPieces, doneBefore, standing, piece as pieceM, startOf, refusal, followOf, stepPiece};
+ghost use Rattle.structure.specs.View.{machineOf};
+ghost use Rattle.carrying.specs.View.{carriedStep};
+ghost use Rattle.sheet.specs.Pieces.{isEnded, maxPieces, doneBefore, standing, piece as pieceM, startOf, refusalPiece, followOf, stepPiece};
 ghost use Rattle.sheet.specs.Pieces.{visitPiece, listPiece, pieceAt, nextPiece};
 ghost use Rattle.sheet.specs.View.{progressOf, pieceOf};
 ghost use Rattle.sheet.specs.declared.Stage.the-variants as stages;
@@ -112,7 +113,7 @@ pub fn start(length: usize) -> Progress
 
 // `refused N at I`, and nothing any more.
 fn refuse(machine: Machine, number: u16, index: u16) -> Piece
-    ensures { λ r. ⌜ pieceOf r ≡ refusal number index (machineOf machine) ⌝ }
+    ensures { λ r. ⌜ pieceOf r ≡ refusalPiece number index (machineOf machine) ⌝ }
 {
     let line = lines::refused_line(number, index);
     let progress = at_stage(Stage::Ended, machine, 0, 0, 0);
@@ -164,7 +165,7 @@ fn is_broken(count: u16, done: u16, next: u16) -> bool
 
 // What a record that was carried out prints.
 fn after_record(carried: Carried, count: u16, index: u16, next: u16, done: u16) -> Piece
-    ensures { λ r. ⌜ pieceOf r ≡ stepPiece (stepOf carried) index count next done ⌝ }
+    ensures { λ r. ⌜ pieceOf r ≡ stepPiece (carriedStep carried) index count next done ⌝ }
 {
     let machine = carried.machine;
     let conflicts = carried.conflicts;

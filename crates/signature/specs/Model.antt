@@ -1,11 +1,8 @@
 -- The signature (01, "Types from the signature") as the definitions speak of it, and the view of the code's tables.
-use Prim.Native.Nat.{ℕ, _≤_}
-use mathlib.Core.Path.{_≡_}
-use mathlib.Core.List.{List, [], _∷_, map}
-use lib.ListN.{take, length, getD}
+use Prim.Native.Nat.{ℕ}
+use mathlib.Core.List.{List, [], map}
+use lib.ListN.{take, getD}
 use Rattle.ids.specs.Ids.{typesOf, givenTypes}
-use Rattle.ids.specs.declared.TypeId.{TypeId}
-use Rattle.ids.specs.declared.TypeIds.{TypeIds}
 use Rattle.signature.specs.declared.TypeKind.{TypeKind}
 use Rattle.signature.specs.declared.TypeKind.the-variants.{Plain, Model, Enum, Mor}
 use Rattle.signature.specs.declared.Type as code-type
@@ -52,16 +49,25 @@ pub record TypeM : Type 0 where
   pub kind : Kind
   pub parents : List ℕ
 
+abbrev pub type-entry : Kind → List ℕ → TypeM
+type-entry k ps = record { kind = k; parents = ps }
+
 -- "Predicates (32) have parents and arity."
 pub record PredM : Type 0 where
   pub parents : List ℕ
   pub arity : List ℕ
+
+abbrev pub pred-entry : List ℕ → List ℕ → PredM
+pred-entry ps arity = record { parents = ps; arity = arity }
 
 -- "Functions (64) have parents, domain and codomain."
 pub record FuncM : Type 0 where
   pub parents : List ℕ
   pub domain : List ℕ
   pub codomain : ℕ
+
+abbrev pub func-entry : List ℕ → List ℕ → ℕ → FuncM
+func-entry ps domain codomain = record { parents = ps; domain = domain; codomain = codomain }
 
 -- "Models (8) name type, mor, dom, cod, id, comp."
 pub record ModelM : Type 0 where
@@ -72,11 +78,17 @@ pub record ModelM : Type 0 where
   pub id : ℕ
   pub comp : ℕ
 
+abbrev pub model-entry : ℕ → ℕ → ℕ → ℕ → ℕ → ℕ → ModelM
+model-entry t m d c i p = record { typ = t; mor = m; dom = d; cod = c; id = i; comp = p }
+
 -- "morphism application functions have a morphism and a member type"
 pub record MorAppM : Type 0 where
   pub func : ℕ
   pub morphism-type : ℕ
   pub member-type : ℕ
+
+abbrev pub mor-app-entry : ℕ → ℕ → ℕ → MorAppM
+mor-app-entry f morphism member = record { func = f; morphism-type = morphism; member-type = member }
 
 pub record Sig : Type 0 where
   pub types : List TypeM
@@ -106,13 +118,13 @@ with-mor-apps g ms = record { types = g .types; preds = g .preds; funcs = g .fun
 
 -- what stands for a type, a predicate or a function that is not declared
 abbrev pub noType : TypeM
-noType = record { kind = plain; parents = [] }
+noType = type-entry plain []
 
 abbrev pub noPred : PredM
-noPred = record { parents = []; arity = [] }
+noPred = pred-entry [] []
 
 abbrev pub noFunc : FuncM
-noFunc = record { parents = []; domain = []; codomain = 0 }
+noFunc = func-entry [] [] 0
 
 abbrev pub typeAt : Sig → ℕ → TypeM
 typeAt g t = getD (g .types) t noType
@@ -132,30 +144,19 @@ kindOf Enum = enum
 kindOf (Mor t) = mor (t .0)
 
 abbrev pub typeOf : code-type.Type → TypeM
-typeOf t = record { kind = kindOf (t .kind); parents = typesOf (t .parents) }
+typeOf t = type-entry (kindOf (t .kind)) (typesOf (t .parents))
 
 abbrev pub predOf : Pred → PredM
-predOf p = record { parents = typesOf (p .parents); arity = typesOf (p .arity) }
+predOf p = pred-entry (typesOf (p .parents)) (typesOf (p .arity))
 
 abbrev pub funcOf : Func → FuncM
-funcOf f = record { parents = typesOf (f .parents); domain = typesOf (f .domain); codomain = f .codomain .0 }
+funcOf f = func-entry (typesOf (f .parents)) (typesOf (f .domain)) (f .codomain .0)
 
 abbrev pub modelOf : ModelIds → ModelM
-modelOf m = record {
-  typ = m .«type_» .0;
-  mor = m .mor .0;
-  dom = m .dom .0;
-  cod = m .cod .0;
-  id = m .id .0;
-  comp = m .comp .0;
-}
+modelOf m = model-entry (m .«type_» .0) (m .mor .0) (m .dom .0) (m .cod .0) (m .id .0) (m .comp .0)
 
 abbrev pub morAppOf : MorAppFunc → MorAppM
-morAppOf m = record {
-  func = m .func .0;
-  morphism-type = m .types .«morphism_type» .0;
-  member-type = m .types .«member_type» .0;
-}
+morAppOf m = mor-app-entry (m .func .0) (m .types .«morphism_type» .0) (m .types .«member_type» .0)
 
 abbrev pub viewTypes : Types → List TypeM
 viewTypes t = map typeOf (take (t .len) (t .items))
@@ -184,10 +185,10 @@ sigOf s = record {
 -- A type, a predicate and a function as they are given to a call: a list of over four entries is seen as such.
 
 abbrev pub givenType : code-type.Type → TypeM
-givenType t = record { kind = kindOf (t .kind); parents = givenTypes (t .parents) }
+givenType t = type-entry (kindOf (t .kind)) (givenTypes (t .parents))
 
 abbrev pub givenPred : Pred → PredM
-givenPred p = record { parents = givenTypes (p .parents); arity = givenTypes (p .arity) }
+givenPred p = pred-entry (givenTypes (p .parents)) (givenTypes (p .arity))
 
 abbrev pub givenFunc : Func → FuncM
-givenFunc f = record { parents = givenTypes (f .parents); domain = givenTypes (f .domain); codomain = f .codomain .0 }
+givenFunc f = func-entry (givenTypes (f .parents)) (givenTypes (f .domain)) (f .codomain .0)

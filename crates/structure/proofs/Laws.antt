@@ -29,7 +29,7 @@ use Rattle.semantics.specs.Structure as model
 use Rattle.semantics.specs.Structure.{Ambient, maxPairs, with-links, with-marks, with-pairs}
 use Rattle.semantics.specs.Calls as calls
 use Rattle.semantics.specs.Calls.{Answer, Step, Equated, equate, ambientOf, haveAmbients, ambientEls, answers, machine, leaves, settledBy}
-use Rattle.semantics.specs.Calls.{says, withEquality, rule, acceptance, refusal, stepBy, step}
+use Rattle.semantics.specs.Calls.{Call, Rule, asks, says, withEquality, rule, acceptance, refusal, stepBy, step}
 use Rattle.bindings.specs.View.{boundOf, ambientElOf}
 use Rattle.equalities.specs.declared.Equated as equalities
 use Rattle.equalities.specs.View.{pairsOf, equateIn, equatedOf}
@@ -56,24 +56,21 @@ finding f e = go f ∙ ap findingOf e
     go (findings.Found f) = refl
     go (findings.Refused n) = refl
 
-module _ (g : Sig) (s : model.Structure) (e : ℕ) where
-  pub root-steps : let o = roots.root (s .links) e in answers (findingOf (o .answer)) (machine g (with-links (o .after) s)) ≡ step (calls.root e) (machine g s)
-  unfolding step stepBy rule acceptance leaves settledBy roots.root outcome findingOf decided
-  root-steps = go (firstOf (findCauses (s .links) e))
-    where
-      go : (o : Option ℕ) → let r = decided o (refusing (s .links)) (accepting (findOf (s .links) e) (shortOf (s .links) e)) in
-          answers (findingOf (r .answer)) (machine g (with-links (r .after) s)) ≡ decided o (refusal (machine g s)) (acceptance (rule (calls.root e) (machine g s)))
-      go none = refl
-      go (some n) = refl
+-- a find of e is a step, which leaves the links ls
+pub find-steps : (g : Sig) (s : model.Structure) (e : ℕ) (k : Call) (ls : List ℕ) → let m = machine g s in
+    rule k m ≡ asks (findCauses (s .links) e) (calls.found (findOf (s .links) e)) (with-links ls s) m
+    → let o = outcome (findCauses (s .links) e) (s .links) (findOf (s .links) e) ls in
+    answers (findingOf (o .answer)) (machine g (with-links (o .after) s)) ≡ step k m
+unfolding step stepBy acceptance leaves settledBy outcome findingOf decided
+find-steps g s e k ls is = go (firstOf (findCauses (s .links) e)) ∙ sym (ap (λ (r : Rule). stepBy r (machine g s)) is)
+  where
+    does : Rule
+    does = asks (findCauses (s .links) e) (calls.found (findOf (s .links) e)) (with-links ls s) (machine g s)
 
-  pub root-const-steps : answers (findingOf (roots.rootConst (s .links) e .answer)) (machine g s) ≡ step (calls.root-const e) (machine g s)
-  unfolding step stepBy rule acceptance leaves settledBy roots.rootConst outcome findingOf decided
-  root-const-steps = go (firstOf (findCauses (s .links) e))
-    where
-      go : (o : Option ℕ) → let r = decided o (refusing (s .links)) (accepting (findOf (s .links) e) (s .links)) in
-          answers (findingOf (r .answer)) (machine g s) ≡ decided o (refusal (machine g s)) (acceptance (rule (calls.root-const e) (machine g s)))
-      go none = refl
-      go (some n) = refl
+    go : (n : Option ℕ) → let o = decided n (refusing (s .links)) (accepting (findOf (s .links) e) ls) in
+        answers (findingOf (o .answer)) (machine g (with-links (o .after) s)) ≡ decided n (refusal (machine g s)) (acceptance does)
+    go none = refl
+    go (some n) = refl
 
 -- a find leaves as many links
 pub root-length : (ls : List ℕ) (e : ℕ) → length (roots.root ls e .after) ≡ length ls

@@ -1,13 +1,13 @@
 -- What the code reads and stores in its array, in the list of links.
 use mathlib.Core.Path.{_≡_, refl, sym, ap, _∙_}
-use mathlib.Core.Logic.{_≢_, ⊎-elim}
-use mathlib.Core.List.{List, [], _∷_, _++_}
+use mathlib.Core.Logic.{⊎-elim}
+use mathlib.Core.List.{List, [], _∷_}
 use mathlib.Core.Option.{none, some}
 use Prim.Native.Nat.{ℕ, zero, suc, _+_, _≤_, _<_}
 use native.Mathlib.Omega.{arith}
 use native.Mathlib.Numerals.{add-one}
 use lib.ListN.{length, getD, take, set, length-set, length-append, length-take, List·getD-append, List·getD-eq-default}
-use lib.Seq.{getD-set-same, getD-set-other, getD-at, getD-take, take-set-lt, take-suc-set, set-out}
+use lib.Seq.{getD-set-same, getD-set-other, getD-at, getD-take, take-set-lt, take-suc-set}
 use borrow.Author.Tests.{le-leb, lt-leb}
 use Rattle.ids.specs.Answers.{undeclared, firstOf, outcome, refusing, accepting}
 use Rattle.ids.proofs.Answers.{first-applies, first-passes, first-none}

@@ -1,15 +1,15 @@
 -- Laws of roots, depths and shortened links, for every list of links.
 use mathlib.Core.Path.{_≡_, refl, sym, ap, _∙_}
 use mathlib.Core.Logic.{_≢_, _⊎_, inl, inr, ⊎-elim}
-use mathlib.Core.Bool.{Bool, true, false}
-use mathlib.Core.List.{List, [], _∷_}
+use mathlib.Core.Bool.{true, false}
+use mathlib.Core.List.{List}
 use Prim.Native.Nat.{ℕ, zero, suc, _+_, _≤_, _<_}
 use native.Mathlib.Omega.{arith}
 use lib.ListN.{length, set, length-set}
-use lib.Seq.{getD-set-same, getD-set-other, set-comm, set-out}
-use lib.Dec.{ltb, eqb}
+use lib.Seq.{getD-set-same, getD-set-other, set-comm}
+use lib.Dec.{eqb}
 use borrow.Author.Tests.{lt-ltb, le-ltb, eq-eqb, ne-eqb}
-use Rattle.unification.specs.Roots.{link, follow, rootOf, depthOf, shortOf, mergedOf, Formed}
+use Rattle.unification.specs.Roots.{link, follow, rootOf, depthOf, shortOf, mergedOf}
 use Rattle.unification.proofs.Numbers.{less-or, same-or, strong}
 
 module _ {A : Type 0} (ls : List ℕ) (stop : ℕ → A) (pass : ℕ → A → A) where

@@ -172,7 +172,7 @@ impl Unification {
         self
     }
 
-    // One element more, linked to itself, where there is room. The length that is left is that of the elements.
+    // One element more, linked to itself, where there is room. Its length is then that of the elements.
     pub fn increase_size(self) -> Unification
         ensures { λ r. ⌜ handedLinks r ≡ whole (addedOf (linksOf self)) ⌝ }
     {

@@ -13,9 +13,6 @@ abbrev μ-loop : tie.MeasureT-loop
 new-requires : tie.Need-new-requires Inv-loop μ-loop
 new-requires c κs = search needs
 
-new-requires-2 : tie.Need-new-requires-2 Inv-loop μ-loop
-new-requires-2 c κs = search needs
-
 loop-holds : tie.Need-loop-holds Inv-loop μ-loop
 loop-holds c = tt
 
@@ -53,7 +50,6 @@ build-spec =
     Inv-loop
     μ-loop
     new-requires
-    new-requires-2
     loop-holds
     word-requires
     returns

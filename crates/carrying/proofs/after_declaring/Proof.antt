@@ -1,10 +1,11 @@
 -- `after_declaring` meets its contract.
-use mathlib.Core.Path.{ap, _∙_}
+use mathlib.Core.Path.{sym, ap, _∙_}
+use Rattle.signature.specs.declared.Declared.{Declared}
 use Rattle.signature.specs.Model.{sigOf}
-use Rattle.signature.specs.Calls.{answered}
-use Rattle.semantics.specs.Calls.{number, answerOf}
-use Rattle.carrying.specs.View.{machineOf, carried}
-use Rattle.carrying.proofs.Laws.{on-sig}
+use Rattle.semantics.specs.Calls.{answers, machine}
+use Rattle.structure.specs.View.{structureOf}
+use Rattle.declaring.specs.View.{declaredOf}
+use Rattle.carrying.specs.View.{CarriedM, withConflicts}
 use borrow.Author.Needs.{needs}
 use Rattle.carrying.proofs.after_declaring.Statement.{statement}
 use Rattle.carrying.proofs.after_declaring.Tie as tie
@@ -21,17 +22,15 @@ enum-known-answer-2 c = search needs
 answered-requires-2 : tie.Need-answered-requires-2
 answered-requires-2 c κs = search needs
 
+-- what the record answers, by what the call answers
+abbrev carries : tie.Start → Declared → CarriedM
+carries at x = withConflicts (answers (declaredOf x) (machine (sigOf (at .args .d .signature)) (structureOf (at .args .machine .structure))))
+
 returns : tie.Need-returns
-unfolding answerOf
-returns c =
-    let a = c .before .before .before .before .before .before .args in
-    c .answered .ensures ∙ ap carried (on-sig number (machineOf (a .machine)) answered (sigOf (a .d .signature)) (c .before .before .answer .given .1))
+returns c = c .answered .ensures ∙ ap (carries (c .before .before .before .before .before .before)) (sym (c .before .before .answer .given .1))
 
 returns-2 : tie.Need-returns-2
-unfolding answerOf
-returns-2 c =
-    let a = c .before .before .before .before .before .before .args in
-    c .answered2 .ensures ∙ ap carried (on-sig number (machineOf (a .machine)) answered (sigOf (a .d .signature)) (c .before .before .answer2 .given .1))
+returns-2 c = c .answered2 .ensures ∙ ap (carries (c .before .before .before .before .before .before)) (sym (c .before .before .answer2 .given .1))
 
 pub after-declaring-spec : {M : Type 1} → statement M
 after-declaring-spec =

@@ -1,10 +1,12 @@
 -- `apply_func` meets its contract.
-use mathlib.Core.Path.{_∙_}
-use Rattle.signature.specs.Model.{sigOf}
-use Rattle.structure.specs.View.{structureOf}
-use Rattle.semantics.specs.Calls.{applyFunc, step, onStructure, says}
+use mathlib.Core.Path.{ap, _∙_}
+use Rattle.semantics.specs.Structure.{func-app}
+use Rattle.semantics.specs.Calls.{apply-func, step}
 use Rattle.semantics.specs.Sheet.{funcAppForm}
-use Rattle.carrying.specs.View.{machineOf, carried}
+use Rattle.apps.specs.declared.FuncApp.{FuncApp}
+use Rattle.structure.specs.View.{machineOf}
+use Rattle.inserting.specs.View.{givenFuncApp}
+use Rattle.carrying.specs.View.{withConflicts}
 use borrow.Author.Needs.{needs}
 use Rattle.carrying.proofs.apply_func.Statement.{statement}
 use Rattle.carrying.proofs.apply_func.Tie as tie
@@ -15,24 +17,23 @@ els-in-requires c κs = search needs
 els-in-requires-2 : tie.Need-els-in-requires-2
 els-in-requires-2 c κs = search needs
 
+new-requires : tie.Need-new-requires
+new-requires c κs = search needs
+
 insert-func-app-or-equate-requires : tie.Need-insert-func-app-or-equate-requires
 insert-func-app-or-equate-requires c κs = search needs
 
-after-saying-requires : tie.Need-after-saying-requires
-after-saying-requires c κs = search needs
+after-step-requires : tie.Need-after-step-requires
+after-step-requires c κs = search needs
 
 returns : tie.Need-returns
-unfolding step funcAppForm
+unfolding funcAppForm
 returns c =
-    let a = c .before .before .before .before .before .before .before .before .args in
-    let m = a .machine in
-    let made = c .before .insert-func-app-or-equate .ensures ∙ (λ i. applyFunc (sigOf (m .signature)) (structureOf (m .structure)) (record {
-      func = a .given .a;
-      parents = c .before .before .before .els-in .ensures i;
-      args = c .before .before .els-in2 .ensures i;
-      result = a .given .b;
-    })) in
-    c .after-saying .ensures ∙ (λ i. carried (onStructure says (machineOf m) (made i)))
+    let a = c .before .before .before .before .before .before .before .before .before .args in
+    c .after-step .ensures
+    ∙ ap withConflicts (c .before .insert-func-app-or-equate .ensures
+    ∙ ap (λ (x : FuncApp). step (apply-func (givenFuncApp x)) (machineOf (a .machine))) (c .before .before .new .ensures)
+    ∙ (λ i. step (apply-func (func-app (a .given .a) (c .before .before .before .before .els-in .ensures i) (c .before .before .before .els-in2 .ensures i) (a .given .b))) (machineOf (a .machine))))
 
 pub apply-func-spec : {M : Type 1} → statement M
 apply-func-spec =
@@ -40,6 +41,7 @@ apply-func-spec =
     (tie.spec
     els-in-requires
     els-in-requires-2
+    new-requires
     insert-func-app-or-equate-requires
-    after-saying-requires
+    after-step-requires
     returns)

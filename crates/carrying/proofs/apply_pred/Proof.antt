@@ -1,10 +1,12 @@
 -- `apply_pred` meets its contract.
-use mathlib.Core.Path.{_∙_}
-use Rattle.signature.specs.Model.{sigOf}
-use Rattle.structure.specs.View.{structureOf}
-use Rattle.semantics.specs.Calls.{applyPred, step, onStructure, says}
+use mathlib.Core.Path.{ap, _∙_}
+use Rattle.semantics.specs.Structure.{pred-app}
+use Rattle.semantics.specs.Calls.{apply-pred, step}
 use Rattle.semantics.specs.Sheet.{predAppForm}
-use Rattle.carrying.specs.View.{machineOf, carried}
+use Rattle.apps.specs.declared.PredApp.{PredApp}
+use Rattle.structure.specs.View.{machineOf}
+use Rattle.inserting.specs.View.{givenPredApp}
+use Rattle.carrying.specs.View.{withConflicts}
 use borrow.Author.Needs.{needs}
 use Rattle.carrying.proofs.apply_pred.Statement.{statement}
 use Rattle.carrying.proofs.apply_pred.Tie as tie
@@ -15,23 +17,23 @@ els-in-requires c κs = search needs
 els-in-requires-2 : tie.Need-els-in-requires-2
 els-in-requires-2 c κs = search needs
 
+new-requires : tie.Need-new-requires
+new-requires c κs = search needs
+
 insert-pred-app-requires : tie.Need-insert-pred-app-requires
 insert-pred-app-requires c κs = search needs
 
-after-saying-requires : tie.Need-after-saying-requires
-after-saying-requires c κs = search needs
+after-step-requires : tie.Need-after-step-requires
+after-step-requires c κs = search needs
 
 returns : tie.Need-returns
-unfolding step predAppForm
+unfolding predAppForm
 returns c =
-    let a = c .before .before .before .before .before .before .before .before .args in
-    let m = a .machine in
-    let made = c .before .insert-pred-app .ensures ∙ (λ i. applyPred (sigOf (m .signature)) (structureOf (m .structure)) (record {
-      pred = a .given .a;
-      parents = c .before .before .before .els-in .ensures i;
-      args = c .before .before .els-in2 .ensures i;
-    })) in
-    c .after-saying .ensures ∙ (λ i. carried (onStructure says (machineOf m) (made i)))
+    let a = c .before .before .before .before .before .before .before .before .before .args in
+    c .after-step .ensures
+    ∙ ap withConflicts (c .before .insert-pred-app .ensures
+    ∙ ap (λ (x : PredApp). step (apply-pred (givenPredApp x)) (machineOf (a .machine))) (c .before .before .new .ensures)
+    ∙ (λ i. step (apply-pred (pred-app (a .given .a) (c .before .before .before .before .els-in .ensures i) (c .before .before .before .els-in2 .ensures i))) (machineOf (a .machine))))
 
 pub apply-pred-spec : {M : Type 1} → statement M
 apply-pred-spec =
@@ -39,6 +41,7 @@ apply-pred-spec =
     (tie.spec
     els-in-requires
     els-in-requires-2
+    new-requires
     insert-pred-app-requires
-    after-saying-requires
+    after-step-requires
     returns)

@@ -6,7 +6,8 @@ use native.Mathlib.Omega.{arith}
 use Rattle.ids.proofs.Tests.{holds, fails}
 use Rattle.semantics.specs.Sheet.{Form, forms, formOf, closeForm, conflictsForm, callOf, carryOut}
 use Rattle.records.specs.View.{recordView}
-use Rattle.carrying.specs.View.{machineOf, CarriedM, carried, formStep}
+use Rattle.structure.specs.View.{machineOf}
+use Rattle.carrying.specs.View.{CarriedM, withConflicts, formStep}
 use Rattle.carrying.proofs.Laws.{of-kind, fitting, unfitting, low, past}
 use borrow.Author.Needs.{needs}
 use Rattle.carrying.proofs.carry_out.Statement.{statement}
@@ -24,17 +25,17 @@ returns c =
     let fitted = c .before .before in
     let a = fitted .before .args in
     let not = fails (fitted .fits2 .ensures) (c .before .if1 .taken) in
-    c .answered .ensures ∙ ap carried (unfitting (recordView (a .given)) (machineOf (a .machine)) (formOf (a .given .kind)) not)
+    c .answered .ensures ∙ ap withConflicts (unfitting (recordView (a .given)) (machineOf (a .machine)) (formOf (a .given .kind)) not)
 
 -- a record that fits is carried out by the call of its form
 carries : (c : tie.Else1) {s : CarriedM} → let a = c .before .before .args in
-    s ≡ carried (formStep (formOf (a .given .kind)) (recordView (a .given)) (machineOf (a .machine)))
-    → s ≡ carried (carryOut (callOf (recordView (a .given))) (machineOf (a .machine)))
+    s ≡ withConflicts (formStep (formOf (a .given .kind)) (recordView (a .given)) (machineOf (a .machine)))
+    → s ≡ withConflicts (carryOut (callOf (recordView (a .given))) (machineOf (a .machine)))
 unfolding callOf
 carries c e =
     let a = c .before .before .args in
     let fits = holds (c .before .fits2 .ensures) (c .if1 .left) in
-    e ∙ ap carried (fitting (recordView (a .given)) (machineOf (a .machine)) (formOf (a .given .kind)) fits)
+    e ∙ ap withConflicts (fitting (recordView (a .given)) (machineOf (a .machine)) (formOf (a .given .kind)) fits)
 
 run-close-requires : tie.Need-run-close-requires
 run-close-requires c κs = search needs
@@ -56,14 +57,14 @@ unfolding forms formOf formStep closeForm
 returns-2 c =
     let else1 = c .before .before in
     let a = else1 .before .before .args in
-    carries else1 (c .run-close .ensures ∙ ap carried (of-kind (recordView (a .given)) (machineOf (a .machine)) (c .before .match .keys1)))
+    carries else1 (c .run-close .ensures ∙ ap withConflicts (of-kind (recordView (a .given)) (machineOf (a .machine)) (c .before .match .keys1)))
 
 returns-3 : tie.Need-returns-3
 unfolding forms formOf formStep conflictsForm
 returns-3 c =
     let else1 = c .before .before in
     let a = else1 .before .before .args in
-    carries else1 (c .find-conflicts .ensures ∙ ap carried (of-kind (recordView (a .given)) (machineOf (a .machine)) (c .before .match .keys2)))
+    carries else1 (c .find-conflicts .ensures ∙ ap withConflicts (of-kind (recordView (a .given)) (machineOf (a .machine)) (c .before .match .keys2)))
 
 returns-4 : tie.Need-returns-4
 returns-4 c = carries (c .before .before .before .before) (c .declare .ensures)
@@ -81,7 +82,7 @@ returns-6 c =
     let formless : none ≡ formOf (a .given .kind) =
     ⊎-elim (λ w. low (w .taken)) (λ w. past (w .2 .left) (not .0 .1) (not .1)) (c .before .if2 .came) in
     carries else1
-    (c .answered2 .ensures ∙ ap (λ (o : Option Form). carried (formStep o (recordView (a .given)) (machineOf (a .machine)))) formless)
+    (c .answered2 .ensures ∙ ap (λ (o : Option Form). withConflicts (formStep o (recordView (a .given)) (machineOf (a .machine)))) formless)
 
 pub carry-out-spec : {M : Type 1} → statement M
 carry-out-spec =

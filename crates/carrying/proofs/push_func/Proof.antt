@@ -1,10 +1,10 @@
 -- `push_func` meets its contract.
-use mathlib.Core.Path.{_∙_}
-use Rattle.signature.specs.Model.{sigOf}
-use Rattle.signature.specs.Calls.{pushFunc}
-use Rattle.semantics.specs.Calls.{step, onSig, number}
+use mathlib.Core.Path.{ap, _∙_}
+use Rattle.signature.specs.Model.{func-entry}
+use Rattle.semantics.specs.Calls.{push-func, step}
 use Rattle.semantics.specs.Sheet.{funcForm}
-use Rattle.carrying.specs.View.{machineOf, carried}
+use Rattle.structure.specs.View.{machineOf}
+use Rattle.carrying.specs.View.{withConflicts}
 use borrow.Author.Needs.{needs}
 use Rattle.carrying.proofs.push_func.Statement.{statement}
 use Rattle.carrying.proofs.push_func.Tie as tie
@@ -22,16 +22,12 @@ after-declaring-requires : tie.Need-after-declaring-requires
 after-declaring-requires c κs = search needs
 
 returns : tie.Need-returns
-unfolding step funcForm
+unfolding funcForm
 returns c =
     let a = c .before .before .before .before .before .before .before .before .args in
-    let m = a .machine in
-    let made = c .before .push-func .ensures ∙ (λ i. pushFunc (m .structure .started) (sigOf (m .signature)) (record {
-      parents = c .before .before .before .types-in .ensures i;
-      domain = c .before .before .types-in2 .ensures i;
-      codomain = a .given .b;
-    })) in
-    c .after-declaring .ensures ∙ (λ i. carried (onSig number (machineOf m) (made i)))
+    c .after-declaring .ensures
+    ∙ ap withConflicts (c .before .push-func .ensures
+    ∙ (λ i. step (push-func (func-entry (c .before .before .before .types-in .ensures i) (c .before .before .types-in2 .ensures i) (a .given .b))) (machineOf (a .machine))))
 
 pub push-func-spec : {M : Type 1} → statement M
 push-func-spec =

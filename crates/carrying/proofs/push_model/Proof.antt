@@ -1,8 +1,7 @@
 -- `push_model` meets its contract.
-use mathlib.Core.Path.{_∙_}
-use Rattle.semantics.specs.Calls.{step, onSig, number}
+use mathlib.Core.Path.{ap, _∙_}
 use Rattle.semantics.specs.Sheet.{modelForm}
-use Rattle.carrying.specs.View.{machineOf, carried}
+use Rattle.carrying.specs.View.{withConflicts}
 use borrow.Author.Needs.{needs}
 use Rattle.carrying.proofs.push_model.Statement.{statement}
 use Rattle.carrying.proofs.push_model.Tie as tie
@@ -26,10 +25,8 @@ after-declaring-requires : tie.Need-after-declaring-requires
 after-declaring-requires c κs = search needs
 
 returns : tie.Need-returns
-unfolding step modelForm
-returns c =
-    let m = c .before .before .before .before .before .args .machine in
-    c .after-declaring .ensures ∙ (λ i. carried (onSig number (machineOf m) (c .before .push-model .ensures i)))
+unfolding modelForm
+returns c = c .after-declaring .ensures ∙ ap withConflicts (c .before .push-model .ensures)
 
 pub push-model-spec : {M : Type 1} → statement M
 push-model-spec =

@@ -1,8 +1,7 @@
 -- `push_mor_app_func` meets its contract.
-use mathlib.Core.Path.{_∙_}
-use Rattle.semantics.specs.Calls.{step, onSig, number}
+use mathlib.Core.Path.{ap, _∙_}
 use Rattle.semantics.specs.Sheet.{morAppForm}
-use Rattle.carrying.specs.View.{machineOf, carried}
+use Rattle.carrying.specs.View.{withConflicts}
 use borrow.Author.Needs.{needs}
 use Rattle.carrying.proofs.push_mor_app_func.Statement.{statement}
 use Rattle.carrying.proofs.push_mor_app_func.Tie as tie
@@ -20,10 +19,8 @@ after-declaring-requires : tie.Need-after-declaring-requires
 after-declaring-requires c κs = search needs
 
 returns : tie.Need-returns
-unfolding step morAppForm
-returns c =
-    let m = c .before .before .before .before .before .args .machine in
-    c .after-declaring .ensures ∙ (λ i. carried (onSig number (machineOf m) (c .before .push-mor-app-func .ensures i)))
+unfolding morAppForm
+returns c = c .after-declaring .ensures ∙ ap withConflicts (c .before .push-mor-app-func .ensures)
 
 pub push-mor-app-func-spec : {M : Type 1} → statement M
 push-mor-app-func-spec =

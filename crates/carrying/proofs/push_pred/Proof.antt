@@ -1,10 +1,10 @@
 -- `push_pred` meets its contract.
-use mathlib.Core.Path.{_∙_}
-use Rattle.signature.specs.Model.{sigOf}
-use Rattle.signature.specs.Calls.{pushPred}
-use Rattle.semantics.specs.Calls.{step, onSig, number}
+use mathlib.Core.Path.{ap, _∙_}
+use Rattle.signature.specs.Model.{pred-entry}
+use Rattle.semantics.specs.Calls.{push-pred, step}
 use Rattle.semantics.specs.Sheet.{predForm}
-use Rattle.carrying.specs.View.{machineOf, carried}
+use Rattle.structure.specs.View.{machineOf}
+use Rattle.carrying.specs.View.{withConflicts}
 use borrow.Author.Needs.{needs}
 use Rattle.carrying.proofs.push_pred.Statement.{statement}
 use Rattle.carrying.proofs.push_pred.Tie as tie
@@ -22,14 +22,12 @@ after-declaring-requires : tie.Need-after-declaring-requires
 after-declaring-requires c κs = search needs
 
 returns : tie.Need-returns
-unfolding step predForm
+unfolding predForm
 returns c =
-    let m = c .before .before .before .before .before .before .before .before .args .machine in
-    let made = c .before .push-pred .ensures ∙ (λ i. pushPred (m .structure .started) (sigOf (m .signature)) (record {
-      parents = c .before .before .before .types-in .ensures i;
-      arity = c .before .before .types-in2 .ensures i;
-    })) in
-    c .after-declaring .ensures ∙ (λ i. carried (onSig number (machineOf m) (made i)))
+    let a = c .before .before .before .before .before .before .before .before .args in
+    c .after-declaring .ensures
+    ∙ ap withConflicts (c .before .push-pred .ensures
+    ∙ (λ i. step (push-pred (pred-entry (c .before .before .before .types-in .ensures i) (c .before .before .types-in2 .ensures i))) (machineOf (a .machine))))
 
 pub push-pred-spec : {M : Type 1} → statement M
 push-pred-spec =

@@ -1,10 +1,10 @@
 -- `push_type` meets its contract.
-use mathlib.Core.Path.{_∙_}
-use Rattle.signature.specs.Model.{sigOf}
-use Rattle.signature.specs.Calls.{pushType}
-use Rattle.semantics.specs.Calls.{step, onSig, number}
+use mathlib.Core.Path.{ap, _∙_}
+use Rattle.signature.specs.Model.{type-entry}
+use Rattle.semantics.specs.Calls.{push-type, step}
 use Rattle.semantics.specs.Sheet.{typeForm}
-use Rattle.carrying.specs.View.{machineOf, carried}
+use Rattle.structure.specs.View.{machineOf}
+use Rattle.carrying.specs.View.{withConflicts}
 use borrow.Author.Needs.{needs}
 use Rattle.carrying.proofs.push_type.Statement.{statement}
 use Rattle.carrying.proofs.push_type.Tie as tie
@@ -22,14 +22,12 @@ after-declaring-requires : tie.Need-after-declaring-requires
 after-declaring-requires c κs = search needs
 
 returns : tie.Need-returns
-unfolding step typeForm
+unfolding typeForm
 returns c =
-    let m = c .before .before .before .before .before .before .before .args .machine in
-    let made = c .before .push-type .ensures ∙ (λ i. pushType (m .structure .started) (sigOf (m .signature)) (record {
-      kind = c .before .before .before .type-kind .ensures i;
-      parents = c .before .before .types-in .ensures i;
-    })) in
-    c .after-declaring .ensures ∙ (λ i. carried (onSig number (machineOf m) (made i)))
+    let a = c .before .before .before .before .before .before .before .args in
+    c .after-declaring .ensures
+    ∙ ap withConflicts (c .before .push-type .ensures
+    ∙ (λ i. step (push-type (type-entry (c .before .before .before .type-kind .ensures i) (c .before .before .types-in .ensures i))) (machineOf (a .machine))))
 
 pub push-type-spec : {M : Type 1} → statement M
 push-type-spec =

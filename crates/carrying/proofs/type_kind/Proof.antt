@@ -3,7 +3,7 @@ use mathlib.Core.Path.{sym, ap}
 use mathlib.Core.List.{[], _∷_}
 use Prim.Native.Nat.{ℕ}
 use lib.ListN.{List·getD-eq-default}
-use Rattle.signature.specs.Model.{Kind, plain, model, enum, mor}
+use Rattle.signature.specs.Model.{plain, model, enum, mor}
 use Rattle.semantics.specs.Sheet.{kindOf}
 use Rattle.carrying.proofs.Laws.{from-three}
 use Rattle.carrying.proofs.type_kind.Statement.{statement}

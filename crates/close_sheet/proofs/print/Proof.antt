@@ -7,7 +7,7 @@ use borrow.Author.Needs.{needs}
 use Rattle.ids.proofs.Tests.{told}
 use Rattle.sheet.specs.Pieces.{piecesOf}
 use Rattle.sheet.specs.View.{progressOf}
-use Rattle.sheet.proofs.Pieces.{some-left}
+use Rattle.sheet.proofs.Pieces.{some-to-come}
 use Rattle.close_sheet.proofs.print.Statement.{statement}
 use Rattle.close_sheet.proofs.print.Tie as tie
 
@@ -45,7 +45,7 @@ loop-less c =
     let tested = filled .before .before in
     let p = progressOf (tested .before .before .loop .progress) in
     let bytes = tested .before .before .before .before .args .bytes .now in
-    let some : 0 < piecesOf bytes p = some-left bytes p (told (tested .before .is-ended .ensures) (tested .if1 .left)) in
+    let some : 0 < piecesOf bytes p = some-to-come bytes p (told (tested .before .is-ended .ensures) (tested .if1 .left)) in
     let less : piecesOf bytes (progressOf (filled .fill .result .progress)) ≤ piecesOf bytes p - 1 = filled .fill .ensures .less in
     omega (arith, some, less)
 

@@ -4,7 +4,8 @@ use mathlib.Core.Path.{subst}
 use native.Mathlib.Omega.{arith}
 use borrow.Author.Needs.{needs}
 use Rattle.close_sheet.specs.declared.Reading.{Reading}
-use Rattle.close_sheet.specs.Reading.{maxBytes, Gave, Reads, last, next, readingOf}
+use Rattle.semantics.specs.Sheet.{maxSheet}
+use Rattle.close_sheet.specs.Reading.{Gave, Reads, last, next, readingOf}
 use Rattle.close_sheet.proofs.Laws.{grows}
 use Rattle.close_sheet.proofs.read_sheet.Statement.{statement}
 use Rattle.close_sheet.proofs.read_sheet.Tie as tie
@@ -14,7 +15,7 @@ abbrev Inv-loop : tie.InvT-loop
 Inv-loop bytes₀ at₀ bytes at = (r : Reading) → Reads at r → Reads 0 r
 
 abbrev μ-loop : tie.MeasureT-loop
-μ-loop bytes₀ at₀ bytes at = maxBytes - at
+μ-loop bytes₀ at₀ bytes at = maxSheet - at
 
 loop-holds : tie.Need-loop-holds Inv-loop μ-loop
 loop-holds c = λ r h. h

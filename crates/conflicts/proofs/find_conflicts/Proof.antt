@@ -10,7 +10,7 @@ use Rattle.ids.specs.declared.ElIds.{ElIds}
 use Rattle.ids.specs.Ids.{elsOf, whole}
 use Rattle.ids.proofs.Lists.{as-held, given-held-alike}
 use Rattle.unification.specs.Roots.{maxEls, linksOf, rootOf, FindM, findOf}
-use Rattle.semantics.specs.Structure.{Fact, Structure}
+use Rattle.semantics.specs.Structure.{Structure}
 use Rattle.semantics.specs.Types.{factsAt}
 use Rattle.semantics.specs.Conflicts.{Conflict, parentsMatch, firstConflict, conflictAmong, conflictAt, conflictsBelow, typeConflicts}
 use Rattle.facts.specs.declared.Fact as code

@@ -1,8 +1,7 @@
 -- `any_is_given` meets its contract.
 use mathlib.Core.Path.{sym, _∙_}
-use mathlib.Core.Bool.{or-false}
+use mathlib.Core.Bool.{or-false, _||_}
 use Rattle.signature.specs.Calls.{anyGiven}
-use Rattle.ids.proofs.Tests.{told}
 use borrow.Author.Needs.{needs}
 use Rattle.declarations.proofs.any_is_given.Statement.{statement}
 use Rattle.declarations.proofs.any_is_given.Tie as tie
@@ -10,57 +9,43 @@ use Rattle.declarations.proofs.any_is_given.Tie as tie
 is-given-requires : tie.Need-is-given-requires
 is-given-requires c κs = search needs
 
-returns : tie.Need-returns
-unfolding anyGiven
-returns c = rw (told (c .before .is-given .ensures) (c .if1 .taken))
-
 is-given-requires-2 : tie.Need-is-given-requires-2
 is-given-requires-2 c κs = search needs
 
-returns-2 : tie.Need-returns-2
-unfolding anyGiven
-returns-2 c =
-    let e1 = c .before .before in
-    rw (told (e1 .before .is-given .ensures) (e1 .if1 .left), told (c .before .is-given2 .ensures) (c .if2 .taken))
+or-requires : tie.Need-or-requires
+or-requires c κs = search needs
 
 is-given-requires-3 : tie.Need-is-given-requires-3
 is-given-requires-3 c κs = search needs
 
-returns-3 : tie.Need-returns-3
-unfolding anyGiven
-returns-3 c =
-    let e2 = c .before .before in
-    let e1 = e2 .before .before in
-    rw (
-      told (e1 .before .is-given .ensures) (e1 .if1 .left),
-      told (e2 .before .is-given2 .ensures) (e2 .if2 .left),
-      told (c .before .is-given3 .ensures) (c .if3 .taken),
-    )
+or-requires-2 : tie.Need-or-requires-2
+or-requires-2 c κs = search needs
 
 is-given-requires-4 : tie.Need-is-given-requires-4
 is-given-requires-4 c κs = search needs
 
-returns-4 : tie.Need-returns-4
+or-requires-3 : tie.Need-or-requires-3
+or-requires-3 c κs = search needs
+
+returns : tie.Need-returns
 unfolding anyGiven
-returns-4 c =
-    let e3 = c .before in
-    let e2 = e3 .before .before in
-    let e1 = e2 .before .before in
-    rw (
-      told (e1 .before .is-given .ensures) (e1 .if1 .left),
-      told (e2 .before .is-given2 .ensures) (e2 .if2 .left),
-      told (e3 .before .is-given3 .ensures) (e3 .if3 .left),
-    ) (c .is-given4 .ensures ∙ sym (or-false _))
+returns c =
+    let three = c .before .before in
+    let two = three .before .before in
+    let last = two .before .is-given2 .ensures ∙ sym (or-false _) in
+    let e2 = two .or .ensures ∙ (λ i. two .before .before .is-given .ensures i || last i) in
+    let e3 = three .or2 .ensures ∙ (λ i. three .before .is-given3 .ensures i || e2 i) in
+    c .or3 .ensures ∙ (λ i. c .before .is-given4 .ensures i || e3 i)
 
 pub any-is-given-spec : {M : Type 1} → statement M
 any-is-given-spec =
     tie.close
     (tie.spec
     is-given-requires
-    returns
     is-given-requires-2
-    returns-2
+    or-requires
     is-given-requires-3
-    returns-3
+    or-requires-2
     is-given-requires-4
-    returns-4)
+    or-requires-3
+    returns)

@@ -1,111 +1,80 @@
 -- `model_ids_are_declared` meets its contract.
+use mathlib.Core.Path.{_≡_, refl, _∙_}
+use mathlib.Core.Bool.{Bool, true, false, _&&_}
 use Rattle.ids.specs.Ids.{allBelow}
+use Rattle.ids.proofs.Tests.{last}
 use Rattle.signature.specs.Calls.{modelIdsDeclared}
-use Rattle.ids.proofs.Tests.{holds, fails, last}
 use borrow.Author.Needs.{needs}
 use Rattle.declarations.proofs.model_ids_are_declared.Statement.{statement}
 use Rattle.declarations.proofs.model_ids_are_declared.Tie as tie
 
-is-type-requires : tie.Need-is-type-requires
-is-type-requires c κs = search needs
-
-returns : tie.Need-returns
-unfolding modelIdsDeclared allBelow
-returns c = rw (fails (c .before .is-type .ensures) (c .if1 .taken), allBelow)
-
-is-type-requires-2 : tie.Need-is-type-requires-2
-is-type-requires-2 c κs = search needs
-
-returns-2 : tie.Need-returns-2
-unfolding modelIdsDeclared allBelow
-returns-2 c =
-    let e1 = c .before .before in
-    rw (holds (e1 .before .is-type .ensures) (e1 .if1 .left), fails (c .before .is-type2 .ensures) (c .if2 .taken), allBelow)
-
 is-func-requires : tie.Need-is-func-requires
 is-func-requires c κs = search needs
-
-returns-3 : tie.Need-returns-3
-unfolding modelIdsDeclared allBelow
-returns-3 c =
-    let e2 = c .before .before in
-    let e1 = e2 .before .before in
-    rw (
-      holds (e1 .before .is-type .ensures) (e1 .if1 .left),
-      holds (e2 .before .is-type2 .ensures) (e2 .if2 .left),
-      fails (c .before .is-func .ensures) (c .if3 .taken),
-      allBelow,
-    )
 
 is-func-requires-2 : tie.Need-is-func-requires-2
 is-func-requires-2 c κs = search needs
 
-returns-4 : tie.Need-returns-4
-unfolding modelIdsDeclared allBelow
-returns-4 c =
-    let e3 = c .before .before in
-    let e2 = e3 .before .before in
-    let e1 = e2 .before .before in
-    rw (
-      holds (e1 .before .is-type .ensures) (e1 .if1 .left),
-      holds (e2 .before .is-type2 .ensures) (e2 .if2 .left),
-      holds (e3 .before .is-func .ensures) (e3 .if3 .left),
-      fails (c .before .is-func2 .ensures) (c .if4 .taken),
-      allBelow,
-    )
+and-requires : tie.Need-and-requires
+and-requires c κs = search needs
 
 is-func-requires-3 : tie.Need-is-func-requires-3
 is-func-requires-3 c κs = search needs
 
-returns-5 : tie.Need-returns-5
-unfolding modelIdsDeclared allBelow
-returns-5 c =
-    let e4 = c .before .before in
-    let e3 = e4 .before .before in
-    let e2 = e3 .before .before in
-    let e1 = e2 .before .before in
-    rw (
-      holds (e1 .before .is-type .ensures) (e1 .if1 .left),
-      holds (e2 .before .is-type2 .ensures) (e2 .if2 .left),
-      holds (e3 .before .is-func .ensures) (e3 .if3 .left),
-      holds (e4 .before .is-func2 .ensures) (e4 .if4 .left),
-      fails (c .before .is-func3 .ensures) (c .if5 .taken),
-      allBelow,
-    )
+and-requires-2 : tie.Need-and-requires-2
+and-requires-2 c κs = search needs
 
 is-func-requires-4 : tie.Need-is-func-requires-4
 is-func-requires-4 c κs = search needs
 
-returns-6 : tie.Need-returns-6
+and-requires-3 : tie.Need-and-requires-3
+and-requires-3 c κs = search needs
+
+is-type-requires : tie.Need-is-type-requires
+is-type-requires c κs = search needs
+
+and-requires-4 : tie.Need-and-requires-4
+and-requires-4 c κs = search needs
+
+is-type-requires-2 : tie.Need-is-type-requires-2
+is-type-requires-2 c κs = search needs
+
+and-requires-5 : tie.Need-and-requires-5
+and-requires-5 c κs = search needs
+
+-- one more function below the count
+below : {r a b x y : Bool} → r ≡ (a && b) → a ≡ x → b ≡ y → r ≡ elim x [ true ↦ y | false ↦ false ]
+below {r} {a} {b} {x} {y} e h k = e ∙ (λ i. h i && k i) ∙ same x
+  where
+    same : (x : Bool) → _≡_ {A = Bool} (x && y) (elim x [ true ↦ y | false ↦ false ])
+    same true = refl
+    same false = refl
+
+returns : tie.Need-returns
 unfolding modelIdsDeclared allBelow
-returns-6 c =
-    let e5 = c .before in
-    let e4 = e5 .before .before in
-    let e3 = e4 .before .before in
-    let e2 = e3 .before .before in
-    let e1 = e2 .before .before in
-    rw (
-      holds (e1 .before .is-type .ensures) (e1 .if1 .left),
-      holds (e2 .before .is-type2 .ensures) (e2 .if2 .left),
-      holds (e3 .before .is-func .ensures) (e3 .if3 .left),
-      holds (e4 .before .is-func2 .ensures) (e4 .if4 .left),
-      holds (e5 .before .is-func3 .ensures) (e5 .if5 .left),
-      allBelow,
-    ) (last (c .is-func4 .ensures))
+returns c =
+    let five = c .before .before in
+    let four = five .before .before in
+    let three = four .before .before in
+    let two = three .before .before in
+    let e2 = below (two .and .ensures) (two .before .before .is-func .ensures) (last (two .before .is-func2 .ensures)) in
+    let e3 = below (three .and2 .ensures) (three .before .is-func3 .ensures) e2 in
+    let e4 = below (four .and3 .ensures) (four .before .is-func4 .ensures) e3 in
+    let e5 = five .and4 .ensures ∙ (λ i. five .before .is-type .ensures i && e4 i) in
+    c .and5 .ensures ∙ (λ i. c .before .is-type2 .ensures i && e5 i)
 
 pub model-ids-are-declared-spec : {M : Type 1} → statement M
 model-ids-are-declared-spec =
     tie.close
     (tie.spec
-    is-type-requires
-    returns
-    is-type-requires-2
-    returns-2
     is-func-requires
-    returns-3
     is-func-requires-2
-    returns-4
+    and-requires
     is-func-requires-3
-    returns-5
+    and-requires-2
     is-func-requires-4
-    returns-6)
+    and-requires-3
+    is-type-requires
+    and-requires-4
+    is-type-requires-2
+    and-requires-5
+    returns)

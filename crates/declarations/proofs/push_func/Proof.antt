@@ -1,16 +1,19 @@
 -- `push_func` meets its contract.
-use mathlib.Core.Path.{_≡_, sym, ap}
-use mathlib.Core.Bool.{not}
-use lib.ListN.{length}
+use mathlib.Core.Path.{_≡_, refl, sym, ap, _∙_}
+use mathlib.Core.Bool.{false, not, _&&_, _||_}
+use lib.ListN.{length, drop}
 use lib.Dec.{leb}
 use Rattle.ids.specs.Limits.{maxList}
-use Rattle.ids.specs.Answers.{undeclared, noRoom}
+use Rattle.ids.specs.Answers.{refusing, outcome, malformed, tooLate, undeclared, noRoom}
+use Rattle.ids.specs.Ids.{givenTypes, tooLong}
+use Rattle.ids.specs.Judge.{verdictOf}
+use Rattle.ids.proofs.Answers.{neither}
+use Rattle.ids.proofs.Judging.{SoFar, begin, judge, behind, refused-by}
 use Rattle.ids.proofs.Views.{long}
 use Rattle.ids.proofs.Lists.{held-types}
-use Rattle.signature.specs.Model.{maxFuncs, sigOf, givenFunc, with-funcs}
-use Rattle.signature.specs.Calls.{answered}
-use Rattle.declarations.proofs.Laws.{judge-if, judge-lists, SoFar, refuses, appends}
-use Rattle.declarations.proofs.Causes.{funcCauses, func-judged}
+use Rattle.signature.specs.Model.{maxFuncs, func-entry, sigOf, funcOf, givenFunc, with-funcs}
+use Rattle.signature.specs.Calls.{funcCauses, withFunc, pushFunc}
+use Rattle.declarations.proofs.Laws.{appends}
 use borrow.Author.Needs.{needs}
 use Rattle.declarations.proofs.push_func.Statement.{statement}
 use Rattle.declarations.proofs.push_func.Tie as tie
@@ -18,87 +21,122 @@ use Rattle.declarations.proofs.push_func.Tie as tie
 size-requires : tie.Need-size-requires
 size-requires c κs = search needs
 
-size-requires-2 : tie.Need-size-requires-2
-size-requires-2 c κs = search needs
+is-too-long-requires : tie.Need-is-too-long-requires
+is-too-long-requires c κs = search needs
 
-judge-lists-requires : tie.Need-judge-lists-requires
-judge-lists-requires c κs = search needs
+is-too-long-requires-2 : tie.Need-is-too-long-requires-2
+is-too-long-requires-2 c κs = search needs
+
+or-requires : tie.Need-or-requires
+or-requires c κs = search needs
+
+are-types-requires : tie.Need-are-types-requires
+are-types-requires c κs = search needs
 
 is-type-requires : tie.Need-is-type-requires
 is-type-requires c κs = search needs
 
+and-requires : tie.Need-and-requires
+and-requires c κs = search needs
+
+are-types-requires-2 : tie.Need-are-types-requires-2
+are-types-requires-2 c κs = search needs
+
+and-requires-2 : tie.Need-and-requires-2
+and-requires-2 c κs = search needs
+
 refuse-if-requires : tie.Need-refuse-if-requires
 refuse-if-requires c κs = search needs
-
-cast-refuse-if : tie.Need-cast-refuse-if
-cast-refuse-if c = search needs
 
 refuse-if-requires-2 : tie.Need-refuse-if-requires-2
 refuse-if-requires-2 c κs = search needs
 
+refuse-if-requires-3 : tie.Need-refuse-if-requires-3
+refuse-if-requires-3 c κs = search needs
+
+cast-refuse-if : tie.Need-cast-refuse-if
+cast-refuse-if c = search needs
+
+refuse-if-requires-4 : tie.Need-refuse-if-requires-4
+refuse-if-requires-4 c κs = search needs
+
+-- the function is held as it was given
+held : (c : tie.Start) → let f = c .args .f in
+    (tooLong (givenTypes (f .parents)) || tooLong (givenTypes (f .domain))) ≡ false → givenFunc f ≡ funcOf f
+held c short =
+    let f = c .args .f in
+    let parents-long : length (f .parents .ids) ≡ maxList = search (needs, long) in
+    let domain-long : length (f .domain .ids) ≡ maxList = search (needs, long) in
+    let both = neither _ _ short in
+    λ k. func-entry (held-types (f .parents) parents-long (both .0) k) (held-types (f .domain) domain-long (both .1) k) (f .codomain .0)
+
+-- the verdict, as the causes decide it
+so-far : (c : tie.After-refuse-if4) → let a = c .before .before .before .before .before .before .before .before .before .before .before .before .before .before .before .before .args in
+    SoFar (verdictOf (c .refuse-if4 .result)) (funcCauses (a .started) (sigOf (a .signature)) (givenFunc (a .f)))
+unfolding funcCauses
+so-far c =
+    let r3 = c .before in
+    let r2 = r3 .before in
+    let r1 = r2 .before in
+    let named = r1 .before in
+    let others = named .before .before in
+    let others-known = others .and .ensures ∙ (λ i. others .before .before .are-types .ensures i && others .before .is-type .ensures i) in
+    let known = named .and2 .ensures ∙ (λ i. named .before .are-types2 .ensures i && others-known i) in
+    let either = others .before .before .before in
+    let too-long = either .or .ensures ∙ (λ i. either .before .before .is-too-long .ensures i || either .before .is-too-long2 .ensures i) in
+    let sized = either .before .before .before .before .before in
+    let start = sized .before .before in
+    let a = start .args in
+    let s1 = judge malformed begin (r1 .refuse-if .ensures) too-long in
+    let s2 = judge tooLate s1 (r2 .refuse-if2 .ensures) refl in
+    let s3 = judge undeclared s2 (r3 .refuse-if3 .ensures) (ap not known) in
+    let s4 = judge noRoom s3 (c .refuse-if4 .ensures) (ap (leb maxFuncs) (sized .size .ensures .is)) in
+    record { is = s4 .is ∙ behind malformed _ _ _ (λ x. drop 1 (funcCauses (a .started) (sigOf (a .signature)) x)) (held start) }
+
+enum-known-verdict : tie.Need-enum-known-verdict
+enum-known-verdict c = search needs
+
+returns : tie.Need-returns
+unfolding pushFunc outcome
+returns c = refused-by (refusing _) _ (so-far (c .before .before .before)) _ (ap verdictOf (c .before .verdict .given .1))
+
 enum-told : tie.Need-enum-told
 enum-told c = search needs
-
-enum-told-2 : tie.Need-enum-told-2
-enum-told-2 c = search needs
 
 push-requires : tie.Need-push-requires
 push-requires c κs = search needs
 
-parents-long : (c : tie.Start) → length (c .args .f .parents .ids) ≡ maxList
-parents-long c = search (needs, long)
-
-domain-long : (c : tie.Start) → length (c .args .f .domain .ids) ≡ maxList
-domain-long c = search (needs, long)
-
--- the answer, as the causes decide it
-so-far : (c : tie.After-refuse-if2) →
-    let a = c .before .before .before .before .before .before .before .before .args in
-    SoFar (answered (c .refuse-if2 .result)) (funcCauses (a .started) (sigOf (a .signature)) (givenFunc (a .f)))
-    (length (sigOf (a .signature) .funcs))
-so-far c =
-    let r1 = c .before in
-    let lists = r1 .before .before in
-    let sized = lists .before .before in
-    let a = sized .before .before .before .args in
-    let s1 = judge-lists _ _ _ (a .f .parents) (a .f .domain) (sized .size .ensures .is)
-    (lists .before .size2 .ensures .is) (lists .judge-lists .ensures) in
-    let s2 = judge-if undeclared s1 (r1 .refuse-if .ensures) (ap not (r1 .before .is-type .ensures)) in
-    judge-if noRoom s2 (c .refuse-if2 .ensures) (ap (leb maxFuncs) (sized .size .ensures .is))
-
-returns : tie.Need-returns
-returns c = refuses (func-judged _ _ _) (so-far (c .before .before)) (ap answered (c .enum-told .given .1))
-
 returns-2 : tie.Need-returns-2
-unfolding with-funcs
+unfolding pushFunc withFunc with-funcs funcCauses
 returns-2 c =
     let judged = c .before .before .before in
-    let start = judged .before .before .before .before .before .before .before .before in
+    let sized = judged .before .before .before .before .before .before .before .before .before .before .before .before .before .before in
+    let start = sized .before .before in
     let a = start .args in
     let g = sigOf (a .signature) in
-    let told = ap answered (c .before .enum-told2 .given .1) in
-    appends maxFuncs (g .funcs) (givenFunc (a .f)) (with-funcs g) (func-judged _ _ _) (so-far judged) told (λ none. (
-      none .1 .1 .1 .1 .1 .1 .0,
-      λ k. record {
-        parents = sym (held-types (a .f .parents) (parents-long start) (none .0)) k;
-        domain = sym (held-types (a .f .domain) (domain-long start) (none .1 .0)) k;
-        codomain = a .f .codomain .0;
-      },
-    )) (c .push .ensures .0)
+    appends maxFuncs (g .funcs) (givenFunc (a .f)) (with-funcs g) g (so-far judged) (ap verdictOf (c .before .enum-told .given .1))
+    (sized .size .ensures .is) (c .push .ensures .0) (λ none. (none .1 .1 .1 .0, sym (held start (none .0))))
 
 pub push-func-spec : {M : Type 1} → statement M
 push-func-spec =
     tie.close
     (tie.spec
     size-requires
-    size-requires-2
-    judge-lists-requires
+    is-too-long-requires
+    is-too-long-requires-2
+    or-requires
+    are-types-requires
     is-type-requires
+    and-requires
+    are-types-requires-2
+    and-requires-2
     refuse-if-requires
-    cast-refuse-if
     refuse-if-requires-2
-    enum-told
-    enum-told-2
-    push-requires
+    refuse-if-requires-3
+    cast-refuse-if
+    refuse-if-requires-4
+    enum-known-verdict
     returns
+    enum-told
+    push-requires
     returns-2)

@@ -1,13 +1,16 @@
 -- `after_finding` meets its contract.
-use mathlib.Core.Path.{_∙_, ap}
-use Rattle.unification.specs.Roots.{answered}
-use Rattle.semantics.specs.Calls.{found, answerOf}
-use Rattle.carrying.specs.View.{machineOf}
-use Rattle.driver.specs.View.{responded}
-use Rattle.driver.proofs.Laws.{on-neither}
+use mathlib.Core.Path.{_∙_, sym, ap}
+use Rattle.unification.specs.declared.Finding.{Finding}
+use Rattle.semantics.specs.Calls.{answers}
+use Rattle.structure.specs.View.{machineOf, foundOf}
+use Rattle.driver.specs.View.{RespondedM, responded}
 use borrow.Author.Needs.{needs}
 use Rattle.driver.proofs.after_finding.Statement.{statement}
 use Rattle.driver.proofs.after_finding.Tie as tie
+
+-- what is answered, by what the find answers
+abbrev finds : tie.Start → Finding → RespondedM
+finds at x = responded (answers (foundOf x) (machineOf (at .args .machine)))
 
 enum-known-finding : tie.Need-enum-known-finding
 enum-known-finding c = search needs
@@ -22,16 +25,10 @@ refuse-requires : tie.Need-refuse-requires
 refuse-requires c κs = search needs
 
 returns : tie.Need-returns
-unfolding answerOf
-returns c =
-    let at = c .before .before in
-    c .respond .ensures ∙ ap responded (on-neither found (machineOf (at .before .before .args .machine)) answered (at .finding .given .1))
+returns c = c .respond .ensures ∙ ap (finds (c .before .before .before .before)) (sym (c .before .before .finding .given .1))
 
 returns-2 : tie.Need-returns-2
-unfolding answerOf
-returns-2 c =
-    let at = c .before .before in
-    c .refuse .ensures ∙ ap responded (on-neither found (machineOf (at .before .before .args .machine)) answered (at .finding2 .given .1))
+returns-2 c = c .refuse .ensures ∙ ap (finds (c .before .before .before .before)) (sym (c .before .before .finding2 .given .1))
 
 pub after-finding-spec : {M : Type 1} → statement M
 after-finding-spec =

@@ -3,10 +3,10 @@ use mathlib.Core.Path.{_∙_, sym, ap}
 use Rattle.ids.specs.Ids.{givenEls}
 use Rattle.signature.specs.declared.Typed.{Typed}
 use Rattle.signature.specs.Calls.{typedOf}
-use Rattle.semantics.specs.Calls.{typed, leading}
-use Rattle.carrying.specs.View.{machineOf}
+use Rattle.semantics.specs.Calls.{typed, leading, answers}
+use Rattle.structure.specs.View.{machineOf}
 use Rattle.driver.specs.View.{responded}
-use Rattle.driver.proofs.Laws.{type-found, answers}
+use Rattle.driver.proofs.Laws.{type-found}
 use borrow.Author.Needs.{needs}
 use Rattle.driver.proofs.after_lookup.Statement.{statement}
 use Rattle.driver.proofs.after_lookup.Tie as tie

@@ -3,7 +3,7 @@ use mathlib.Core.Path.{_∙_, ap}
 use Rattle.semantics.specs.Calls.{lookup-type, ambient-parents, step}
 use Rattle.semantics.specs.Sheet.{carryOut}
 use Rattle.records.specs.View.{recordView}
-use Rattle.carrying.specs.View.{machineOf}
+use Rattle.structure.specs.View.{machineOf}
 use Rattle.driver.specs.Calls.{callAt}
 use Rattle.driver.specs.View.{responded}
 use Rattle.driver.proofs.Laws.{of-kind, as-sheet}

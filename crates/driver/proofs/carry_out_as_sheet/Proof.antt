@@ -1,10 +1,10 @@
 -- `carry_out_as_sheet` meets its contract.
 use mathlib.Core.Path.{_∙_, sym, ap}
 use Rattle.ids.proofs.Views.{long}
+use Rattle.structure.specs.View.{elsIn}
 use Rattle.structure.proofs.Laws.{none-given}
 use Rattle.conflicts.specs.View.{conflictsOf}
 use Rattle.carrying.specs.View.{CarriedM}
-use Rattle.driver.specs.View.{elsIn}
 use Rattle.driver.proofs.Laws.{lists-none}
 use borrow.Author.Needs.{needs}
 use Rattle.driver.proofs.carry_out_as_sheet.Statement.{statement}

@@ -1,14 +1,17 @@
 -- `look_up_ambients` meets its contract.
-use mathlib.Core.Path.{_∙_, ap}
+use mathlib.Core.Path.{_∙_, sym, ap}
 use Rattle.ids.specs.Ids.{givenEls}
-use Rattle.structure.specs.View.{lookedOf}
-use Rattle.semantics.specs.Calls.{els, onNeither, answerOf, step}
-use Rattle.carrying.specs.View.{machineOf}
+use Rattle.semantics.specs.Calls.{Step, answers}
+use Rattle.structure.specs.declared.Looked.{Looked}
+use Rattle.structure.specs.View.{machineOf, lookedOf, Looking}
 use Rattle.driver.specs.View.{responded}
-use Rattle.driver.proofs.Laws.{on-neither}
 use borrow.Author.Needs.{needs}
 use Rattle.driver.proofs.look_up_ambients.Statement.{statement}
 use Rattle.driver.proofs.look_up_ambients.Tie as tie
+
+-- what is answered, by what the lookup answers
+abbrev looks : tie.After-ambient-parents → Looked → Step
+looks at x = answers (lookedOf (givenEls (at .ambient-parents .result .els)) x) (machineOf (at .before .before .before .args .machine))
 
 ambient-parents-requires : tie.Need-ambient-parents-requires
 ambient-parents-requires c κs = search needs
@@ -26,24 +29,16 @@ refuse-requires : tie.Need-refuse-requires
 refuse-requires c κs = search needs
 
 returns : tie.Need-returns
-unfolding step answerOf
 returns c =
     let at = c .before in
     let looked = at .before .before .before in
-    let a = looked .before .before .before .args in
-    c .respond-els .ensures
-    ∙ ap responded (on-neither els (machineOf (a .machine)) (lookedOf (givenEls (looked .ambient-parents .result .els))) (at .enum-told .given .1)
-    ∙ (λ i. onNeither els (machineOf (a .machine)) (looked .ambient-parents .ensures i .answer)))
+    c .respond-els .ensures ∙ ap responded (ap (looks looked) (sym (at .enum-told .given .1)) ∙ ap (λ (l : Looking). l .step) (looked .ambient-parents .ensures))
 
 returns-2 : tie.Need-returns-2
-unfolding step answerOf
 returns-2 c =
     let at = c .before .before in
     let looked = at .before .before .before in
-    let a = looked .before .before .before .args in
-    c .refuse .ensures
-    ∙ ap responded (on-neither els (machineOf (a .machine)) (lookedOf (givenEls (looked .ambient-parents .result .els))) (at .answer .given .1)
-    ∙ (λ i. onNeither els (machineOf (a .machine)) (looked .ambient-parents .ensures i .answer)))
+    c .refuse .ensures ∙ ap responded (ap (looks looked) (sym (at .answer .given .1)) ∙ ap (λ (l : Looking). l .step) (looked .ambient-parents .ensures))
 
 pub look-up-ambients-spec : {M : Type 1} → statement M
 look-up-ambients-spec =

@@ -1,11 +1,10 @@
 -- `look_up_type` meets its contract.
 use mathlib.Core.Path.{_∙_, ap}
 use Rattle.ids.specs.Ids.{givenEls}
-use Rattle.signature.specs.Calls.{TypedM, lookedOf}
-use Rattle.semantics.specs.Calls.{typed, leading, onNeither, answerOf, step}
-use Rattle.carrying.specs.View.{machineOf}
+use Rattle.semantics.proofs.Judged.{lookedUp}
+use Rattle.structure.specs.View.{machineOf}
 use Rattle.driver.specs.View.{responded}
-use Rattle.driver.proofs.Laws.{on-neither}
+use Rattle.driver.proofs.Laws.{looked-up}
 use borrow.Author.Needs.{needs}
 use Rattle.driver.proofs.look_up_type.Statement.{statement}
 use Rattle.driver.proofs.look_up_type.Tie as tie
@@ -26,24 +25,22 @@ refuse-requires : tie.Need-refuse-requires
 refuse-requires c κs = search needs
 
 returns : tie.Need-returns
-unfolding step answerOf
+unfolding lookedUp
 returns c =
     let at = c .before .before in
     let looked = at .before .before in
     let a = looked .before .before .args in
     c .after-lookup .ensures
-    ∙ ap responded (on-neither (λ (x : TypedM). typed (leading (givenEls (a .parents)) x)) (machineOf (a .machine)) lookedOf (at .looked .given .1)
-    ∙ (λ i. onNeither (λ (x : TypedM). typed (leading (givenEls (a .parents)) x)) (machineOf (a .machine)) (looked .lookup-type .ensures i)))
+    ∙ ap responded (looked-up (machineOf (a .machine)) (a .typ .0) (givenEls (a .parents)) (at .looked .given .1) (looked .lookup-type .ensures))
 
 returns-2 : tie.Need-returns-2
-unfolding step answerOf
+unfolding lookedUp
 returns-2 c =
     let at = c .before .before in
     let looked = at .before .before in
     let a = looked .before .before .args in
     c .refuse .ensures
-    ∙ ap responded (on-neither (λ (x : TypedM). typed (leading (givenEls (a .parents)) x)) (machineOf (a .machine)) lookedOf (at .looked2 .given .1)
-    ∙ (λ i. onNeither (λ (x : TypedM). typed (leading (givenEls (a .parents)) x)) (machineOf (a .machine)) (looked .lookup-type .ensures i)))
+    ∙ ap responded (looked-up (machineOf (a .machine)) (a .typ .0) (givenEls (a .parents)) (at .looked2 .given .1) (looked .lookup-type .ensures))
 
 pub look-up-type-spec : {M : Type 1} → statement M
 look-up-type-spec =

@@ -1,6 +1,7 @@
 -- `respond_els` meets its contract.
 use Rattle.ids.specs.Ids.{givenEls}
-use Rattle.carrying.specs.View.{machineOf}
+use Rattle.semantics.specs.Calls.{answers}
+use Rattle.structure.specs.View.{machineOf}
 use Rattle.driver.specs.View.{responseOf}
 use borrow.Author.Needs.{needs}
 use Rattle.driver.proofs.respond_els.Statement.{statement}
@@ -14,7 +15,7 @@ returns c =
     let a = c .before .args in
     let none = c .new .ensures in
     λ i. record {
-      step = record { answer = responseOf (none i .held) (givenEls (a .els)) (a .response); after = machineOf (a .machine) };
+      step = answers (responseOf (none i .held) (givenEls (a .els)) (a .response)) (machineOf (a .machine));
       els = givenEls (a .els);
       conflicts = none i;
     }

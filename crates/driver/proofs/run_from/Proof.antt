@@ -3,7 +3,7 @@ use mathlib.Core.Path.{_≡_, ap, sym, _∙_}
 use Prim.Native.Nat.{_-_, _≤_}
 use native.Mathlib.Omega.{arith}
 use denote.Ref.{now}
-use Rattle.carrying.specs.View.{machineOf}
+use Rattle.structure.specs.View.{machineOf}
 use Rattle.driver.specs.Calls.{wholeRecords, listBefore}
 use Rattle.driver.specs.View.{RespondedM, respondedOf, responded}
 use Rattle.driver.proofs.Laws.{begins, goes-on}

@@ -1,24 +1,24 @@
 -- `insert_func_app_or_equate` meets its contract.
-use mathlib.Core.Path.{_≡_, sym, ap, _∙_}
-use mathlib.Core.Bool.{Bool, false, not, _||_}
+use mathlib.Core.Path.{_≡_, ap, _∙_}
+use mathlib.Core.Bool.{false, not, _||_}
+use mathlib.Core.List.{List, [], _∷_}
 use lib.ListN.{length}
-use Rattle.ids.specs.Answers.{Outcome}
+use Rattle.ids.specs.Answers.{Cause, _if_, malformed, undeclared, reserved, noRoom}
 use Rattle.ids.specs.Limits.{maxList}
-use Rattle.ids.specs.Ids.{elsOf, tooLong}
-use Rattle.ids.proofs.Answers.{not-true, not-false, or-left, or-neither}
-use Rattle.ids.proofs.Judging.{judged, stops, on, ends}
-use Rattle.ids.proofs.Lists.{HeldEls, held-els}
+use Rattle.ids.specs.Ids.{tooLong, givenEls}
+use Rattle.ids.specs.Judge.{verdictOf}
+use Rattle.ids.proofs.Judging.{SoFar, begin, judge, behind}
 use Rattle.ids.proofs.Views.{long}
-use Rattle.unification.specs.Roots.{maxEls, linksOf}
-use Rattle.signature.specs.Model.{sigOf}
-use Rattle.ids.proofs.Tests.{told, holds, fails, or-then}
+use Rattle.unification.specs.Roots.{maxEls}
+use Rattle.signature.specs.Model.{Sig, sigOf}
 use Rattle.semantics.specs.Structure as model
-use Rattle.semantics.specs.Calls.{isReserved, Applied, insertFuncAppOrEquate, applyWith, applyFunc}
-use Rattle.apps.specs.View.{funcAppOf, funcAppsOf}
-use Rattle.equalities.specs.View.{pairsOf}
+use Rattle.semantics.specs.Structure.{func-app}
+use Rattle.semantics.specs.Calls.{isReserved, appliedTo, applicationCauses, apply-func, applicationRule, rule, acceptance}
+use Rattle.semantics.proofs.Judged.{step-refuses}
+use Rattle.apps.specs.View.{funcAppOf}
 use Rattle.structure.specs.View.{structureOf}
 use Rattle.inserting.specs.View.{givenFuncApp, appDeclared}
-use Rattle.inserting.proofs.Laws.{met-full, applies}
+use Rattle.inserting.proofs.Laws.{both-held, held-accepts, met-full, applies}
 use borrow.Author.Needs.{needs}
 use Rattle.inserting.proofs.insert_func_app_or_equate.Statement.{statement}
 use Rattle.inserting.proofs.insert_func_app_or_equate.Tie as tie
@@ -31,35 +31,47 @@ many-marks c = long _ (c .args .structure .«inferred_parent_els») _ (c .good .
 many-links : (c : tie.Start) → length (c .args .structure .unification .links) ≡ maxEls
 many-links c = long _ (c .args .structure .unification .links) _ (c .good .0 .1 .1 .1 .1 .1 .1 .1 .0 .1 .1 .0 .1 .0 .1)
 
+insert-func-app-or-equate-requires : tie.Need-insert-func-app-or-equate-requires
+insert-func-app-or-equate-requires c κs = search needs
+
 is-too-long-requires : tie.Need-is-too-long-requires
 is-too-long-requires c κs = search needs
-
-refuse-answer-requires : tie.Need-refuse-answer-requires
-refuse-answer-requires c κs = search needs
-
-returns : tie.Need-returns
-unfolding applyFunc applyWith
-returns c =
-    let applies = told (c .before .before .is-too-long .ensures) (c .before .if1 .taken) in
-    judged (stops (or-left _ applies) (c .refuse-answer .ensures))
 
 is-too-long-requires-2 : tie.Need-is-too-long-requires-2
 is-too-long-requires-2 c κs = search needs
 
-refuse-answer-requires-2 : tie.Need-refuse-answer-requires-2
-refuse-answer-requires-2 c κs = search needs
+or-requires : tie.Need-or-requires
+or-requires c κs = search needs
 
-returns-2 : tie.Need-returns-2
-unfolding applyFunc applyWith
-returns-2 c =
-    let e1 = c .before .before .before in
-    let applies = told (c .before .before .is-too-long2 .ensures) (c .before .if2 .taken) in
-    judged (stops (or-then (told (e1 .before .is-too-long .ensures) (e1 .if1 .left)) applies) (c .refuse-answer2 .ensures))
+app-is-declared-requires : tie.Need-app-is-declared-requires
+app-is-declared-requires c κs = search needs
 
--- Both lists are held as they were given.
+refuse-if-requires : tie.Need-refuse-if-requires
+refuse-if-requires c κs = search needs
 
-abbrev start : tie.Else2 → tie.Start
-start c = c .before .before .before .before .before .before
+refuse-if-requires-2 : tie.Need-refuse-if-requires-2
+refuse-if-requires-2 c κs = search needs
+
+is-reserved-requires : tie.Need-is-reserved-requires
+is-reserved-requires c κs = search needs
+
+refuse-if-requires-3 : tie.Need-refuse-if-requires-3
+refuse-if-requires-3 c κs = search needs
+
+refuse-if-requires-4 : tie.Need-refuse-if-requires-4
+refuse-if-requires-4 c κs = search needs
+
+enum-known-verdict : tie.Need-enum-known-verdict
+enum-known-verdict c = search needs
+
+refuse-requires : tie.Need-refuse-requires
+refuse-requires c κs = search needs
+
+abbrev made : tie.After-refuse-if4 → tie.After-insert-func-app-or-equate
+made c = c .before .before .before .before .before .before .before .before .before
+
+abbrev start : tie.After-refuse-if4 → tie.Start
+start c = made c .before .before .before .before .before .before
 
 long-parents : (c : tie.Start) → length (c .args .app .parents .ids) ≡ maxList
 long-parents c = long _ (c .args .app .parents .ids) _ (c .good .1 .1 .0 .1 .1 .1 .0 .1 .1 .0 .1 .0 .1)
@@ -67,119 +79,75 @@ long-parents c = long _ (c .args .app .parents .ids) _ (c .good .1 .1 .0 .1 .1 .
 long-args : (c : tie.Start) → length (c .args .app .args .ids) ≡ maxList
 long-args c = long _ (c .args .app .args .ids) _ (c .good .1 .1 .0 .1 .1 .1 .1 .0 .1 .1 .0 .1 .0 .1)
 
-parents : (c : tie.Else2) → HeldEls (start c .args .app .parents)
-parents c = let e1 = c .before .before in held-els _ (long-parents (start c)) (told (e1 .before .is-too-long .ensures) (e1 .if1 .left))
-
-args : (c : tie.Else2) → HeldEls (start c .args .app .args)
-args c = held-els _ (long-args (start c)) (told (c .before .is-too-long2 .ensures) (c .if2 .left))
-
-fits : (c : tie.Else2) → let x = start c .args .app in (tooLong (elsOf (x .parents)) || tooLong (elsOf (x .args))) ≡ false
-fits c = or-neither (parents c .short) (args c .short)
-
-given : (c : tie.Else2) → let x = start c .args .app in givenFuncApp x ≡ funcAppOf x
+-- both lists are held as they were given unless one is too long
+given : (c : tie.Start) → let x = c .args .app in (tooLong (givenEls (x .parents)) || tooLong (givenEls (x .args))) ≡ false → givenFuncApp x ≡ funcAppOf x
 given c =
-    let x = start c .args .app in
-    λ i. record { func = x .func .0; parents = parents c .same i; args = args c .same i; result = x .result .0 }
+    let x = c .args .app in
+    both-held (λ ps xs. func-app (x .func .0) ps xs (x .result .0)) (x .parents) (x .args) (long-parents c) (long-args c)
 
--- what the application meets in the table
-abbrev applied : tie.Start → Applied
-applied c =
-    let s = c .args .structure in
-    insertFuncAppOrEquate (funcAppOf (c .args .app)) (linksOf (s .unification)) (pairsOf (s .«pending_equalities»)) (funcAppsOf (s .«func_apps»))
+-- the causes behind the first
+abbrev later : Sig → model.Structure → model.FuncApp → List Cause
+later g s x = undeclared if not (appDeclared g s x) ∷ reserved if isReserved g (x .func) ∷ noRoom if appliedTo s x .full ∷ []
 
-as-given : (c : tie.Else2) {o : Outcome Bool model.Structure} → let a = start c .args in
-    o ≡ applyWith (applied (start c)) (sigOf (a .signature)) (structureOf (a .structure)) (funcAppOf (a .app))
-    → o ≡ applyFunc (sigOf (a .signature)) (structureOf (a .structure)) (givenFuncApp (a .app))
-unfolding applyFunc
-as-given c e = let a = start c .args in e ∙ ap (applyFunc (sigOf (a .signature)) (structureOf (a .structure))) (sym (given c))
+-- the verdict, as the causes decide it
+so-far : (c : tie.After-refuse-if4) → let a = start c .args in
+    SoFar (verdictOf (c .refuse-if4 .result)) (applicationCauses (sigOf (a .signature)) (structureOf (a .structure)) (givenFuncApp (a .app)))
+unfolding applicationCauses
+so-far c =
+    let a = start c .args in
+    let third = c .before in
+    let second = third .before .before in
+    let first = second .before in
+    let either = first .before .before in
+    let long-list = either .or .ensures ∙ (λ i. either .before .before .is-too-long .ensures i || either .before .is-too-long2 .ensures i) in
+    let s1 = judge malformed begin (first .refuse-if .ensures) long-list in
+    let s2 = judge undeclared s1 (second .refuse-if2 .ensures) (ap not (first .before .app-is-declared .ensures)) in
+    let s3 = judge reserved s2 (third .refuse-if3 .ensures) (third .before .is-reserved .ensures) in
+    let met = made c .insert-func-app-or-equate in
+    let s4 = judge noRoom s3 (c .refuse-if4 .ensures) (met-full (a .structure) (met .result) _ (met .ensures)) in
+    record {
+      is = s4 .is ∙ behind malformed _ (givenFuncApp (a .app)) (funcAppOf (a .app)) (later (sigOf (a .signature)) (structureOf (a .structure))) (given (start c));
+    }
 
-app-is-declared-requires : tie.Need-app-is-declared-requires
-app-is-declared-requires c κs = search needs
+returns : tie.Need-returns
+unfolding rule applicationRule
+returns c = c .refuse .ensures _ ∙ step-refuses _ _ (so-far (c .before .before .before .before)) _ (ap verdictOf (c .before .before .verdict .given .1))
 
-refuse-answer-requires-3 : tie.Need-refuse-answer-requires-3
-refuse-answer-requires-3 c κs = search needs
-
-returns-3 : tie.Need-returns-3
-unfolding applyWith
-returns-3 c =
-    let e2 = c .before .before .before in
-    let applies = fails (c .before .before .app-is-declared .ensures) (c .before .if3 .taken) in
-    as-given e2 (judged (on (fits e2) (stops (not-false applies) (c .refuse-answer3 .ensures))))
-
-declared : (c : tie.Else3) → let a = start (c .before .before) .args in
-    not (appDeclared (sigOf (a .signature)) (structureOf (a .structure)) (funcAppOf (a .app))) ≡ false
-declared c = not-true (holds (c .before .app-is-declared .ensures) (c .if3 .left))
-
-is-reserved-requires : tie.Need-is-reserved-requires
-is-reserved-requires c κs = search needs
-
-refuse-answer-requires-4 : tie.Need-refuse-answer-requires-4
-refuse-answer-requires-4 c κs = search needs
-
-returns-4 : tie.Need-returns-4
-unfolding applyWith
-returns-4 c =
-    let e3 = c .before .before .before in
-    let e2 = e3 .before .before in
-    let applies = told (c .before .before .is-reserved .ensures) (c .before .if4 .taken) in
-    as-given e2 (judged (on (fits e2) (on (declared e3) (stops applies (c .refuse-answer4 .ensures)))))
-
-free : (c : tie.Else4) → let a = start (c .before .before .before .before) .args in isReserved (sigOf (a .signature)) (a .app .func .0) ≡ false
-free c = told (c .before .is-reserved .ensures) (c .if4 .left)
-
-insert-func-app-or-equate-requires : tie.Need-insert-func-app-or-equate-requires
-insert-func-app-or-equate-requires c κs = search needs
-
-refuse-answer-requires-5 : tie.Need-refuse-answer-requires-5
-refuse-answer-requires-5 c κs = search needs
-
-returns-5 : tie.Need-returns-5
-unfolding applyWith
-returns-5 c =
-    let made = c .before .before in
-    let e4 = made .before .before .before .before in
-    let e2 = e4 .before .before .before .before in
-    let app = made .insert-func-app-or-equate in
-    let full = met-full (start e2 .args .structure) (app .result) _ (app .ensures) in
-    as-given e2 (judged (on (fits e2) (on (declared (e4 .before .before)) (on (free e4)
-    (stops (told full (c .before .if5 .taken)) (c .refuse-answer5 .ensures))))))
+enum-told : tie.Need-enum-told
+enum-told c = search needs
 
 accept-requires : tie.Need-accept-requires
 accept-requires c κs = search needs
 
-returns-6 : tie.Need-returns-6
-unfolding applyWith
-returns-6 c =
-    let e5 = c .before .before .before .before in
-    let made = e5 .before in
-    let e4 = made .before .before .before .before in
-    let e2 = e4 .before .before .before .before in
-    let s = start e2 .args .structure in
-    let r = made .insert-func-app-or-equate .result in
-    let is = made .insert-func-app-or-equate .ensures in
-    let room = told (met-full s r _ is) (e5 .if5 .left) in
-    let after = long _ (r .unification .links) _ (made .insert-func-app-or-equate .ok .1 .1 .0 .1 .1 .0 .1 .0 .1) in
-    as-given e2 (judged (on (fits e2) (on (declared (e4 .before .before)) (on (free e4) (on room
-    (ends (applies s r _ is (many-marks (start e2)) (many-links (start e2)) after room (c .accept .ensures))))))))
+returns-2 : tie.Need-returns-2
+unfolding rule applicationRule applicationCauses acceptance
+returns-2 c =
+    let asked = c .before .before .before .before in
+    let judged = asked .before .before in
+    let s = start judged .args .structure in
+    let r = made judged .insert-func-app-or-equate .result in
+    let after = long _ (r .unification .links) _ (made judged .insert-func-app-or-equate .ok .1 .1 .0 .1 .1 .0 .1 .0 .1) in
+    held-accepts apply-func _ (so-far judged) (ap verdictOf (asked .enum-told .given .1)) (λ none. given (start judged) (none .0)) (λ none.
+    applies s r _ (made judged .insert-func-app-or-equate .ensures) (many-marks (start judged)) (many-links (start judged)) after (none .1 .1 .1 .0) _
+    (c .accept .ensures _))
 
 pub insert-func-app-or-equate-spec : {M : Type 1} → statement M
 insert-func-app-or-equate-spec =
     tie.close
     (tie.spec
-    is-too-long-requires
-    refuse-answer-requires
-    returns
-    is-too-long-requires-2
-    refuse-answer-requires-2
-    returns-2
-    app-is-declared-requires
-    refuse-answer-requires-3
-    returns-3
-    is-reserved-requires
-    refuse-answer-requires-4
-    returns-4
     insert-func-app-or-equate-requires
-    refuse-answer-requires-5
-    returns-5
+    is-too-long-requires
+    is-too-long-requires-2
+    or-requires
+    app-is-declared-requires
+    refuse-if-requires
+    refuse-if-requires-2
+    is-reserved-requires
+    refuse-if-requires-3
+    refuse-if-requires-4
+    enum-known-verdict
+    refuse-requires
+    returns
+    enum-told
     accept-requires
-    returns-6)
+    returns-2)

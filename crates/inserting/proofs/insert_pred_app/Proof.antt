@@ -1,58 +1,66 @@
 -- `insert_pred_app` meets its contract.
-use mathlib.Core.Path.{_≡_, sym, ap, _∙_}
-use mathlib.Core.Bool.{Bool, true, false, not, _&&_, _||_}
+use mathlib.Core.Path.{_≡_, ap, _∙_}
+use mathlib.Core.Bool.{false, not, _&&_, _||_}
+use mathlib.Core.List.{List, [], _∷_}
 use lib.ListN.{length}
-use Rattle.ids.specs.Answers.{Outcome}
+use lib.Dec.{leb}
+use Rattle.ids.specs.Answers.{Cause, _if_, malformed, undeclared, noRoom}
 use Rattle.ids.specs.Limits.{maxList}
-use Rattle.ids.specs.Ids.{elsOf, tooLong}
-use Rattle.ids.specs.Table.{Grown}
-use Rattle.ids.proofs.Answers.{not-true, not-false, and-left, and-both, or-left, or-neither}
-use Rattle.ids.proofs.Judging.{judged, stops, on, ends}
-use Rattle.ids.proofs.Lists.{HeldEls, held-els}
+use Rattle.ids.specs.Ids.{tooLong, givenEls}
+use Rattle.ids.specs.Judge.{verdictOf}
+use Rattle.ids.specs.Table.{Insertion, present}
+use Rattle.ids.proofs.Judging.{SoFar, begin, judge, behind}
+use Rattle.ids.proofs.Tables.{insert-needs, insert-made}
 use Rattle.ids.proofs.Views.{long}
-use Rattle.signature.specs.Model.{sigOf}
-use Rattle.ids.proofs.Tests.{told, holds, fails, and-then, or-then}
+use Rattle.signature.specs.Model.{Sig, sigOf}
 use Rattle.semantics.specs.Structure as model
-use Rattle.semantics.specs.Structure.{comparePredApp, maxPredApps, with-pred-apps}
-use Rattle.semantics.specs.Calls.{areEls, isPred, applyPred}
+use Rattle.semantics.specs.Structure.{pred-app, comparePredApp, maxPredApps, with-pred-apps}
+use Rattle.semantics.specs.Calls.{predicationCauses, withPredApp, apply-pred, says, rule, acceptance}
+use Rattle.semantics.proofs.Judged.{step-refuses}
 use Rattle.apps.specs.View.{predAppOf}
 use Rattle.structure.specs.View.{structureOf}
-use Rattle.inserting.specs.View.{givenPredApp}
-use Rattle.ids.proofs.Tables.{insert-needs, insert-made}
 use Rattle.structure.proofs.Laws.{accepts}
+use Rattle.inserting.specs.View.{givenPredApp, predAppDeclared}
+use Rattle.inserting.proofs.Laws.{both-held, held-accepts}
 use borrow.Author.Needs.{needs}
 use Rattle.inserting.proofs.insert_pred_app.Statement.{statement}
 use Rattle.inserting.proofs.insert_pred_app.Tie as tie
 
+insert-requires : tie.Need-insert-requires
+insert-requires c κs = search needs
+
 is-too-long-requires : tie.Need-is-too-long-requires
 is-too-long-requires c κs = search needs
-
-refuse-answer-requires : tie.Need-refuse-answer-requires
-refuse-answer-requires c κs = search needs
-
-returns : tie.Need-returns
-unfolding applyPred
-returns c =
-    let applies = told (c .before .before .is-too-long .ensures) (c .before .if1 .taken) in
-    judged (stops (or-left _ applies) (c .refuse-answer .ensures))
 
 is-too-long-requires-2 : tie.Need-is-too-long-requires-2
 is-too-long-requires-2 c κs = search needs
 
-refuse-answer-requires-2 : tie.Need-refuse-answer-requires-2
-refuse-answer-requires-2 c κs = search needs
+or-requires : tie.Need-or-requires
+or-requires c κs = search needs
 
-returns-2 : tie.Need-returns-2
-unfolding applyPred
-returns-2 c =
-    let e1 = c .before .before .before in
-    let applies = told (c .before .before .is-too-long2 .ensures) (c .before .if2 .taken) in
-    judged (stops (or-then (told (e1 .before .is-too-long .ensures) (e1 .if1 .left)) applies) (c .refuse-answer2 .ensures))
+pred-app-is-declared-requires : tie.Need-pred-app-is-declared-requires
+pred-app-is-declared-requires c κs = search needs
 
--- Both lists are held as they were given.
+refuse-if-requires : tie.Need-refuse-if-requires
+refuse-if-requires c κs = search needs
 
-abbrev start : tie.Else2 → tie.Start
-start c = c .before .before .before .before .before .before
+refuse-if-requires-2 : tie.Need-refuse-if-requires-2
+refuse-if-requires-2 c κs = search needs
+
+refuse-if-requires-3 : tie.Need-refuse-if-requires-3
+refuse-if-requires-3 c κs = search needs
+
+enum-known-verdict : tie.Need-enum-known-verdict
+enum-known-verdict c = search needs
+
+refuse-requires : tie.Need-refuse-requires
+refuse-requires c κs = search needs
+
+abbrev made : tie.After-refuse-if3 → tie.After-insert
+made c = c .before .before .before .before .before .before .before
+
+abbrev start : tie.After-refuse-if3 → tie.Start
+start c = made c .before .before .before .before
 
 long-parents : (c : tie.Start) → length (c .args .app .parents .ids) ≡ maxList
 long-parents c = long _ (c .args .app .parents .ids) _ (c .good .1 .1 .0 .1 .1 .1 .0 .1 .1 .0 .1 .0 .1)
@@ -60,134 +68,69 @@ long-parents c = long _ (c .args .app .parents .ids) _ (c .good .1 .1 .0 .1 .1 .
 long-args : (c : tie.Start) → length (c .args .app .args .ids) ≡ maxList
 long-args c = long _ (c .args .app .args .ids) _ (c .good .1 .1 .0 .1 .1 .1 .1 .0 .1 .1 .0 .1 .0 .1)
 
-parents : (c : tie.Else2) → HeldEls (start c .args .app .parents)
-parents c = let e1 = c .before .before in held-els _ (long-parents (start c)) (told (e1 .before .is-too-long .ensures) (e1 .if1 .left))
+-- both lists are held as they were given unless one is too long
+given : (c : tie.Start) → let x = c .args .app in (tooLong (givenEls (x .parents)) || tooLong (givenEls (x .args))) ≡ false → givenPredApp x ≡ predAppOf x
+given c = let x = c .args .app in both-held (pred-app (x .pred .0)) (x .parents) (x .args) (long-parents c) (long-args c)
 
-args : (c : tie.Else2) → HeldEls (start c .args .app .args)
-args c = held-els _ (long-args (start c)) (told (c .before .is-too-long2 .ensures) (c .if2 .left))
+-- the causes behind the first
+abbrev later : Sig → model.Structure → model.PredApp → List Cause
+later g s x =
+    undeclared if not (predAppDeclared g s x)
+    ∷ noRoom if (not (present comparePredApp x (s .pred-apps)) && leb maxPredApps (length (s .pred-apps)))
+    ∷ []
 
-fits : (c : tie.Else2) → let x = start c .args .app in (tooLong (elsOf (x .parents)) || tooLong (elsOf (x .args))) ≡ false
-fits c = or-neither (parents c .short) (args c .short)
+-- the verdict, as the causes decide it
+so-far : (c : tie.After-refuse-if3) → let a = start c .args in
+    SoFar (verdictOf (c .refuse-if3 .result)) (predicationCauses (sigOf (a .signature)) (structureOf (a .structure)) (givenPredApp (a .app)))
+unfolding predicationCauses
+so-far c =
+    let a = start c .args in
+    let first = c .before .before in
+    let either = first .before .before in
+    let long-list = either .or .ensures ∙ (λ i. either .before .before .is-too-long .ensures i || either .before .is-too-long2 .ensures i) in
+    let full = ap (λ (r : Insertion model.PredApp). r .full) (made c .insert .ensures .0) ∙ insert-needs _ _ _ _ in
+    let s1 = judge malformed begin (first .refuse-if .ensures) long-list in
+    let s2 = judge undeclared s1 (c .before .refuse-if2 .ensures) (ap not (first .before .pred-app-is-declared .ensures)) in
+    let s3 = judge noRoom s2 (c .refuse-if3 .ensures) full in
+    record {
+      is = s3 .is ∙ behind malformed _ (givenPredApp (a .app)) (predAppOf (a .app)) (later (sigOf (a .signature)) (structureOf (a .structure))) (given (start c));
+    }
 
-given : (c : tie.Else2) → let x = start c .args .app in givenPredApp x ≡ predAppOf x
-given c = λ i. record { pred = start c .args .app .pred .0; parents = parents c .same i; args = args c .same i }
+returns : tie.Need-returns
+unfolding rule
+returns c = c .refuse .ensures _ ∙ step-refuses _ _ (so-far (c .before .before .before .before)) _ (ap verdictOf (c .before .before .verdict .given .1))
 
-as-given : (c : tie.Else2) {o : Outcome Bool model.Structure} → let a = start c .args in
-    o ≡ applyPred (sigOf (a .signature)) (structureOf (a .structure)) (predAppOf (a .app))
-    → o ≡ applyPred (sigOf (a .signature)) (structureOf (a .structure)) (givenPredApp (a .app))
-as-given c e = let a = start c .args in e ∙ ap (applyPred (sigOf (a .signature)) (structureOf (a .structure))) (sym (given c))
-
-is-pred-requires : tie.Need-is-pred-requires
-is-pred-requires c κs = search needs
-
-refuse-answer-requires-3 : tie.Need-refuse-answer-requires-3
-refuse-answer-requires-3 c κs = search needs
-
-returns-3 : tie.Need-returns-3
-unfolding applyPred
-returns-3 c =
-    let e2 = c .before .before .before in
-    let applies = fails (c .before .before .is-pred .ensures) (c .before .if3 .taken) in
-    as-given e2 (judged (on (fits e2) (stops (not-false (and-left _ applies)) (c .refuse-answer3 .ensures))))
-
-pred : (c : tie.Else3) → let a = start (c .before .before) .args in isPred (sigOf (a .signature)) (a .app .pred .0) ≡ true
-pred c = holds (c .before .is-pred .ensures) (c .if3 .left)
-
-are-els-requires : tie.Need-are-els-requires
-are-els-requires c κs = search needs
-
-refuse-answer-requires-4 : tie.Need-refuse-answer-requires-4
-refuse-answer-requires-4 c κs = search needs
-
-returns-4 : tie.Need-returns-4
-unfolding applyPred
-returns-4 c =
-    let e3 = c .before .before .before in
-    let e2 = e3 .before .before in
-    let applies = fails (c .before .before .are-els .ensures) (c .before .if4 .taken) in
-    as-given e2 (judged (on (fits e2) (stops (not-false (and-then (pred e3) (and-left _ applies))) (c .refuse-answer4 .ensures))))
-
-els : (c : tie.Else4) → let a = start (c .before .before .before .before) .args in areEls (structureOf (a .structure)) (elsOf (a .app .parents)) ≡ true
-els c = holds (c .before .are-els .ensures) (c .if4 .left)
-
-are-els-requires-2 : tie.Need-are-els-requires-2
-are-els-requires-2 c κs = search needs
-
-refuse-answer-requires-5 : tie.Need-refuse-answer-requires-5
-refuse-answer-requires-5 c κs = search needs
-
-returns-5 : tie.Need-returns-5
-unfolding applyPred
-returns-5 c =
-    let e4 = c .before .before .before in
-    let e3 = e4 .before .before in
-    let e2 = e3 .before .before in
-    let applies = fails (c .before .before .are-els2 .ensures) (c .before .if5 .taken) in
-    as-given e2 (judged (on (fits e2) (stops (not-false (and-then (pred e3) (and-then (els e4) applies))) (c .refuse-answer5 .ensures))))
-
-abbrev e2 : tie.Else5 → tie.Else2
-e2 c = c .before .before .before .before .before .before
-
--- the predicate and all elements are there
-declared : (c : tie.Else5) → let a = start (e2 c) .args in
-    not (isPred (sigOf (a .signature)) (a .app .pred .0)
-    && (areEls (structureOf (a .structure)) (elsOf (a .app .parents)) && areEls (structureOf (a .structure)) (elsOf (a .app .args)))) ≡ false
-declared c =
-    let e4 = c .before .before in
-    not-true (and-both (pred (e4 .before .before)) (and-both (els e4) (holds (c .before .are-els2 .ensures) (c .if5 .left))))
-
-insert-requires : tie.Need-insert-requires
-insert-requires c κs = search needs
-
-refuse-answer-requires-6 : tie.Need-refuse-answer-requires-6
-refuse-answer-requires-6 c κs = search needs
-
-returns-6 : tie.Need-returns-6
-unfolding applyPred
-returns-6 c =
-    let made = c .before .before in
-    let e5 = made .before .before in
-    let full = ap (λ (g : Grown model.PredApp). g .full) (made .insert .ensures .0) in
-    let applies = sym (insert-needs _ _ _ _) ∙ told full (c .before .if6 .taken) in
-    as-given (e2 e5) (judged (on (fits (e2 e5)) (on (declared e5) (stops applies (c .refuse-answer6 .ensures)))))
+enum-told : tie.Need-enum-told
+enum-told c = search needs
 
 accept-requires : tie.Need-accept-requires
 accept-requires c κs = search needs
 
-returns-7 : tie.Need-returns-7
-unfolding applyPred
-returns-7 c =
-    let e6 = c .before .before in
-    let made = e6 .before in
-    let e5 = made .before .before in
-    let a = start (e2 e5) .args in
-    let full = told (ap (λ (g : Grown model.PredApp). g .full) (made .insert .ensures .0)) (e6 .if6 .left) in
-    let grown = made .insert .ensures .0 ∙ insert-made comparePredApp _ maxPredApps _ full in
-    as-given (e2 e5) (judged (on (fits (e2 e5)) (on (declared e5) (on (sym (insert-needs _ _ _ _) ∙ full)
-    (ends (accepts (ap (λ (g : Grown model.PredApp). g .grew) grown) (c .accept .ensures)
-    (λ i. with-pred-apps (grown i .items) (structureOf (a .structure)))))))))
+returns-2 : tie.Need-returns-2
+unfolding rule predicationCauses acceptance withPredApp
+returns-2 c =
+    let asked = c .before .before in
+    let judged = asked .before .before in
+    let s = start judged .args .structure in
+    held-accepts apply-pred _ (so-far judged) (ap verdictOf (asked .enum-told .given .1)) (λ none. given (start judged) (none .0)) (λ none.
+    let grown = made judged .insert .ensures .0 ∙ insert-made comparePredApp _ maxPredApps _ (insert-needs _ _ _ _ ∙ none .1 .1 .0) in
+    accepts _ (c .accept .ensures _) (λ i. says (grown i .grew)) (λ i. with-pred-apps (grown i .items) (structureOf s)))
 
 pub insert-pred-app-spec : {M : Type 1} → statement M
 insert-pred-app-spec =
     tie.close
     (tie.spec
-    is-too-long-requires
-    refuse-answer-requires
-    returns
-    is-too-long-requires-2
-    refuse-answer-requires-2
-    returns-2
-    is-pred-requires
-    refuse-answer-requires-3
-    returns-3
-    are-els-requires
-    refuse-answer-requires-4
-    returns-4
-    are-els-requires-2
-    refuse-answer-requires-5
-    returns-5
     insert-requires
-    refuse-answer-requires-6
-    returns-6
+    is-too-long-requires
+    is-too-long-requires-2
+    or-requires
+    pred-app-is-declared-requires
+    refuse-if-requires
+    refuse-if-requires-2
+    refuse-if-requires-3
+    enum-known-verdict
+    refuse-requires
+    returns
+    enum-told
     accept-requires
-    returns-7)
+    returns-2)

@@ -10,9 +10,6 @@ use Rattle.lines.specs.View.{lineOf}
 use Rattle.pages.proofs.Laws.{none-put, one-put, all-put}
 use Rattle.pages.proofs.put_line.Statement.{statement}
 use Rattle.pages.proofs.put_line.Tie as tie
-use Rattle.pages.proofs.put_line.Reads as reads
-use Rattle.pages.proofs.put_line.Lts as lts
-use Rattle.lines.proofs.Line.size.Reads as size-reads
 
 abbrev Inv-loop : tie.InvT-loop
 Inv-loop text₀ n line size i₀ text i =

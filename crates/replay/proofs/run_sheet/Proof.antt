@@ -1,5 +1,6 @@
 -- `run_sheet` is safe and ends.
 use Prim.Native.Nat.{_-_}
+use Rattle.sheet.specs.Pieces.{maxPieces}
 use borrow.Author.Needs.{needs}
 use Rattle.replay.proofs.run_sheet.Statement.{statement}
 use Rattle.replay.proofs.run_sheet.Tie as tie
@@ -8,7 +9,7 @@ abbrev Inv-loop : tie.InvT-loop
 Inv-loop bytes text₀ n length dumps progress₀ at₀ i₀ text progress at i = Unit {0}
 
 abbrev μ-loop : tie.MeasureT-loop
-μ-loop bytes text₀ n length dumps progress₀ at₀ i₀ text progress at i = 264193 - i
+μ-loop bytes text₀ n length dumps progress₀ at₀ i₀ text progress at i = maxPieces - i
 
 start-requires : tie.Need-start-requires Inv-loop μ-loop
 start-requires c κs = search needs

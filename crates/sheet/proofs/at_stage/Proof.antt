@@ -1,7 +1,7 @@
 -- `at_stage` meets its contract.
 use Rattle.ids.proofs.Lists.{as-held}
 use Rattle.sheet.proofs.Laws.{unlisted}
-use Rattle.carrying.specs.View.{machineOf}
+use Rattle.structure.specs.View.{machineOf}
 use borrow.Author.Needs.{needs}
 use Rattle.sheet.proofs.at_stage.Statement.{statement}
 use Rattle.sheet.proofs.at_stage.Tie as tie

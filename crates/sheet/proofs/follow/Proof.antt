@@ -1,6 +1,6 @@
 -- `follow` meets its contract.
 use Rattle.sheet.proofs.Laws.{follows-end, follows-on}
-use Rattle.carrying.specs.View.{machineOf}
+use Rattle.structure.specs.View.{machineOf}
 use borrow.Author.Needs.{needs}
 use Rattle.sheet.proofs.follow.Statement.{statement}
 use Rattle.sheet.proofs.follow.Tie as tie

@@ -1,5 +1,5 @@
 -- `unification::root_value` meets its contract: a walk of its MIR, by hand. The local table is lent to `root` for a lifetime that is
--- made for the call, and comes back at the last value that `root` left.
+-- made for the call, and comes back at the last value that `root` gave it.
 -- All that the proof knows of `root` is that it meets its contract.
 -- Assumes nothing.
 use mathlib.Core.Path.{_≡_, refl, ap}

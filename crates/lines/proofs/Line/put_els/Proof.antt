@@ -1,4 +1,4 @@
--- `Line::put_els` meets its contract. What is left of the list is still to be added, and each number takes few bytes.
+-- `Line::put_els` meets its contract. The rest of the list is still to be added, and each number takes few bytes.
 use mathlib.Core.Path.{_≡_, refl, sym, ap, _∙_}
 use mathlib.Core.List.{List, [], _∷_}
 use Prim.Native.Nat.{ℕ, _+_, _-_, _*_, _≤_, _<_}

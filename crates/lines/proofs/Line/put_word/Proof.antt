@@ -1,4 +1,4 @@
--- `Line::put_word` meets its contract. What is left of the word is still to be added.
+-- `Line::put_word` meets its contract. The rest of the word is still to be added.
 use mathlib.Core.Path.{_≡_, refl}
 use mathlib.Core.List.{[], _∷_}
 use Prim.Native.Nat.{_-_, _≤_, _<_}

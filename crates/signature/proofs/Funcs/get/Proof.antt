@@ -1,6 +1,6 @@
 -- `Funcs::get` meets its contract.
 use mathlib.Core.Path.{_∙_}
-use Rattle.signature.specs.Model.{noFunc, funcOf}
+use Rattle.signature.specs.Model.{func-entry, noFunc, funcOf}
 use Rattle.ids.proofs.Counted.{get-at, get-past}
 use borrow.Author.Needs.{needs}
 use Rattle.signature.proofs.Funcs.get.Statement.{statement}
@@ -19,7 +19,7 @@ returns : tie.Need-returns
 returns c =
     let sized = c .before .before .before .before in
     let t = sized .before .args .t1 in
-    (λ k. record { parents = c .before .new .ensures k; domain = c .new2 .ensures k; codomain = 0 })
+    (λ k. func-entry (c .before .new .ensures k) (c .new2 .ensures k) 0)
     ∙ get-past funcOf (t .len) (t .items) (sized .size .ensures) (sized .before .args .id .0) noFunc (c .before .before .if1 .taken)
 
 cast-at : tie.Need-cast-at

@@ -1,6 +1,6 @@
 -- `Preds::get` meets its contract.
 use mathlib.Core.Path.{_∙_}
-use Rattle.signature.specs.Model.{noPred, predOf}
+use Rattle.signature.specs.Model.{pred-entry, noPred, predOf}
 use Rattle.ids.proofs.Counted.{get-at, get-past}
 use borrow.Author.Needs.{needs}
 use Rattle.signature.proofs.Preds.get.Statement.{statement}
@@ -19,7 +19,7 @@ returns : tie.Need-returns
 returns c =
     let sized = c .before .before .before .before in
     let t = sized .before .args .t1 in
-    (λ k. record { parents = c .before .new .ensures k; arity = c .new2 .ensures k })
+    (λ k. pred-entry (c .before .new .ensures k) (c .new2 .ensures k))
     ∙ get-past predOf (t .len) (t .items) (sized .size .ensures) (sized .before .args .id .0) noPred (c .before .before .if1 .taken)
 
 cast-at : tie.Need-cast-at

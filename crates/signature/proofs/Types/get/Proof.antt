@@ -1,6 +1,6 @@
 -- `Types::get` meets its contract.
 use mathlib.Core.Path.{_∙_}
-use Rattle.signature.specs.Model.{plain, noType, typeOf}
+use Rattle.signature.specs.Model.{plain, type-entry, noType, typeOf}
 use Rattle.ids.proofs.Counted.{get-at, get-past}
 use borrow.Author.Needs.{needs}
 use Rattle.signature.proofs.Types.get.Statement.{statement}
@@ -16,7 +16,7 @@ returns : tie.Need-returns
 returns c =
     let sized = c .before .before .before in
     let t = sized .before .args .t1 in
-    (λ k. record { kind = plain; parents = c .new .ensures k })
+    (λ k. type-entry plain (c .new .ensures k))
     ∙ get-past typeOf (t .len) (t .items) (sized .size .ensures) (sized .before .args .id .0) noType (c .before .if1 .taken)
 
 cast-at : tie.Need-cast-at

@@ -69,8 +69,8 @@ so-far c =
     let s3 = judge noAmbient s2 (c .refuse-if3 .ensures) (ap not (looked c .ambient-els .ensures .0)) in
     record {
       is = s3 .is ∙ as-given malformed (givenTypes (a .types)) (typesOf (a .types)) (λ ts.
-        undeclared if not (areTypes (sigOf (a .signature)) ts) ∷ noAmbient if not (haveAmbients ts (structureOf (a .self) .ambients)) ∷ [])
-        (held-types (a .types) (long-types (start c)));
+          undeclared if not (areTypes (sigOf (a .signature)) ts) ∷ noAmbient if not (haveAmbients ts (structureOf (a .self) .ambients)) ∷ [])
+          (held-types (a .types) (long-types (start c)));
     }
 
 returns : tie.Need-returns

@@ -1,16 +1,17 @@
 -- `Structure::root` meets its contract.
-use mathlib.Core.Path.{_≡_, ap, _∙_}
+use mathlib.Core.Path.{_≡_, refl, ap, _∙_}
 use mathlib.Core.List.{List}
 use Prim.Native.Nat.{ℕ}
 use lib.ListN.{length}
 use Rattle.ids.specs.Answers.{Outcome}
 use Rattle.ids.proofs.Views.{long}
+use Rattle.unification.specs.Roots as roots
 use Rattle.unification.specs.Roots.{maxEls, linksOf, FindM}
 use Rattle.unification.proofs.Beside.{kept}
 use Rattle.semantics.specs.Structure.{with-links, with-marks}
-use Rattle.semantics.specs.Calls.{answers, machine}
+use Rattle.semantics.specs.Calls.{answers, machine, rule}
 use Rattle.structure.specs.View.{structureOf}
-use Rattle.structure.proofs.Laws.{finding, root-steps, root-length}
+use Rattle.structure.proofs.Laws.{finding, find-steps, root-length}
 use borrow.Author.Needs.{needs}
 use Rattle.structure.proofs.Structure.root.Statement.{statement}
 use Rattle.structure.proofs.Structure.root.Tie as tie
@@ -27,6 +28,7 @@ root-requires : tie.Need-root-requires
 root-requires c κs = search needs
 
 returns : tie.Need-returns
+unfolding rule roots.root
 returns c =
     let start = c .before .before .before in
     let s = start .args .self in
@@ -37,7 +39,7 @@ returns c =
     ap (λ (o : Outcome FindM (List ℕ)). length (o .after)) found ∙ root-length _ _ in
     let marked = kept (s .unification) v _ (many-marks start) (many-links start) after many in
     let answer = finding (c .before .root .result .find) (ap (λ (o : Outcome FindM (List ℕ)). o .answer) found) in
-    λ g. (λ i. answers (answer i) (machine g (with-links (found i .after) (with-marks (marked i) (structureOf s))))) ∙ root-steps g (structureOf s) _
+    λ g. (λ i. answers (answer i) (machine g (with-links (found i .after) (with-marks (marked i) (structureOf s))))) ∙ find-steps g (structureOf s) (start .args .el .0) _ _ refl
 
 pub root-spec : {M : Type 1} → statement M
 root-spec = tie.close (tie.spec root-requires returns)
