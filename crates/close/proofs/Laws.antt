@@ -16,7 +16,7 @@ use Rattle.semantics.specs.Structure.{FuncApp, PredApp, maxFacts}
 use Rattle.semantics.specs.Types as types
 use Rattle.semantics.specs.Types.{imposeAll, grew}
 use Rattle.semantics.specs.Close as closing
-use Rattle.semantics.specs.Close.{fuel, turn, rounds-made, isNone, lastRound, oneMore, roundsFrom, CloseRun, imposedAfter, closeRun, reportOf}
+use Rattle.semantics.specs.Close.{fuel, turn, rounds-made, isNone, lastRound, oneMore, roundsFrom, CloseRun, imposedAfter, closeRun, reportOf, close-run}
 use Rattle.semantics.specs.Close.{afterClose}
 use Rattle.semantics.specs.Calls as calls
 use Rattle.semantics.specs.Calls.{machine, answers, closed, rule, closeRule, leaves, acceptance, refusal, stepBy, step}
@@ -25,7 +25,7 @@ use Rattle.apps.specs.View.{funcAppsOf}
 use Rattle.merging.specs.declared.Core.{Core}
 use Rattle.close.specs.declared.Turn.{Turn}
 use Rattle.merging.specs.View.{coreOf, metOf}
-use Rattle.close.specs.View.{Round}
+use Rattle.close.specs.View.{RoundIs}
 
 -- The number first met.
 
@@ -59,7 +59,7 @@ unfolding fuel
 fuel-is = refl
 
 -- a round made, with all that was counted by then
-pub round-made : {g : Sig} {preds : List PredApp} {apps : List FuncApp} {before : Core} (r : Turn) → Round g preds apps before r
+pub round-made : {g : Sig} {preds : List PredApp} {apps : List FuncApp} {before : Core} (r : Turn) → RoundIs g preds apps before r
     → (m a : ℕ) {n b : ℕ} → n ≡ r .merges + m → b ≡ r .added + a
     → turn (coreOf (r .core) n b) (funcAppsOf (r .«func_apps»)) (r .worked) ≡ closing.round g preds apps (coreOf before m a)
 round-made r e m a p q = (λ i. turn (coreOf (r .core) (p i) (q i)) (funcAppsOf (r .«func_apps»)) (r .worked)) ∙ e .is m a
@@ -134,13 +134,13 @@ module _ (g : Sig) (preds : List PredApp) where
 -- A close: r is what the rounds came to, and w what the impositions come to after them.
 
 module _ (g : Sig) (s : model.Structure) (r : closing.Rounds) (w : types.Core)
-    (ran : r ≡ closing.rounds g (s .pred-apps) (s .func-apps) (closing.coreOf s)) (imposed : w ≡ imposeAll (s .impositions) (r .core)) where
+    (ran : r ≡ closing.rounds g (s .pred-apps) (s .func-apps) (closing.coreAtStart s)) (imposed : w ≡ imposeAll (s .impositions) (r .core)) where
   abbrev run : CloseRun
-  run = record { rounds = r; core = w }
+  run = close-run r w
 
   run-is : run ≡ closeRun g s
   unfolding closeRun imposedAfter
-  run-is = (λ i. record { rounds = r; core = imposed i }) ∙ (λ i. imposedAfter (ran i) s)
+  run-is = (λ i. close-run r (imposed i)) ∙ (λ i. imposedAfter (ran i) s)
 
   closes : decided (w .met) (refusal (machine g s)) (acceptance (closeRule run (machine g s))) ≡ step calls.close (machine g s)
   unfolding step stepBy rule closeRule

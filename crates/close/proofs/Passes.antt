@@ -21,7 +21,7 @@ use Rattle.rewriting.specs.declared.Rewritten as code
 use Rattle.merging.specs.View.{coreOf, Passes}
 use Rattle.rewriting.specs.View.{rewrittenOf, nothing}
 use Rattle.typing.specs.Bounds.{allDemands}
-use Rattle.close.specs.View.{Round}
+use Rattle.close.specs.View.{RoundIs}
 use Rattle.merging.proofs.Laws.{counts}
 use Rattle.close.proofs.Laws.{ltb-more, grew-more}
 
@@ -74,7 +74,7 @@ module _ (g : Sig) (preds : List PredApp) where
       (rewrites : rewrittenOf r ≡ enterAll (linksOf (d .core .unification)) apps nothing)
       (demanded : Passes (requeued (d .core) r) t allDemands (imposeAll (demands g (funcAppsOf (r .«func_apps»)) preds))) where
     pub round-is : (worked : Bool) → worked ≡ ((ltb 0 (d .merges) || r .queued) || ltb 0 (t .merges + t .added))
-        → Round g preds apps before
+        → RoundIs g preds apps before
         (record { core = t .core; «func_apps» = r .«func_apps»; merges = d .merges + t .merges; added = d .added + t .added; worked = worked })
     unfolding closing.round passes
     round-is worked e = record {

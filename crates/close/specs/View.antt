@@ -22,7 +22,7 @@ oneRound = maxPairs + allDemands
 abbrev pub turnOf : Turn → ℕ → ℕ → closing.Turn
 turnOf t m a = closing.turn (coreOf (t .core) (t .merges + m) (t .added + a)) (funcAppsOf (t .«func_apps»)) (t .worked)
 
-pub record Round (g : Sig) (preds : List PredApp) (apps : List FuncApp) (before : Core) (r : Turn) : Type 0 where
+pub record RoundIs (g : Sig) (preds : List PredApp) (apps : List FuncApp) (before : Core) (r : Turn) : Type 0 where
   pub is : (m a : ℕ) → turnOf r m a ≡ closing.round g preds apps (coreOf before m a)
   pub merges-most : r .merges ≤ oneRound
   pub added-most : r .added ≤ oneRound
@@ -30,7 +30,7 @@ pub record Round (g : Sig) (preds : List PredApp) (apps : List FuncApp) (before 
 abbrev pub ranOf : Ran → closing.Rounds
 ranOf r = closing.rounds-made (coreOf (r .core) (r .merges) (r .added)) (funcAppsOf (r .«func_apps»)) (r .count)
 
-pub record Rounds (g : Sig) (preds : List PredApp) (apps : List FuncApp) (before : Core) (r : Ran) : Type 0 where
+pub record RoundsAre (g : Sig) (preds : List PredApp) (apps : List FuncApp) (before : Core) (r : Ran) : Type 0 where
   pub is : ranOf r ≡ closing.rounds g preds apps (coreOf before 0 0)
   pub count-most : r .count ≤ suc fuel
   pub merges-most : r .merges ≤ r .count * oneRound

@@ -20,7 +20,7 @@ ghost use Rattle.merging.specs.View.{coreOf, metOf};
 ghost use Rattle.semantics.specs.Calls as calls;
 ghost use Rattle.semantics.specs.Calls.{machine, step};
 ghost use Rattle.structure.specs.View.{structureOf, stepOf};
-ghost use Rattle.close.specs.View.{Round, Rounds};
+ghost use Rattle.close.specs.View.{RoundIs, RoundsAre};
 
 // What a round leaves, what it counted, and whether one of its passes reported work.
 pub struct Turn {
@@ -57,7 +57,7 @@ fn counted(merges: u64, added: u64) -> bool
 
 // Drain, `functionality`, `typing`.
 fn round(core: Core, signature: Signature, preds: PredApps, apps: FuncApps) -> Turn
-    ensures { λ r. ⌜ Round (sigOf signature) (predAppsOf preds) (funcAppsOf apps) core r ⌝ }
+    ensures { λ r. ⌜ RoundIs (sigOf signature) (predAppsOf preds) (funcAppsOf apps) core r ⌝ }
 {
     let drained = core.drain_equalities();
     let mut now = drained.core;
@@ -91,7 +91,7 @@ fn goes_on(worked: bool, met: u16) -> bool
 
 // Rounds until one that is idle or meets a number.
 fn rounds(core: Core, signature: Signature, preds: PredApps, apps: FuncApps) -> Ran
-    ensures { λ r. ⌜ Rounds (sigOf signature) (predAppsOf preds) (funcAppsOf apps) core r ⌝ }
+    ensures { λ r. ⌜ RoundsAre (sigOf signature) (predAppsOf preds) (funcAppsOf apps) core r ⌝ }
 {
     let mut now = core;
     let mut done = apps;
@@ -141,7 +141,7 @@ fn canonicalise_refs(structure: Structure) -> Structure
 
 // The part of a structure that the passes alter.
 fn core_of(structure: Structure) -> Core
-    ensures { λ r. ⌜ coreOf r 0 0 ≡ closing.coreOf (structureOf structure) ⌝ }
+    ensures { λ r. ⌜ coreOf r 0 0 ≡ closing.coreAtStart (structureOf structure) ⌝ }
 {
     let unification = structure.unification;
     let marks = structure.inferred_parent_els;

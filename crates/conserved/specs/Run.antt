@@ -31,7 +31,7 @@ use Rattle.structure.specs.declared.Stepped.{Stepped}
 use Rattle.structure.specs.declared.Machine.{Machine}
 use Rattle.structure.specs.declared.AmbientParents.{AmbientParents}
 use Rattle.structure.specs.declared.Rooting.{Rooting}
-use Rattle.structure.specs.View.{answerOf, foundOf, lookedOf}
+use Rattle.structure.specs.View.{answerOf, foundOf, ambientsLookedOf}
 use Rattle.facts.specs.View.{givenFact}
 use Rattle.inserting.specs.View.{givenFuncApp, givenPredApp}
 use Rattle.declaring.specs.View.{declaredOf}
@@ -108,9 +108,9 @@ pub data Made (v : Machine) : Call → Answer → Machine → Type 0 where
   root-const : (e : ElId) (r : Finding) → root-const-fn.Learnt tt (one v e) r (one v e)
       → Made v (calls.root-const (e .0)) (foundOf r) v
   lookup-type : (t : TypeId) (ps : ElIds) (r : TypeLookup) → lookup-type-fn.Learnt tt (v .signature, (t, (ps, tt))) r (v .signature, (t, (ps, tt)))
-      → Made v (calls.lookup-type (t .0) (givenEls ps)) (lookedUp (givenEls ps) (signing.lookedOf r)) v
+      → Made v (calls.lookup-type (t .0) (givenEls ps)) (lookedUp (givenEls ps) (signing.typeLookedOf r)) v
   ambient-parents : (ts : TypeIds) (r : AmbientParents) → ambient-parents-fn.Learnt tt (both v ts) r (both v ts)
-      → Made v (calls.ambient-parents (givenTypes ts)) (lookedOf (givenEls (r .els)) (r .answer)) v
+      → Made v (calls.ambient-parents (givenTypes ts)) (ambientsLookedOf (givenEls (r .els)) (r .answer)) v
 
 -- A list of calls was made, each on the values that the one before it handed back, and the book was fed with them.
 pub data Run : Machine → Book → List Call → Machine → Book → Type 0 where

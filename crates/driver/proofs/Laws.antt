@@ -15,7 +15,7 @@ use Rattle.ids.proofs.Lists.{given-length}
 use Rattle.signature.specs.declared.Typed.{Typed}
 use Rattle.signature.specs.declared.Typed.the-variants.{At}
 use Rattle.signature.specs.declared.TypeLookup.{TypeLookup}
-use Rattle.signature.specs.Calls.{TypedM, typedOf, lookedOf, lookupType}
+use Rattle.signature.specs.Calls.{TypedM, typedOf, typeLookedOf, lookupType}
 use Rattle.semantics.specs.Calls.{Call, lookup-type, done, typed, concrete-type, leading, Machine, Step, answers, start, step, afterCalls}
 use Rattle.semantics.proofs.Judged.{lookedUp, lookup-steps}
 use Rattle.semantics.specs.Sheet as sheet
@@ -49,9 +49,9 @@ pub all-given : (n len : ℕ) (xs : List ℕ) → len ≤ n → givenOf len xs �
 all-given n len xs h = sym (take-all n (givenOf len xs) (omega (arith, given-length len xs)))
 
 -- the type lookup came out as x
-pub looked-up : (m : Machine) (t : ℕ) (ps : List ℕ) {x y : TypeLookup} → y ≡ x → lookedOf y ≡ lookupType (m .sig) t ps
-    → answers (lookedUp ps (lookedOf x)) m ≡ step (lookup-type t ps) m
-looked-up m t ps e is = ap (λ (x : Answered TypedM). answers (lookedUp ps x) m) (ap lookedOf (sym e) ∙ is) ∙ lookup-steps m t ps
+pub looked-up : (m : Machine) (t : ℕ) (ps : List ℕ) {x y : TypeLookup} → y ≡ x → typeLookedOf y ≡ lookupType (m .sig) t ps
+    → answers (lookedUp ps (typeLookedOf x)) m ≡ step (lookup-type t ps) m
+looked-up m t ps e is = ap (λ (x : Answered TypedM). answers (lookedUp ps x) m) (ap typeLookedOf (sym e) ∙ is) ∙ lookup-steps m t ps
 
 -- what a record of a sheet answers lists no elements
 pub lists-none : (cs : List Conflict) (a : code.Answer) → elsIn (answerOf cs a) ≡ []

@@ -1,4 +1,4 @@
 pub mod Conserved
 pub mod Joined
 pub mod Laws
-pub mod Worked
+pub mod Examples

@@ -25,7 +25,7 @@ use Rattle.semantics.specs.Structure.{Fact, FuncApp, Pair, pair, Structure, com
 use Rattle.semantics.specs.Types.{Core, with-links, with-marks, with-pairs, anyMarked}
 use Rattle.semantics.specs.Valid.{Below}
 use Rattle.semantics.specs.Close as closing
-use Rattle.semantics.specs.Close.{Closed, CloseRun, closeRun, reportOf, afterClose, closeCauses, closeBy, coreOf, fuel}
+use Rattle.semantics.specs.Close.{Closed, CloseRun, closeRun, reportOf, afterClose, closeCauses, closeBy, coreAtStart, fuel}
 use Rattle.semantics.specs.Calls.{isEl, areEls, elCauses, withEl, equate, equalityCauses, withEquality, withImposition, Applied, applied}
 use Rattle.semantics.specs.Calls.{appliedEqual, applyAt, insertFuncAppOrEquate, appliedTo, applicationCauses, withApplied, withPredApp}
 use Rattle.semantics.specs.Calls.{withVar, withAmbient, Call, push-type, push-pred, push-func, push-model, push-mor-app, push-el, equate-els}
@@ -62,7 +62,7 @@ pub record Tied (b : Book) (w : Core) (xs : List FuncApp) : Type 1 where
   pub back : (R : ℕ → ℕ → Type 0) (S : FuncApp → Type 0) → Equivalence R → Respects R S → HoldsOfCore R S w xs → HoldsOfBook R S b
 
 abbrev pub TiedTo : Book → Structure → Type 1
-TiedTo b s = Tied b (coreOf s) (s .func-apps)
+TiedTo b s = Tied b (coreAtStart s) (s .func-apps)
 
 -- other links and marks, with the same roots: no partition tells them apart
 alike-sound : (w : Core) (xs : List FuncApp) (ks : List ℕ) (ms : List Bool) → ((x : ℕ) → rootOf ks x ≡ rootOf (w .links) x)
@@ -281,12 +281,12 @@ module _ (b : Book) (m : Machine) where
 
   pub close-soundly : TiedTo b (m .structure) → run .core .met ≡ none
       → ClosedSoundly (elements b) (roots (m .structure .links)) (m .structure) (afterClose run (m .structure)) (reportOf run)
-  unfolding fuel coreOf
+  unfolding fuel coreAtStart
   close-soundly g =
       run-soundly (elements b) (roots (m .structure .links)) (m .sig) (m .structure) (g .ready) (omega (arith, g .sum, g .small))
 
   close-tied : TiedTo b (m .structure) → run .core .met ≡ none → TiedTo (taken close (reportOf run .merges) b) (afterClose run (m .structure))
-  unfolding taken coreOf
+  unfolding taken coreAtStart
   close-tied g met =
       let z = close-soundly g met in
       record {
@@ -314,7 +314,7 @@ pub record Agreeing (b : Book) (w : Core) (xs : List FuncApp) : Type 1 where
   pub tied : anyMarked (b .marks) ≡ false → Tied b w xs
 
 abbrev pub AgreesWith : Book → Structure → Type 1
-AgreesWith b s = Agreeing b (coreOf s) (s .func-apps)
+AgreesWith b s = Agreeing b (coreAtStart s) (s .func-apps)
 
 module _ (m : Machine) (b : Book) (v : ValidMachine m) (g : AgreesWith b (m .structure)) where
   abbrev s : Structure
@@ -325,17 +325,17 @@ module _ (m : Machine) (b : Book) (v : ValidMachine m) (g : AgreesWith b (m .str
 
   -- an element that is declared is one of the book's
   declared : (e : ℕ) → isEl s e ≡ true → e < elements b
-  unfolding coreOf
+  unfolding coreAtStart
   declared e t = omega (arith, ltb-true e (length ls) t, g .long)
 
   all-declared : (es : List ℕ) → areEls s es ≡ true → Below (elements b) es
-  unfolding coreOf
+  unfolding coreAtStart
   all-declared es t = subst (λ n. Below n es) (g .long) (below-if (length ls) es t)
 
   -- Where no cause applies, what the book takes agrees with the effect.
 
   el-agrees : (mark : Bool) → NoneApplies (elCauses s) → AgreesWith (taken (push-el mark) 0 b) (withEl mark s)
-  unfolding elCauses withEl coreOf taken
+  unfolding elCauses withEl coreAtStart taken
   el-agrees mark clear =
       let more = length-push (b .marks) mark in
       let room = leb-false maxEls (length ls) (clear .0) in
@@ -347,12 +347,12 @@ module _ (m : Machine) (b : Book) (v : ValidMachine m) (g : AgreesWith b (m .str
         };
         tied = λ e.
             let u = unmarked-last (b .marks) mark e in
-            element-tied b (coreOf s) (s .func-apps) mark (g .tied (u .0)) (omega (arith, room, g .long)) (u .1);
+            element-tied b (coreAtStart s) (s .func-apps) mark (g .tied (u .0)) (omega (arith, room, g .long)) (u .1);
       }
 
   equality-agrees : (x y : ℕ) → NoneApplies (equalityCauses s x y)
       → AgreesWith (taken (equate-els x y) 0 b) (withEquality (equate ls (s .pairs) x y) s)
-  unfolding equalityCauses withEquality equate coreOf taken
+  unfolding equalityCauses withEquality equate coreAtStart taken
   equality-agrees x y clear =
       let a = not-false (isEl s x && isEl s y) (clear .0) in
       let hx = declared x (and-first (isEl s x) (isEl s y) a) in
@@ -360,17 +360,17 @@ module _ (m : Machine) (b : Book) (v : ValidMachine m) (g : AgreesWith b (m .str
       record {
         long = short-length (shortOf ls x) y ∙ short-length ls x ∙ g .long;
         named = record { equalities = (record { lhs = hx; rhs = hy }, g .named .equalities); apps = g .named .apps };
-        tied = λ e. equality-tied b (coreOf s) (s .func-apps) x y (g .tied e) hx hy;
+        tied = λ e. equality-tied b (coreAtStart s) (s .func-apps) x y (g .tied e) hx hy;
       }
 
   imposition-agrees : (queued : Bool) (f : Fact) → AgreesWith b (withImposition queued f s)
-  unfolding withImposition coreOf
+  unfolding withImposition coreAtStart
   imposition-agrees true f = g
   imposition-agrees false f = g
 
   application-agrees : (x : FuncApp) → NoneApplies (applicationCauses (m .sig) s x)
       → AgreesWith (taken (apply-func x) 0 b) (withApplied (appliedTo s x) s)
-  unfolding applicationCauses withApplied coreOf taken
+  unfolding applicationCauses withApplied coreAtStart taken
   application-agrees x clear =
       let o = isFunc (m .sig) (x .func) in
       let p = areEls s (x .parents) in
@@ -388,12 +388,12 @@ module _ (m : Machine) (b : Book) (v : ValidMachine m) (g : AgreesWith b (m .str
             g .named .apps,
           );
         };
-        tied = λ e. application-tied b (coreOf s) (s .func-apps) x (g .tied e) hx;
+        tied = λ e. application-tied b (coreAtStart s) (s .func-apps) x (g .tied e) hx;
       }
 
   close-agrees : NoneApplies (closeCauses (closeRun (m .sig) s))
       → AgreesWith (taken close (reportOf (closeRun (m .sig) s) .merges) b) (afterClose (closeRun (m .sig) s) s)
-  unfolding coreOf taken
+  unfolding coreAtStart taken
   close-agrees clear = record {
     long = close-long ∙ g .long;
     named = record { equalities = g .named .equalities; apps = g .named .apps };
@@ -412,15 +412,15 @@ module _ (m : Machine) (b : Book) (v : ValidMachine m) (g : AgreesWith b (m .str
       close-long = sym (ap (λ (o : Outcome Closed Structure). length (o .after .links)) accepts) ∙ close-els (m .sig) s v
 
   root-agrees : (e : ℕ) → NoneApplies (findCauses ls e) → AgreesWith b (structure.with-links (shortOf ls e) s)
-  unfolding findCauses coreOf
+  unfolding findCauses coreAtStart
   root-agrees e clear = record {
     long = short-length ls e ∙ g .long;
     named = g .named;
-    tied = λ u. relinked b (coreOf s) (s .func-apps) e (g .tied u) (omega (arith, leb-false (length ls) e (clear .0), g .long));
+    tied = λ u. relinked b (coreAtStart s) (s .func-apps) e (g .tied u) (omega (arith, leb-false (length ls) e (clear .0), g .long));
   }
 
   effect-agrees : (k : Call) → NoneApplies (rule k m .causes) → AgreesWith (taken k (mergesOf (rule k m .answer)) b) (rule k m .after .structure)
-  unfolding rule equalityRule impositionRule applicationRule closeRule withPredApp withVar withAmbient taken mergesOf coreOf
+  unfolding rule equalityRule impositionRule applicationRule closeRule withPredApp withVar withAmbient taken mergesOf coreAtStart
   effect-agrees (push-type t) clear = g
   effect-agrees (push-pred p) clear = g
   effect-agrees (push-func f) clear = g
@@ -448,6 +448,6 @@ module _ (m : Machine) (b : Book) (v : ValidMachine m) (g : AgreesWith b (m .str
   fed-agrees k =
       step-by k m (FedAgrees k) (λ n q. unfold fed isAccepted in g)
       (λ clear.
-      unfold acceptance leaves coreOf fed in
+      unfold acceptance leaves coreAtStart fed in
       subst (λ (t : Bool). AgreesWith (fed k t (mergesOf (rule k m .answer)) b) (rule k m .after .structure)) (sym (effect-accepted k m))
       (effect-agrees k clear))

@@ -19,7 +19,7 @@ use Rattle.history.proofs.Relation.{Equivalence, OneRoot, one-root, one
 use Rattle.history.proofs.Elements.{Named, restricted, shared-among-all}
 use Rattle.semantics.proofs.Counts.{roots, isRoot, count-alike}
 use Rattle.history.proofs.Drain.{HoldsOfPair}
-use Rattle.history.proofs.Functionality.{Canon, settled-agree, meet-images}
+use Rattle.history.proofs.Functionality.{Canon, canonical-agree, meet-images}
 use Rattle.history.proofs.Passes.{HoldsOfCore}
 use Rattle.history.proofs.Calls.{HoldsOfBook, Tied}
 
@@ -59,7 +59,7 @@ module _ (b : Book) (w : Core) (xs : List FuncApp) (named : Named b) (g : Tied b
     root-holds : HoldsOfBook (OneRoot ls) (Like (OneRoot ls) (In xs)) b
     root-holds =
         g .back (OneRoot ls) (Like (OneRoot ls) (In xs)) (one-root ls)
-        (like-respects (OneRoot ls) (one-root ls) (In xs) (settled-agree ls xs sorted canon))
+        (like-respects (OneRoot ls) (one-root ls) (In xs) (canonical-agree ls xs sorted canon))
         (record {
           rooted = one-rooted ls;
           pairs = subst (All (HoldsOfPair (OneRoot ls))) (sym none) tt;
@@ -71,7 +71,7 @@ module _ (b : Book) (w : Core) (xs : List FuncApp) (named : Named b) (g : Tied b
     root-fits = record {
       equal = all-at (HoldsOfPair (OneRoot ls)) (b .equalities) (root-holds .0);
       functional = λ x y mx my m.
-          like-respects (OneRoot ls) (one-root ls) (In xs) (settled-agree ls xs sorted canon) .agree x y m
+          like-respects (OneRoot ls) (one-root ls) (In xs) (canonical-agree ls xs sorted canon) .agree x y m
           (all-at (Like (OneRoot ls) (In xs)) (b .apps) (root-holds .1) x mx) (all-at (Like (OneRoot ls) (In xs)) (b .apps) (root-holds .1) y my);
     }
 

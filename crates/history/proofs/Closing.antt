@@ -11,7 +11,7 @@ use Rattle.ids.proofs.Sorted.{All, Sorted, no-test}
 use Rattle.signature.specs.Model.{Sig}
 use Rattle.semantics.specs.Structure.{Structure, compareFuncApp, with-flags}
 use Rattle.semantics.specs.Types.{Core, imposeAll}
-use Rattle.semantics.specs.Close.{Rounds, rounds, fuel, Closed, coreOf, canonicaliseRefs, withCore, CloseRun, imposedAfter, closeRun, reportOf}
+use Rattle.semantics.specs.Close.{Rounds, rounds, fuel, Closed, coreAtStart, canonicaliseRefs, withCore, CloseRun, imposedAfter, closeRun, reportOf}
 use Rattle.semantics.specs.Close.{afterClose, closeCauses, closeBy, close}
 use Rattle.semantics.specs.Calls as calls
 use Rattle.semantics.specs.Calls.{closed, Machine, machine, Step, closeRule, acceptance, leaves, settledBy}
@@ -20,7 +20,7 @@ use Rattle.semantics.proofs.Judged.{step-by}
 use Rattle.history.proofs.Functionality.{Canon}
 use Rattle.history.proofs.Imposing.{OnlyFactsGrew}
 use Rattle.history.proofs.Passes.{Ready, Sound, sound-then, Passed, passed-then, grown-passed, unmarked-grown}
-use Rattle.history.proofs.Rounds.{Settled, rounds-law}
+use Rattle.history.proofs.Rounds.{RoundsLeave, rounds-law}
 
 -- a close that no cause refuses met no number
 pub unmet : (c : CloseRun) → NoneApplies (closeCauses c) → c .core .met ≡ none
@@ -67,20 +67,20 @@ closed-step m a =
 
 -- what an accepted close leaves of s, having answered c
 pub record ClosedSoundly (n total : ℕ) (s v : Structure) (c : Closed) : Type 1 where
-  pub ready : Ready n (roots (v .links)) (coreOf v) (v .func-apps)
-  pub sound : Sound (coreOf s) (s .func-apps) (coreOf v) (v .func-apps)
+  pub ready : Ready n (roots (v .links)) (coreAtStart v) (v .func-apps)
+  pub sound : Sound (coreAtStart s) (s .func-apps) (coreAtStart v) (v .func-apps)
   pub pairs : v .pairs ≡ []
   pub sorted : Sorted compareFuncApp (v .func-apps)
   pub canon : All (Canon (v .links)) (v .func-apps)
   pub sum : roots (v .links) + c .merges ≡ total
   pub few : c .rounds ≤ c .merges + 2
 
-module _ (n total : ℕ) (g : Sig) (s : Structure) (ready : Ready n total (coreOf s) (s .func-apps)) (enough : total < fuel) where
+module _ (n total : ℕ) (g : Sig) (s : Structure) (ready : Ready n total (coreAtStart s) (s .func-apps)) (enough : total < fuel) where
   abbrev r : Rounds
-  r = rounds g (s .pred-apps) (s .func-apps) (coreOf s)
+  r = rounds g (s .pred-apps) (s .func-apps) (coreAtStart s)
 
-  settled : Settled n total 0 (coreOf s) (s .func-apps) r
-  settled = rounds-law n total g (s .pred-apps) (s .func-apps) (coreOf s) ready (unfold coreOf in refl) enough
+  settled : RoundsLeave n total 0 (coreAtStart s) (s .func-apps) r
+  settled = rounds-law n total g (s .pred-apps) (s .func-apps) (coreAtStart s) ready (unfold coreAtStart in refl) enough
 
   abbrev w : Core
   w = imposeAll (s .impositions) (r .core)
@@ -92,12 +92,12 @@ module _ (n total : ℕ) (g : Sig) (s : Structure) (ready : Ready n total (coreO
   grown = unmarked-grown (s .impositions) (r .core) (settled .passed .ready .plain)
 
   -- the rounds, and the impositions, which alter facts only
-  passed : Passed n total (coreOf s) (s .func-apps) w (r .apps)
+  passed : Passed n total (coreAtStart s) (s .func-apps) w (r .apps)
   passed = passed-then (settled .passed) (grown-passed n total (r .core) w (r .apps) grown (settled .passed .ready))
 
   -- `canonicalise_refs` does not bear on a partition
-  after-sound : Sound w (r .apps) (coreOf (afterClose run s)) (afterClose run s .func-apps)
-  unfolding coreOf afterClose canonicaliseRefs withCore imposedAfter closeRun
+  after-sound : Sound w (r .apps) (coreAtStart (afterClose run s)) (afterClose run s .func-apps)
+  unfolding coreAtStart afterClose canonicaliseRefs withCore imposedAfter closeRun
   after-sound = record {
     on = λ R S q law f. record { rooted = f .rooted; pairs = f .pairs; apps = f .apps };
     back = λ R S q law f. record { rooted = f .rooted; pairs = f .pairs; apps = f .apps };
@@ -105,7 +105,7 @@ module _ (n total : ℕ) (g : Sig) (s : Structure) (ready : Ready n total (coreO
 
   -- a close that met no number
   pub run-soundly : closeRun g s .core .met ≡ none → ClosedSoundly n total s (afterClose (closeRun g s) s) (reportOf (closeRun g s))
-  unfolding afterClose canonicaliseRefs withCore reportOf coreOf imposedAfter closeRun
+  unfolding afterClose canonicaliseRefs withCore reportOf coreAtStart imposedAfter closeRun
   run-soundly m = record {
     ready = record {
       kept = record { formed = passed .ready .kept .formed; long = passed .ready .kept .long; sum = omega arith };

@@ -4,7 +4,7 @@ use mathlib.Core.List.{[], _∷_, _++_}
 use native.Mathlib.Omega.{arith}
 use Rattle.unification.specs.Roots.{rootOf}
 use Rattle.unification.proofs.Laws.{root-le, root-root}
-use Rattle.semantics.specs.Close.{Closed, coreOf}
+use Rattle.semantics.specs.Close.{Closed, coreAtStart}
 use Rattle.semantics.specs.Calls.{close}
 use Rattle.history.specs.Book.{History, history, Conserved, Conservation}
 use Rattle.history.proofs.Classes.{shared-if, only-shared, root-classes}
@@ -12,11 +12,11 @@ use Rattle.history.proofs.Histories.{Returned, returned}
 
 -- where a close has returned, the classes are those of the roots
 returned-conserves : (h : History) (c : Closed) → Returned h c → Conserved (h .book) (h .machine .structure .links) c
-unfolding coreOf
+unfolding coreAtStart
 returned-conserves h c r =
     let b = h .book in
     let v = h .machine .structure in
-    let w = coreOf v in
+    let w = coreAtStart v in
     let only = only-shared b w (v .func-apps) (r .named) (r .tied) (r .pairs) (r .sorted) (r .canon) in
     let shared = shared-if b w (v .func-apps) (r .named) (r .tied) in
     record {

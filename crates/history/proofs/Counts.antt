@@ -12,13 +12,13 @@ use Rattle.semantics.proofs.Counts.{isRoot, roots, roots-merged, count-alike, c
 use Rattle.semantics.proofs.Links.{length-push, added-is, root-push}
 
 -- two roots, the smaller first
-pub record Two (ls : List ℕ) (keep drop : ℕ) : Type 0 where
+pub record TwoRootsInOrder (ls : List ℕ) (keep drop : ℕ) : Type 0 where
   pub keeps : rootOf ls keep ≡ keep
   pub drops : rootOf ls drop ≡ drop
   pub low : keep < drop
   pub inside : drop < length ls
 
-module _ (ls : List ℕ) (keep drop : ℕ) (m : Two ls keep drop) where
+module _ (ls : List ℕ) (keep drop : ℕ) (m : TwoRootsInOrder ls keep drop) where
   pub merged-length : length (mergedOf ls keep drop) ≡ length ls
   merged-length = rw (merged-less ls keep drop (m .low)) (length-set ls drop keep)
 

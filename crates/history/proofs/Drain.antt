@@ -1,6 +1,6 @@
 -- A drain: what it does to counts, to partitions and to marks.
-use mathlib.Core.Path.{_≡_, refl, sym, subst, ap, _∙_}
-use mathlib.Core.Logic.{_≢_, _⊎_, ⊎-elim}
+use mathlib.Core.Path.{_≡_, refl, subst, ap, _∙_}
+use mathlib.Core.Logic.{_⊎_, ⊎-elim}
 use mathlib.Core.Bool.{Bool, true, false, _&&_}
 use mathlib.Core.List.{List, [], _∷_}
 use Prim.Native.Nat.{ℕ, _+_, _≤_, _<_, min, max}
@@ -9,7 +9,7 @@ use native.Mathlib.Nat.{le-refl}
 use lib.ListN.{length, set}
 use lib.Seq.{getD-set-same, getD-set-other, set-out}
 use lib.Dec.{eqb}
-use borrow.Author.Tests.{eqb-true, eqb-false, eq-eqb, ne-eqb}
+use borrow.Author.Tests.{eqb-true, eqb-false, eq-eqb}
 use Rattle.ids.proofs.Sorted.{All}
 use Rattle.unification.specs.Roots.{rootOf, mergedOf, Formed}
 use Rattle.unification.proofs.Numbers.{less-or, same-or}
@@ -19,7 +19,7 @@ use Rattle.semantics.specs.Structure.{Pair}
 use Rattle.semantics.specs.Types.{Core, with-pairs, marked, mergedMarks, merge, join, joinRoots, drain, drainPairs}
 use Rattle.validity.proofs.Drain.{ordered}
 use Rattle.history.proofs.Relation.{Equivalence, Rooted}
-use Rattle.history.proofs.Counts.{Two, merged-length, merged-root, two-merged}
+use Rattle.history.proofs.Counts.{TwoRootsInOrder, merged-length, merged-root, two-merged}
 use Rattle.semantics.proofs.Counts.{roots}
 
 -- Merges are counted, and a drain that counts none does nothing but empty the queue. This holds of every core.
@@ -55,20 +55,20 @@ unfolding drain
 drain-counted w = drainPairs-counted (w .pairs) (with-pairs [] w)
 
 -- the two elements of a pair have one root
-abbrev pub OneRoot : List ℕ → Pair → Type 0
-OneRoot ls p = rootOf ls (p .lhs) ≡ rootOf ls (p .rhs)
+abbrev pub WithinClass : List ℕ → Pair → Type 0
+WithinClass ls p = rootOf ls (p .lhs) ≡ rootOf ls (p .rhs)
 
-join-same : (p : Pair) (w : Core) → OneRoot (w .links) p → join p w ≡ w
+join-same : (p : Pair) (w : Core) → WithinClass (w .links) p → join p w ≡ w
 unfolding join joinRoots
 join-same p w e = rw (join, joinRoots, eq-eqb (rootOf (w .links) (p .lhs)) (rootOf (w .links) (p .rhs)) e)
 
-drainPairs-same : (ps : List Pair) (w : Core) → All (OneRoot (w .links)) ps → drainPairs ps w ≡ w
+drainPairs-same : (ps : List Pair) (w : Core) → All (WithinClass (w .links)) ps → drainPairs ps w ≡ w
 unfolding drainPairs
 drainPairs-same [] w h = refl
 drainPairs-same (p ∷ ps) w h = ap (drainPairs ps) (join-same p w (h .0)) ∙ drainPairs-same ps w (h .1)
 
 -- pairs within one class are dropped
-pub drain-same : (w : Core) → All (OneRoot (w .links)) (w .pairs) → drain w ≡ with-pairs [] w
+pub drain-same : (w : Core) → All (WithinClass (w .links)) (w .pairs) → drain w ≡ with-pairs [] w
 unfolding drain
 drain-same w h = drainPairs-same (w .pairs) (with-pairs [] w) h
 
@@ -89,21 +89,6 @@ drainPairs-met (p ∷ ps) w = drainPairs-met ps (join p w) ∙ join-met p w
 pub drain-met : (w : Core) → drain w .met ≡ w .met
 unfolding drain
 drain-met w = drainPairs-met (w .pairs) (with-pairs [] w)
-
--- the two elements of a pair have two roots
-abbrev pub Apart : List ℕ → Pair → Type 0
-Apart ls p = rootOf ls (p .lhs) ≢ rootOf ls (p .rhs)
-
-join-grows : (p : Pair) (w : Core) → Apart (w .links) p → w .merges < join p w .merges
-unfolding join joinRoots merge
-join-grows p w h = rw (join, joinRoots, ne-eqb (rootOf (w .links) (p .lhs)) (rootOf (w .links) (p .rhs)) h) (omega arith)
-
--- a queue whose last pair has two roots merges
-pub drain-grows : (w : Core) (p : Pair) (ps : List Pair) → w .pairs ≡ p ∷ ps → Apart (w .links) p → w .merges < drain w .merges
-unfolding drain drainPairs
-drain-grows w p ps q h =
-    subst (λ (l : List Pair). w .merges < drainPairs l (with-pairs [] w) .merges) (sym q)
-    (omega (arith, join-grows p (with-pairs [] w) h, drainPairs-counted ps (join p (with-pairs [] w)) .grew))
 
 -- What a drain keeps of n elements, so many of them roots or merged.
 
@@ -142,7 +127,7 @@ pub record Joined (n total : ℕ) (w v : Core) (Q : (ℕ → ℕ → Type 0) →
   pub back : (R : ℕ → ℕ → Type 0) → Equivalence R → Rooted R (v .links) → Rooted R (w .links) × Q R
   pub plain : Unmarked (w .marks) → Unmarked (v .marks)
 
-module _ (n total : ℕ) (w : Core) (k : RootsAndMerges n total w) (keep drop : ℕ) (m : Two (w .links) keep drop) where
+module _ (n total : ℕ) (w : Core) (k : RootsAndMerges n total w) (keep drop : ℕ) (m : TwoRootsInOrder (w .links) keep drop) where
   merge-rooted : (R : ℕ → ℕ → Type 0) → Equivalence R → Rooted R (w .links) → R keep drop → Rooted R (mergedOf (w .links) keep drop)
   merge-rooted R v r q e =
       rw (merged-root (w .links) keep drop m e)
@@ -180,7 +165,7 @@ module _ (n total : ℕ) (w : Core) (k : RootsAndMerges n total w) (keep drop : 
   }
 
 module _ (n total : ℕ) (w : Core) (k : RootsAndMerges n total w) where
-  two : (a b : ℕ) → rootOf (w .links) a < rootOf (w .links) b → b < n → Two (w .links) (rootOf (w .links) a) (rootOf (w .links) b)
+  two : (a b : ℕ) → rootOf (w .links) a < rootOf (w .links) b → b < n → TwoRootsInOrder (w .links) (rootOf (w .links) a) (rootOf (w .links) b)
   two a b l h = record {
     keeps = root-root (w .links) a;
     drops = root-root (w .links) b;

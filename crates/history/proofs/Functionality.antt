@@ -12,12 +12,13 @@ use Rattle.unification.specs.Roots.{rootOf}
 use Rattle.unification.proofs.Laws.{root-root}
 use Rattle.semantics.specs.Structure.{FuncApp, Pair, compareFuncApp, canonicalFuncApp, func-app}
 use Rattle.semantics.specs.Close.{Rewritten, enterAt, enter, enterAll, rewriting}
+use Rattle.ids.proofs.Appending.{lookup-past}
 use Rattle.semantics.proofs.Functionality.{enter-cases}
 use Rattle.semantics.proofs.Orders.{func-app-ordered, func-app-same, same-func-app, SameKey}
 use Rattle.history.specs.Book.{Together, none, more, Meet}
 use Rattle.history.proofs.Relation.{Equivalence, Rooted, OneRoot, Respects, meet-key, says-image, image-says}
 use Rattle.history.proofs.Drain.{HoldsOfPair}
-use Rattle.history.proofs.Tables.{all-of, lookup-past}
+use Rattle.history.proofs.Tables.{all-of}
 
 -- an application that is looked up, and one with its key
 
@@ -104,9 +105,9 @@ module _ (ls : List ℕ) (l : List FuncApp) (sorted : Sorted compareFuncApp l) w
       (sym (lookup-if func-app-ordered x x l sorted mx (func-app-ordered .self x))
       ∙ lookup-if func-app-ordered x y l sorted my (equal-swap func-app-ordered x y (same-func-app x y k)))
 
-  pub settled-agree : All (Canon ls) l → (x y : FuncApp) → List·Memᴰ x l → List·Memᴰ y l → Meet (OneRoot ls) x y
+  pub canonical-agree : All (Canon ls) l → (x y : FuncApp) → List·Memᴰ x l → List·Memᴰ y l → Meet (OneRoot ls) x y
       → OneRoot ls (x .result) (y .result)
-  settled-agree c x y mx my m =
+  canonical-agree c x y mx my m =
       let k = meet-images ls x y m in
       let p = all-at (Canon ls) l c x mx in
       let r = all-at (Canon ls) l c y my in
@@ -135,5 +136,5 @@ module _ (ls : List ℕ) (ps : List Pair) (b : Bool) where
       (c .1)
       ∙ ap table (append-assoc done (x ∷ []) xs)
 
-  pub settled-same : (l : List FuncApp) → Sorted compareFuncApp l → All (Canon ls) l → enterAll ls l (table []) ≡ table l
-  settled-same l s c = settled-from l [] s (all-of (λ x. tt) l) c
+  pub canonical-same : (l : List FuncApp) → Sorted compareFuncApp l → All (Canon ls) l → enterAll ls l (table []) ≡ table l
+  canonical-same l s c = settled-from l [] s (all-of (λ x. tt) l) c

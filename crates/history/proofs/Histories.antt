@@ -14,7 +14,7 @@ use Rattle.unification.proofs.Laws.{root-stop}
 use Rattle.unification.proofs.Arrays.{link-past}
 use Rattle.semantics.specs.Structure.{empty, compareFuncApp}
 use Rattle.semantics.specs.Types.{anyMarked}
-use Rattle.semantics.specs.Close.{Closed, coreOf}
+use Rattle.semantics.specs.Close.{Closed, coreAtStart}
 use Rattle.semantics.specs.Calls.{Call, push-el, close, number, closed, Machine, Step, start, rule, acceptance, step}
 use Rattle.history.specs.Book.{Book, blank, elements, taken, fed, History, noted, next, run, begin, history, Shared}
 use Rattle.semantics.proofs.Counts.{roots}
@@ -45,7 +45,7 @@ root-empty : (e : ℕ) → rootOf [] e ≡ e
 root-empty e = root-stop [] e (omega (arith, link-past [] e (omega arith)))
 
 begin-valid : ValidHistory begin
-unfolding begin start blank empty coreOf roots count
+unfolding begin start blank empty coreAtStart roots count
 begin-valid = record {
   valid = start-valid;
   book = record {
@@ -83,7 +83,7 @@ pushed-number m mark n =
     (λ clear (e : number (length (m .structure .links)) ≡ number n). cc)
 
 pub next-element : (ks : List Call) (mark : Bool) (n : ℕ) → step (push-el mark) (history ks .machine) .answer ≡ number n → n ≡ elements (history ks .book)
-unfolding coreOf
+unfolding coreAtStart
 next-element ks mark n e = pushed-number (history ks .machine) mark n e ∙ history-valid ks .book .long
 
 -- calls after calls go on from where those came to
@@ -120,7 +120,7 @@ close-marks false n b = refl
 
 next-returned : (h : History) → ValidHistory h → (c : Closed) → step close (h .machine) .answer ≡ closed c
     → anyMarked (next close h .book .marks) ≡ false → Returned (next close h) c
-unfolding next noted coreOf
+unfolding next noted coreAtStart
 next-returned h valid c e unmarked =
     let after = next-valid close h valid .book in
     let a = closed-step (h .machine) c e in

@@ -4,7 +4,7 @@ use mathlib.Core.Bool.{false}
 use mathlib.Core.List.{List, [], _∷_, _++_, List·Memᴰ}
 use Rattle.semantics.specs.Structure.{FuncApp, Structure, canonicalFuncApp}
 use Rattle.semantics.specs.Types.{anyMarked}
-use Rattle.semantics.specs.Close.{Closed, coreOf}
+use Rattle.semantics.specs.Close.{Closed, coreAtStart}
 use Rattle.semantics.specs.Calls.{Call, close, closed, step}
 use Rattle.history.specs.Book.{Book, history}
 use Rattle.history.proofs.Classes.{ImageOf, stored-image, image-stored}
@@ -19,12 +19,12 @@ pub record Mirrored (b : Book) (s : Structure) : Type 0 where
 pub mirrored : (before : List Call) (c : Closed) → step close (history before .machine) .answer ≡ closed c
     → anyMarked (history (before ++ (close ∷ [])) .book .marks) ≡ false
     → Mirrored (history (before ++ (close ∷ [])) .book) (history (before ++ (close ∷ [])) .machine .structure)
-unfolding coreOf
+unfolding coreAtStart
 mirrored before c e unmarked =
     let h = history (before ++ (close ∷ [])) in
     let s = h .machine .structure in
     let r = returned before c e unmarked in
     record {
-      image = stored-image (h .book) (coreOf s) (s .func-apps) (r .named) (r .tied) (r .pairs) (r .sorted) (r .canon);
-      stored = image-stored (h .book) (coreOf s) (s .func-apps) (r .named) (r .tied) (r .pairs) (r .sorted) (r .canon);
+      image = stored-image (h .book) (coreAtStart s) (s .func-apps) (r .named) (r .tied) (r .pairs) (r .sorted) (r .canon);
+      stored = image-stored (h .book) (coreAtStart s) (s .func-apps) (r .named) (r .tied) (r .pairs) (r .sorted) (r .canon);
     }

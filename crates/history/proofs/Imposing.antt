@@ -19,8 +19,9 @@ use Rattle.semantics.specs.Types.{Core, with-pairs, with-added, with-met, marke
 use Rattle.semantics.specs.Types.{insertFact, insertCanonical, impose, imposeAll}
 use Rattle.semantics.proofs.Orders.{fact-ordered}
 use Rattle.semantics.proofs.Cases.{and-first}
+use Rattle.validity.proofs.Drain.{drain-merges}
 use Rattle.history.proofs.Tables.{present-stays}
-use Rattle.history.proofs.Drain.{Counted, counted-none, counted-then, drain-grows, Unmarked}
+use Rattle.history.proofs.Drain.{Counted, counted-none, counted-then, Unmarked}
 
 -- "Where two roots differ and either is marked": the test that makes two parents one
 abbrev pub joins : List ℕ → List Bool → ℕ → ℕ → Bool
@@ -34,7 +35,7 @@ module _ (w : Core) (p q : ℕ) where
       let n : rootOf ls p ≢ rootOf ls q =
       eqb-false (rootOf ls p) (rootOf ls q) (not-true (eqb (rootOf ls p) (rootOf ls q)) (and-first _ _ e)) in
       rw (refine, refineRoots, e)
-      (drain-grows (with-pairs (pair (rootOf ls p) (rootOf ls q) ∷ w .pairs) w) (pair (rootOf ls p) (rootOf ls q))
+      (drain-merges (with-pairs (pair (rootOf ls p) (rootOf ls q) ∷ w .pairs) w) (pair (rootOf ls p) (rootOf ls q))
       (w .pairs) refl (λ z. n (sym (root-root ls p) ∙ z ∙ root-root ls q)))
 
   pub refine-none : joins (w .links) (w .marks) p q ≡ false → refine p q w ≡ w

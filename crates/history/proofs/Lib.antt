@@ -16,6 +16,6 @@ pub mod Conservation
 pub mod Images
 pub mod SecondClose
 pub mod Unchanged
-pub mod Worked
+pub mod Examples
 pub mod Versions
 pub mod Refutations

@@ -24,11 +24,11 @@ use Rattle.semantics.proofs.Counts.{roots}
 use Rattle.semantics.proofs.Functionality.{enterAll-all, enterAll-sorted, enterAll-pairs, enterAll-none}
 use Rattle.semantics.proofs.Queues.{drain-pairs}
 use Rattle.semantics.proofs.Stages.{Stage, Along}
+use Rattle.validity.proofs.Drain.{TwoRoots, drain-merges}
 use Rattle.history.proofs.Tables.{all-of}
 use Rattle.history.proofs.Relation.{Equivalence, Rooted, Respects}
-use Rattle.history.proofs.Drain.{RootsAndMerges, HoldsOfPair, Inside, Unmarked, Apart, Joined, drain-law, drain-counted, OneRoot, drain-same}
-use Rattle.history.proofs.Drain.{drain-grows}
-use Rattle.history.proofs.Functionality.{Canon, canon-image, enterAll-on, enterAll-back, settled-same}
+use Rattle.history.proofs.Drain.{RootsAndMerges, HoldsOfPair, Inside, Unmarked, Joined, drain-law, drain-counted, WithinClass, drain-same}
+use Rattle.history.proofs.Functionality.{Canon, canon-image, enterAll-on, enterAll-back, canonical-same}
 use Rattle.history.proofs.Imposing.{OnlyFactsGrew, plain-grown, unmarked-inserts, impose-inserts, imposeAll-counts}
 use Rattle.history.proofs.Unjoined.{Safe, OnRoots, imposed-safe, safe-idle, safe-moved, insertAll-roots}
 
@@ -57,7 +57,7 @@ pub record Passed (n total : ℕ) (w : Core) (xs : List FuncApp) (v : Core) (ys 
 
 -- nothing remains to do, marks or not: the queue may hold pairs within one class
 pub record NoWork (g : Sig) (preds : List PredApp) (t : Turn) : Type 0 where
-  pub joined : All (OneRoot (t .core .links)) (t .core .pairs)
+  pub joined : All (WithinClass (t .core .links)) (t .core .pairs)
   pub sorted : Sorted compareFuncApp (t .apps)
   pub canon : All (Canon (t .core .links)) (t .apps)
   pub safe : All (Safe (t .core .links) (t .core .marks) (t .core .facts)) (demands g (t .apps) preds)
@@ -67,24 +67,24 @@ abbrev pub emptied : Turn → Turn
 emptied t = turn (types.with-pairs [] (t .core)) (t .apps) (t .worked)
 
 -- all is as it was, but that the queue may be dropped
-abbrev pub Rests : Turn → Turn → Type 0
-Rests t u = (u ≡ t) ⊎ (u ≡ emptied t)
+abbrev pub UnchangedButQueue : Turn → Turn → Type 0
+UnchangedButQueue t u = (u ≡ t) ⊎ (u ≡ emptied t)
 
 emptied-no-work : {g : Sig} {preds : List PredApp} (t : Turn) → NoWork g preds t → NoWork g preds (emptied t)
 emptied-no-work t r = record { joined = tt; sorted = r .sorted; canon = r .canon; safe = r .safe }
 
-emptied-rests : (t u : Turn) → Rests (emptied t) u → Rests t u
+emptied-rests : (t u : Turn) → UnchangedButQueue (emptied t) u → UnchangedButQueue t u
 emptied-rests t u (inl e) = inr e
 emptied-rests t u (inr e) = inr e
 
 -- The stages of a round that begins with the core w.
 
-abbrev pub Begun : Core → Stage
-Begun w t = t .core ≡ w
+abbrev pub BeginsWith : Core → Stage
+BeginsWith w t = t .core ≡ w
 
 -- a pair of two roots that waited was merged
 abbrev pub Merges : Core → Stage
-Merges w t = (p : Pair) (ps : List Pair) → w .pairs ≡ p ∷ ps → Apart (w .links) p → w .merges < t .core .merges
+Merges w t = (p : Pair) (ps : List Pair) → w .pairs ≡ p ∷ ps → TwoRoots (w .links) p → w .merges < t .core .merges
 
 pub record AfterDrain (w : Core) (t : Turn) : Type 0 where
   pub merges : Merges w t
@@ -95,7 +95,7 @@ pub record AfterFunctionality (w : Core) (t : Turn) : Type 0 where
   pub merges : Merges w t
   pub sorted : Sorted compareFuncApp (t .apps)
   pub canon : All (Canon (t .core .links)) (t .apps)
-  pub apart : All (Apart (t .core .links)) (t .core .pairs)
+  pub apart : All (TwoRoots (t .core .links)) (t .core .pairs)
   pub idle : t .worked ≡ false → t .core .pairs ≡ []
 
 -- and what is demanded is stored unless a number was met, so that to impose it again does nothing
@@ -115,7 +115,7 @@ module _ (g : Sig) (preds : List PredApp) where
         → Passed n total (t .core) (t .apps) (p g preds t .core) (p g preds t .apps)
     pub leads : (t : Turn) → Quiet p t → A t → B (p g preds t)
     -- where nothing remains to do it does nothing, and says so; pairs within one class may be dropped
-    pub idle : (t : Turn) → NoWork g preds t → Rests t (p g preds t)
+    pub idle : (t : Turn) → NoWork g preds t → UnchangedButQueue t (p g preds t)
     -- merges only add up
     pub more : (t : Turn) → t .core .merges ≤ p g preds t .core .merges
     -- where it merges nothing, facts stay on roots
@@ -141,12 +141,12 @@ module _ (g : Sig) (preds : List PredApp) where
   abbrev AllLawful : List Pass → Stage → Stage → Type 1
   AllLawful = Along (Lawful g preds)
 
-  run-idle : (ps : List Pass) (A B : Stage) → AllLawful ps A B → (t : Turn) → NoWork g preds t → Rests t (runPasses ps g preds t)
+  run-idle : (ps : List Pass) (A B : Stage) → AllLawful ps A B → (t : Turn) → NoWork g preds t → UnchangedButQueue t (runPasses ps g preds t)
   unfolding runPasses
   run-idle [] A B l t r = inl refl
   run-idle (p ∷ ps) A C l t r = elim (l .1 .idle t r) [
-    | inl e ↦ subst (λ (u : Turn). Rests t (runPasses ps g preds u)) (sym e) (run-idle ps (l .0) C (l .2) t r)
-    | inr e ↦ subst (λ (u : Turn). Rests t (runPasses ps g preds u)) (sym e)
+    | inl e ↦ subst (λ (u : Turn). UnchangedButQueue t (runPasses ps g preds u)) (sym e) (run-idle ps (l .0) C (l .2) t r)
+    | inr e ↦ subst (λ (u : Turn). UnchangedButQueue t (runPasses ps g preds u)) (sym e)
         (emptied-rests t (runPasses ps g preds (emptied t)) (run-idle ps (l .0) C (l .2) (emptied t) (emptied-no-work t r)))
   ]
 
@@ -226,12 +226,12 @@ module _ (n total : ℕ) (t : Turn) (r : Ready n total (t .core) (t .apps)) wher
     };
   }
 
-drain-lawful : (g : Sig) (preds : List PredApp) (w : Core) → Lawful g preds drainPass (Begun w) (AfterDrain w)
+drain-lawful : (g : Sig) (preds : List PredApp) (w : Core) → Lawful g preds drainPass (BeginsWith w) (AfterDrain w)
 unfolding drainPass drained
 drain-lawful g preds w = record {
   passed = drain-passed;
   leads = λ t q h.
-      subst (λ (x : Core). AfterDrain x (drainPass g preds t)) h (record { merges = drain-grows (t .core); none = drain-pairs (t .core) });
+      subst (λ (x : Core). AfterDrain x (drainPass g preds t)) h (record { merges = drain-merges (t .core); none = drain-pairs (t .core) });
   idle = λ t r.
       let v = t .core in
       let e = drain-same v (r .joined) in
@@ -283,12 +283,12 @@ functionality-lawful g preds w = record {
         merges = h .merges;
         sorted = enterAll-sorted ls (t .apps) (begin t) tt;
         canon = enterAll-all (Canon ls) ls (t .apps) (begin t) (all-of (λ x. canon-image ls x) (t .apps)) tt;
-        apart = enterAll-pairs (λ e. rootOf ls e ≡ e) (Apart ls) (λ p a b d z. d (sym a ∙ z ∙ b)) ls (t .apps) (begin t)
-            (all-of (λ x. root-root ls (x .result)) (t .apps)) tt (subst (All (Apart ls)) (sym (h .none)) tt);
+        apart = enterAll-pairs (λ e. rootOf ls e ≡ e) (TwoRoots ls) (λ p a b d z. d (sym a ∙ z ∙ b)) ls (t .apps) (begin t)
+            (all-of (λ x. root-root ls (x .result)) (t .apps)) tt (subst (All (TwoRoots ls)) (sym (h .none)) tt);
         idle = λ e. enterAll-none ls (t .apps) (begin t) (or-second (t .worked) (rewritten t .queued) e) .1 ∙ h .none;
       };
   idle = λ t r.
-      inl (ap (λ (x : Rewritten). rewrote x t) (settled-same (t .core .links) (t .core .pairs) false (t .apps) (r .sorted) (r .canon))
+      inl (ap (λ (x : Rewritten). rewrote x t) (canonical-same (t .core .links) (t .core .pairs) false (t .apps) (r .sorted) (r .canon))
       ∙ reports-none t (t .core) (t .core) false refl refl);
   more = λ t. le-refl (t .core .merges);
   rooted = λ t e h. h;
@@ -350,7 +350,7 @@ module _ (g : Sig) (preds : List PredApp) where
           merges = λ p ps q two. omega (arith, grown .merges, h .merges p ps q two);
           sorted = h .sorted;
           canon = subst (λ ls. All (Canon ls) (t .apps)) (sym (grown .links)) (h .canon);
-          apart = subst₂ (λ (ls : List ℕ) (ps : List Pair). All (Apart ls) ps) (sym (grown .links)) (sym (grown .pairs)) (h .apart);
+          apart = subst₂ (λ (ls : List ℕ) (ps : List Pair). All (TwoRoots ls) ps) (sym (grown .links)) (sym (grown .pairs)) (h .apart);
           idle = λ q. grown .pairs ∙ h .idle (or-first (t .worked) (grew (t .core) (imposed t)) q);
         };
         safe = λ m.
@@ -371,7 +371,7 @@ module _ (g : Sig) (preds : List PredApp) where
 
   -- The round.
 
-  all-lawful : (w : Core) → Along (Lawful g preds) passes (Begun w) (RoundDone g preds w)
+  all-lawful : (w : Core) → Along (Lawful g preds) passes (BeginsWith w) (RoundDone g preds w)
   unfolding passes
   all-lawful w = (
     AfterDrain w,
@@ -384,16 +384,16 @@ module _ (g : Sig) (preds : List PredApp) where
   )
 
   -- where nothing remains to do a round does nothing but drop pairs within one class
-  pub round-idle : (xs : List FuncApp) (w : Core) → NoWork g preds (turn w xs false) → Rests (turn w xs false) (round g preds xs w)
+  pub round-idle : (xs : List FuncApp) (w : Core) → NoWork g preds (turn w xs false) → UnchangedButQueue (turn w xs false) (round g preds xs w)
   unfolding round
-  round-idle xs w = run-idle g preds passes (Begun w) (RoundDone g preds w) (all-lawful w) (turn w xs false)
+  round-idle xs w = run-idle g preds passes (BeginsWith w) (RoundDone g preds w) (all-lawful w) (turn w xs false)
 
   -- after a round that left no pair and met no number, another does nothing
   pub done-idle : (w : Core) (t : Turn) → RoundDone g preds w t → t .core .met ≡ none → t .core .pairs ≡ []
       → round g preds (t .apps) (t .core) ≡ turn (t .core) (t .apps) false
   done-idle w t d m e =
       elim (round-idle (t .apps) (t .core)
-      (record { joined = subst (All (OneRoot (t .core .links))) (sym e) tt; sorted = d .table .sorted; canon = d .table .canon; safe = d .safe m })) [
+      (record { joined = subst (All (WithinClass (t .core .links))) (sym e) tt; sorted = d .table .sorted; canon = d .table .canon; safe = d .safe m })) [
         | inl q ↦ q
         | inr q ↦ q ∙ (λ i. turn (types.with-pairs (sym e i) (t .core)) (t .apps) false)
       ]
@@ -401,25 +401,25 @@ module _ (g : Sig) (preds : List PredApp) where
   module _ (xs : List FuncApp) (w : Core) where
     pub round-more : w .merges ≤ round g preds xs w .core .merges
     unfolding round
-    round-more = run-more g preds passes (Begun w) (RoundDone g preds w) (all-lawful w) (turn w xs false)
+    round-more = run-more g preds passes (BeginsWith w) (RoundDone g preds w) (all-lawful w) (turn w xs false)
 
     -- where no element is marked
 
     pub round-passed : (n total : ℕ) → Ready n total w xs → Passed n total w xs (round g preds xs w .core) (round g preds xs w .apps)
     unfolding round
-    round-passed n total = run-passed g preds n total passes (Begun w) (RoundDone g preds w) (all-lawful w) (turn w xs false)
+    round-passed n total = run-passed g preds n total passes (BeginsWith w) (RoundDone g preds w) (all-lawful w) (turn w xs false)
 
     pub round-done : (n total : ℕ) → Ready n total w xs → RoundDone g preds w (round g preds xs w)
     unfolding round
-    round-done n total r = run-leads g preds n total passes (Begun w) (RoundDone g preds w) (all-lawful w) (turn w xs false) r refl
+    round-done n total r = run-leads g preds n total passes (BeginsWith w) (RoundDone g preds w) (all-lawful w) (turn w xs false) r refl
 
     -- where nothing is merged
 
     pub still-done : round g preds xs w .core .merges ≡ w .merges → RoundDone g preds w (round g preds xs w)
     unfolding round
-    still-done e = run-still g preds passes (Begun w) (RoundDone g preds w) (all-lawful w) (turn w xs false) e refl
+    still-done e = run-still g preds passes (BeginsWith w) (RoundDone g preds w) (all-lawful w) (turn w xs false) e refl
 
     pub still-rooted : round g preds xs w .core .merges ≡ w .merges → OnRoots (w .links) (w .facts)
         → OnRoots (round g preds xs w .core .links) (round g preds xs w .core .facts)
     unfolding round
-    still-rooted = run-rooted g preds passes (Begun w) (RoundDone g preds w) (all-lawful w) (turn w xs false)
+    still-rooted = run-rooted g preds passes (BeginsWith w) (RoundDone g preds w) (all-lawful w) (turn w xs false)

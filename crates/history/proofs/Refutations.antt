@@ -20,7 +20,7 @@ use Rattle.semantics.proofs.ProvedCases.{typ, func, plainEl, markedEl, impose, 
 use Rattle.history.specs.Book.{Book, book, with-equalities, with-apps, elements, taken, fed, history, Together, none, Meet, Shared}
 use Rattle.history.specs.Book.{Classes, Conserved, Conservation}
 use Rattle.history.proofs.Conservation.{conservation}
-use Rattle.history.proofs.Worked.{computed}
+use Rattle.history.proofs.Examples.{computed}
 use Rattle.history.proofs.Versions.{after, linksAfter, Feeds, bookBy, bookAfter, Meets, Sharing, SharedBy, ConservedBy, ConservationBy, unmarked}
 use Rattle.history.proofs.Versions.{merges, meets-right}
 
@@ -318,18 +318,18 @@ abbrev shorter : Meets
 shorter R x y = (x .func ≡ y .func) × Prefix R (x .parents) (y .parents) × Prefix R (x .args) (y .args)
 
 -- What the right definitions say of the list of a row.
-pub data Fact (w : WorkedList) : Type 1 where
+pub data RightSays (w : WorkedList) : Type 1 where
   -- the claim of the rule
-  conserved : Right w → Fact w
+  conserved : Right w → RightSays w
   -- an element is marked, so that the rule claims nothing: 0 and 1 have one root and share no class
-  outside : anyMarked (w .book .marks) ≡ true → w .root ≡ 0 → (Shared (w .book) 0 1 → ⊥) → Fact w
+  outside : anyMarked (w .book .marks) ≡ true → w .root ≡ 0 → (Shared (w .book) 0 1 → ⊥) → RightSays w
 
 -- The table: a version's name, the rule with one part replaced, the list, what the right definitions say of it, and that the version is false.
 pub record Refuted : Type 2 where
   pub name : String
   pub version : Type 1
   pub list : WorkedList
-  pub fact : Fact list
+  pub fact : RightSays list
   pub wrong : version → ⊥
 
 pub table : List Refuted

@@ -11,12 +11,12 @@ use Rattle.semantics.specs.Structure.{FuncApp, PredApp, Pair, compareFuncApp}
 use Rattle.semantics.specs.Types.{Core}
 use Rattle.semantics.specs.Close.{Turn, round, Rounds, isNone, lastRound, oneMore, roundsFrom, rounds, fuel}
 use Rattle.semantics.proofs.Cases.{and-second}
-use Rattle.history.proofs.Drain.{Apart}
+use Rattle.validity.proofs.Drain.{TwoRoots}
 use Rattle.history.proofs.Functionality.{Canon}
 use Rattle.history.proofs.Passes.{Ready, Passed, RoundDone, passed-none, passed-then, round-passed, round-done, done-idle}
 
 -- what rounds leave that began with w and its applications: so many merges were made before
-pub record Settled (n total before : ℕ) (w : Core) (xs : List FuncApp) (r : Rounds) : Type 1 where
+pub record RoundsLeave (n total before : ℕ) (w : Core) (xs : List FuncApp) (r : Rounds) : Type 1 where
   pub passed : Passed n total w xs (r .core) (r .apps)
   pub sorted : Sorted compareFuncApp (r .apps)
   pub canon : All (Canon (r .core .links)) (r .apps)
@@ -24,8 +24,8 @@ pub record Settled (n total before : ℕ) (w : Core) (xs : List FuncApp) (r : Ro
   pub few : r .count + before ≤ r .core .merges + 2
 
 -- of the rounds from the one that left t on
-abbrev SettledFrom : ℕ → ℕ → Turn → Rounds → Type 1
-SettledFrom n total t r = Settled n total (t .core .merges) (t .core) (t .apps) r
+abbrev RoundsLeaveFrom : ℕ → ℕ → Turn → Rounds → Type 1
+RoundsLeaveFrom n total t r = RoundsLeave n total (t .core .merges) (t .core) (t .apps) r
 
 pub isNone-none : (o : Option ℕ) → isNone o ≡ true → o ≡ none
 unfolding isNone
@@ -44,7 +44,7 @@ stop g preds (suc k) t e = rw e
 
 module _ (n total : ℕ) (g : Sig) (preds : List PredApp) where
   last : (w : Core) (t : Turn) → Ready n total (t .core) (t .apps) → RoundDone g preds w t → (t .core .met ≡ none → t .core .pairs ≡ [])
-      → SettledFrom n total t (lastRound t)
+      → RoundsLeaveFrom n total t (lastRound t)
   unfolding lastRound
   last w t r d e = record {
     passed = passed-none n total (t .core) (t .apps) r;
@@ -56,7 +56,7 @@ module _ (n total : ℕ) (g : Sig) (preds : List PredApp) where
 
   -- a round that worked is followed by one that does no work, or by one that merges
   from-law : (k : ℕ) (w : Core) (t : Turn) → Ready n total (t .core) (t .apps) → RoundDone g preds w t → total < k + t .core .merges
-      → SettledFrom n total t (roundsFrom k g preds t)
+      → RoundsLeaveFrom n total t (roundsFrom k g preds t)
   unfolding roundsFrom oneMore
   from-law zero w t r d h = absurd (omega (arith, r .kept .sum))
   from-law (suc k) w t r d h =
@@ -71,7 +71,7 @@ module _ (n total : ℕ) (g : Sig) (preds : List PredApp) where
       done : RoundDone g preds (t .core) u
       done = round-done g preds (t .apps) (t .core) n total r
 
-      more : (r : Rounds) → SettledFrom n total u r → r .count + t .core .merges ≤ r .core .merges + 1 → SettledFrom n total t (oneMore r)
+      more : (r : Rounds) → RoundsLeaveFrom n total u r → r .count + t .core .merges ≤ r .core .merges + 1 → RoundsLeaveFrom n total t (oneMore r)
       more r s few = (unfold oneMore in record {
         passed = passed-then passed (s .passed);
         sorted = s .sorted;
@@ -81,27 +81,27 @@ module _ (n total : ℕ) (g : Sig) (preds : List PredApp) where
       })
 
       Later : Type 1
-      Later = t .core .merges < u .core .merges → SettledFrom n total u (roundsFrom k g preds u)
+      Later = t .core .merges < u .core .merges → RoundsLeaveFrom n total u (roundsFrom k g preds u)
 
-      next : (ps : List Pair) → t .core .pairs ≡ ps → t .core .met ≡ none → Later → SettledFrom n total t (oneMore (roundsFrom k g preds u))
+      next : (ps : List Pair) → t .core .pairs ≡ ps → t .core .met ≡ none → Later → RoundsLeaveFrom n total t (oneMore (roundsFrom k g preds u))
       next [] e m f =
           let z = done-idle g preds w t d m e in
-          subst (λ r. SettledFrom n total t (oneMore r)) (sym (stop g preds k u (ap (λ (x : Turn). x .worked) z)))
+          subst (λ r. RoundsLeaveFrom n total t (oneMore r)) (sym (stop g preds k u (ap (λ (x : Turn). x .worked) z)))
           (more (lastRound u) (last (t .core) u (passed .ready) done (λ _. ap (λ (x : Turn). x .core .pairs) z ∙ e))
           (unfold lastRound in omega (arith, ap (λ (x : Turn). x .core .merges) z)))
       next (p ∷ ps) e m f =
-          let l = done .table .merges p ps e (subst (All (Apart (t .core .links))) e (d .table .apart) .0) in
+          let l = done .table .merges p ps e (subst (All (TwoRoots (t .core .links))) e (d .table .apart) .0) in
           more (roundsFrom k g preds u) (f l) (omega (arith, f l .few))
 
       go : (b : Bool) → (t .worked && isNone (t .core .met)) ≡ b → Later
-          → SettledFrom n total t (elim b [ true ↦ oneMore (roundsFrom k g preds u) | false ↦ lastRound t ])
+          → RoundsLeaveFrom n total t (elim b [ true ↦ oneMore (roundsFrom k g preds u) | false ↦ lastRound t ])
       go true e f = next (t .core .pairs) refl (isNone-none (t .core .met) (and-second (t .worked) _ e)) f
       go false e f =
           last w t r d (λ m. d .table .idle (sym (and-true (t .worked)) ∙ ap (λ (b : Bool). t .worked && b) (sym (none-isNone (t .core .met) m)) ∙ e))
 
   -- all the rounds, of a close: it begins with no merge, and its fuel is enough
   pub rounds-law : (apps : List FuncApp) (w : Core) → Ready n total w apps → w .merges ≡ 0 → total < fuel
-      → Settled n total 0 w apps (rounds g preds apps w)
+      → RoundsLeave n total 0 w apps (rounds g preds apps w)
   unfolding rounds
   rounds-law apps w r z h =
       let passed = round-passed g preds apps w n total r in

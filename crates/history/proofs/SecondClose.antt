@@ -19,17 +19,18 @@ use Rattle.semantics.specs.Structure.{Fact, FuncApp, PredApp, Pair, Structure, 
 use Rattle.semantics.specs.Structure.{with-flags}
 use Rattle.semantics.specs.Types as types
 use Rattle.semantics.specs.Types.{Core, imposeAll, grew}
-use Rattle.semantics.specs.Close.{demanded, demandedAt, demandedArgs, funcArgs, predArgs, funcResults, demands, Turn, round, Rounds, isNone}
-use Rattle.semantics.specs.Close.{lastRound, oneMore, roundsFrom, rounds, fuel, Closed, coreOf, canonicaliseRefs, withCore, imposedAfter, CloseRun, closeRun}
+use Rattle.semantics.specs.Close.{demanded, demandedAt, demandedArgs, funcArgs, predArgs, funcResults, demands, Turn, round, Rounds, isNone, close-run}
+use Rattle.semantics.specs.Close.{lastRound, oneMore, roundsFrom, rounds, fuel, Closed, coreAtStart, canonicaliseRefs, withCore, imposedAfter, CloseRun, closeRun}
 use Rattle.semantics.specs.Close.{reportOf, afterClose, closeBy, close, turn, report}
 use Rattle.semantics.specs.Calls as calls
 use Rattle.semantics.specs.Calls.{closed, machine, Step, rule, closeRule, acceptance, refusal, stepBy, step}
 use Rattle.semantics.proofs.Judged.{close-first}
 use Rattle.semantics.proofs.Cases.{and-second}
-use Rattle.history.proofs.Drain.{Apart, OneRoot}
+use Rattle.validity.proofs.Drain.{TwoRoots}
+use Rattle.history.proofs.Drain.{WithinClass}
 use Rattle.history.proofs.Functionality.{Canon}
 use Rattle.history.proofs.Imposing.{impose-inserts, imposeAll-counts, plain-grown}
-use Rattle.history.proofs.Passes.{RoundDone, Rests, round-idle, done-idle, round-more, still-done, still-rooted}
+use Rattle.history.proofs.Passes.{RoundDone, UnchangedButQueue, round-idle, done-idle, round-more, still-done, still-rooted}
 use Rattle.history.proofs.Rounds.{stop, isNone-none, none-isNone}
 use Rattle.history.proofs.Closing.{accepted-close}
 use Rattle.history.proofs.Unjoined.{Safe, OnRoots, imposed-safe, safe-idle, rewrittenFacts, safe-rewritten, safe-image, safe-moved}
@@ -123,7 +124,7 @@ module _ (g : Sig) (preds : List PredApp) where
     empty : v .core .merges ≡ u .core .merges → (ps : List Pair) → u .core .pairs ≡ ps → u .core .pairs ≡ []
     empty e [] q = q
     empty e (p ∷ ps) q =
-        let two = subst (All (Apart (u .core .links))) q (done .table .apart) in
+        let two = subst (All (TwoRoots (u .core .links))) q (done .table .apart) in
         absurd (omega (arith, e, still-done g preds (u .apps) (u .core) e .table .merges p ps q (two .0)))
 
     still-rounds : (k : ℕ) → 0 < k → IfStill u (roundsFrom k g preds u)
@@ -157,7 +158,7 @@ noChange = report false 0 1
 
 -- a structure in which nothing remains to do: its queue may hold pairs within one class
 pub record Idle (g : Sig) (s : Structure) : Type 0 where
-  pub joined : All (OneRoot (s .links)) (s .pairs)
+  pub joined : All (WithinClass (s .links)) (s .pairs)
   pub sorted : Sorted compareFuncApp (s .func-apps)
   pub canon : All (Canon (s .links)) (s .func-apps)
   pub demanded : All (Safe (s .links) (s .marks) (s .facts)) (demands g (s .func-apps) (s .pred-apps))
@@ -165,39 +166,37 @@ pub record Idle (g : Sig) (s : Structure) : Type 0 where
 
 module _ (g : Sig) (s : Structure) (i : Idle g s) where
   abbrev begun : Turn
-  begun = turn (coreOf s) (s .func-apps) false
+  begun = turn (coreAtStart s) (s .func-apps) false
 
-  rest : Rests begun (round g (s .pred-apps) (s .func-apps) (coreOf s))
-  unfolding coreOf
+  rest : UnchangedButQueue begun (round g (s .pred-apps) (s .func-apps) (coreAtStart s))
+  unfolding coreAtStart
   rest =
-      round-idle g (s .pred-apps) (s .func-apps) (coreOf s)
+      round-idle g (s .pred-apps) (s .func-apps) (coreAtStart s)
       (record { joined = i .joined; sorted = i .sorted; canon = i .canon; safe = i .demanded })
 
   -- what a close comes to whose one round leaves the pairs ps
   abbrev idleRun : List Pair → CloseRun
   idleRun ps =
-      let w = types.with-pairs ps (coreOf s) in
-      record { rounds = lastRound (turn w (s .func-apps) false); core = w }
+      let w = types.with-pairs ps (coreAtStart s) in
+      close-run (lastRound (turn w (s .func-apps) false)) w
 
   -- its close runs one round, which does nothing but drop pairs
   idle-run : (ps : List Pair) × (closeRun g s ≡ idleRun ps)
-  idle-run = elim rest [ inl e ↦ (s .pairs, (unfold coreOf in run (s .pairs) e)) | inr e ↦ ([], run [] e) ]
+  idle-run = elim rest [ inl e ↦ (s .pairs, (unfold coreAtStart in run (s .pairs) e)) | inr e ↦ ([], run [] e) ]
     where
-      run : (ps : List Pair) → round g (s .pred-apps) (s .func-apps) (coreOf s) ≡ turn (types.with-pairs ps (coreOf s)) (s .func-apps) false
+      run : (ps : List Pair) → round g (s .pred-apps) (s .func-apps) (coreAtStart s) ≡ turn (types.with-pairs ps (coreAtStart s)) (s .func-apps) false
           → closeRun g s ≡ idleRun ps
-      run ps e = unfold closeRun rounds imposedAfter lastRound coreOf in
+      run ps e = unfold closeRun rounds imposedAfter lastRound coreAtStart in
           ap (λ (r : Rounds). imposedAfter r s) (ap (roundsFrom fuel g (s .pred-apps)) e
-          ∙ stop g (s .pred-apps) fuel (turn (types.with-pairs ps (coreOf s)) (s .func-apps) false) refl)
-          ∙ (λ j. record {
-            rounds = lastRound (turn (types.with-pairs ps (coreOf s)) (s .func-apps) false);
-            core = safe-idle (s .impositions) (types.with-pairs ps (coreOf s)) (i .imposed) j;
-          })
+          ∙ stop g (s .pred-apps) fuel (turn (types.with-pairs ps (coreAtStart s)) (s .func-apps) false) refl)
+          ∙ (λ j. close-run (lastRound (turn (types.with-pairs ps (coreAtStart s)) (s .func-apps) false))
+          (safe-idle (s .impositions) (types.with-pairs ps (coreAtStart s)) (i .imposed) j))
 
   pub idle-met : closeRun g s .core .met ≡ none
-  idle-met = rw (idle-run .1) (unfold coreOf in refl)
+  idle-met = rw (idle-run .1) (unfold coreAtStart in refl)
 
   pub idle-report : reportOf (closeRun g s) ≡ noChange
-  idle-report = rw (idle-run .1) (unfold reportOf lastRound grew coreOf in refl)
+  idle-report = rw (idle-run .1) (unfold reportOf lastRound grew coreAtStart in refl)
 
   idle-close : close g s .answer ≡ accepted noChange
   unfolding close closeBy outcome
@@ -223,27 +222,27 @@ module _ (g : Sig) (s : Structure) (on : OnRoots (s .links) (s .facts)) where
 
   -- the first round, all of them, and what the impositions make of it
   abbrev first : Turn
-  first = round g (s .pred-apps) (s .func-apps) (coreOf s)
+  first = round g (s .pred-apps) (s .func-apps) (coreAtStart s)
 
   abbrev r : Rounds
-  r = rounds g (s .pred-apps) (s .func-apps) (coreOf s)
+  r = rounds g (s .pred-apps) (s .func-apps) (coreAtStart s)
 
   abbrev w : Core
   w = imposeAll (s .impositions) (r .core)
 
   -- what a close leaves that merged nothing
   pub after-idle : closeRun g s .core .met ≡ none → closeRun g s .core .merges ≡ 0 → Idle g (afterClose (closeRun g s) s)
-  unfolding closeRun imposedAfter afterClose canonicaliseRefs withCore coreOf rounds fuel
+  unfolding closeRun imposedAfter afterClose canonicaliseRefs withCore coreAtStart rounds fuel
   after-idle m z =
       let a = imposeAll-counts (s .impositions) (r .core) in
       let b = rounds-count g (s .pred-apps) fuel first in
       let none-first : first .core .merges ≡ 0 = omega (arith, a, b, z) in
       let none-rounds : r .core .merges ≡ first .core .merges = omega (arith, a, b, z) in
       let none-imposed : w .merges ≡ r .core .merges = omega (arith, a, z) in
-      let did = still-done g (s .pred-apps) (s .func-apps) (coreOf s) none-first in
+      let did = still-done g (s .pred-apps) (s .func-apps) (coreAtStart s) none-first in
       let plain = impose-inserts (s .impositions) (r .core) none-imposed in
       let grown = plain-grown (s .impositions) (r .core) plain in
-      let same = still-rounds g (s .pred-apps) (coreOf s) first did fuel (omega arith) none-rounds (grown .met m) in
+      let same = still-rounds g (s .pred-apps) (coreAtStart s) first did fuel (omega arith) none-rounds (grown .met m) in
       let ls = w .links in
       let ms = w .marks in
       let ds = demands g (r .apps) (s .pred-apps) in
@@ -255,12 +254,12 @@ module _ (g : Sig) (s : Structure) (on : OnRoots (s .links) (s .facts)) where
       let imposed = imposed-safe (s .impositions) (r .core) none-imposed m ds demanded in
       let on-now : OnRoots ls (w .facts) =
       subst (λ (v : Core). OnRoots (v .links) (v .facts)) (sym plain)
-      (insertAll-roots (s .impositions) (r .core) (subst (λ (v : Core). OnRoots (v .links) (v .facts)) (sym (same .core)) (still-rooted g (s .pred-apps) (s .func-apps) (coreOf s) none-first on))) in
+      (insertAll-roots (s .impositions) (r .core) (subst (λ (v : Core). OnRoots (v .links) (v .facts)) (sym (same .core)) (still-rooted g (s .pred-apps) (s .func-apps) (coreAtStart s) none-first on))) in
       let now : (l : List Fact) → All (Safe (r .core .links) (r .core .marks) (w .facts)) l → All (Safe ls ms (rewrittenFacts ls ms (w .facts))) l =
       λ l h. all-map (safe-rewritten ls ms (w .facts) on-now) l (safe-moved (sym (grown .links)) (sym (grown .marks)) (w .facts) l h) in
       let image = safe-image ls ms (rewrittenFacts ls ms (w .facts)) in
       record {
-        joined = subst (All (OneRoot ls)) (sym (grown .pairs ∙ ap (λ (v : Core). v .pairs) (same .core) ∙ same .pairs)) tt;
+        joined = subst (All (WithinClass ls)) (sym (grown .pairs ∙ ap (λ (v : Core). v .pairs) (same .core) ∙ same .pairs)) tt;
         sorted = subst (Sorted compareFuncApp) (sym (same .apps)) (did .table .sorted);
         canon = subst (λ k. All (Canon k) (r .apps)) (sym links) (subst (All (Canon (first .core .links))) (sym (same .apps)) (did .table .canon));
         demanded = demands-rewritten (Safe ls ms (rewrittenFacts ls ms (w .facts))) g ls image (r .apps) (s .pred-apps)

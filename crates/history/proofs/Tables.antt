@@ -2,10 +2,9 @@
 use mathlib.Core.Path.{_≡_, refl, sym, _∙_}
 use mathlib.Core.Bool.{Bool, true, false}
 use mathlib.Core.List.{List, [], _∷_}
-use mathlib.Core.Option.{none}
 use Rattle.ids.specs.declared.Ordering.{Ordering}
 use Rattle.ids.specs.declared.Ordering.the-variants.{Less, Equal, Greater}
-use Rattle.ids.specs.Table.{present, placed, lookupOf}
+use Rattle.ids.specs.Table.{present, placed}
 use Rattle.ids.proofs.Sorted.{All, Ordered, no-test, less-swap, alike-right}
 
 -- what holds of everything
@@ -30,9 +29,3 @@ module _ {A : Type 0} {cmp : A → A → Ordering} (o : Ordered cmp) (x y : A) w
       go Greater Less p q f h = rw (o .trans x z y (less-swap o x z p) q, present) e
       go Greater Equal p q f h = rw (sym (alike-right o z y x q) ∙ less-swap o x z p, present) e
       go Greater Greater p q f h = no-test h refl
-
--- where all entries are smaller, nothing is found
-pub lookup-past : {A : Type 0} (cmp : A → A → Ordering) (x : A) (l : List A) → All (λ y. cmp y x ≡ Less) l → lookupOf cmp x l ≡ none
-unfolding lookupOf
-lookup-past cmp x [] h = refl
-lookup-past cmp x (y ∷ ys) h = rw (h .0, lookupOf) (lookup-past cmp x ys (h .1))

@@ -30,7 +30,7 @@ unfolding answers.firstOf answers.decided answers.outcome
     types.imposeAll
     close.enterAt close.enter close.enterAll close.demanded close.demandedAt close.demandedArgs close.funcArgs close.predArgs close.funcResults
     close.demands close.drained close.drainPass close.rewrote close.functionalityPass close.typed close.typingPass close.passes close.runPasses
-    close.round close.isNone close.lastRound close.oneMore close.roundsFrom close.fuel close.rounds close.coreOf close.canonicaliseRefs
+    close.round close.isNone close.lastRound close.oneMore close.roundsFrom close.fuel close.rounds close.coreAtStart close.canonicaliseRefs
     close.withCore close.imposedAfter close.closeRun close.reportOf close.afterClose close.closeCauses close.closeBy close.close
     conflicts.parentsMatch conflicts.disagree conflicts.firstConflict conflicts.conflictAmong conflicts.conflictAt conflicts.conflictsBelow
     conflicts.typeConflicts

@@ -8,17 +8,20 @@ use Prim.Native.Nat.{ℕ}
 use lib.ListN.{length}
 use lib.Dec.{ltb}
 use borrow.Author.Tests.{ltb-true, ltb-false}
-use Rattle.ids.specs.Answers.{Answered, accepted, refused, firstOf, decided, _if_}
+use Rattle.ids.specs.Answers.{Answered, accepted, refused, firstOf, decided, _if_, Outcome, outcome, refusing, accepting}
 use Rattle.ids.specs.Ids.{tooLong, allBelow}
 use Rattle.ids.specs.Limits.{maxList}
 use Rattle.ids.proofs.Judging.{NoneApplies, numbers, SoFar, decided-by, refused-by, accepted-by}
 use Rattle.ids.proofs.Sorted.{no-test}
 use Rattle.signature.specs.Calls.{TypedM, concreteTypeAt, lookupTypeCauses, lookupType}
 use Rattle.semantics.specs.Valid.{Below, Listed}
-use Rattle.semantics.specs.Close.{CloseRun, closeCauses}
+use Rattle.semantics.specs.Structure.{Structure}
+use Rattle.semantics.specs.Close as closing
+use Rattle.semantics.specs.Close.{Closed, CloseRun, closeRun, closeCauses, closeBy, reportOf, afterClose}
 use Rattle.semantics.specs.Calls.{Call, push-type, push-pred, push-func, push-model, push-mor-app, push-el, equate-els, impose-type}
 use Rattle.semantics.specs.Calls.{apply-func, apply-pred, bind-var, bind-ambient, close, type-conflicts, root, root-const, lookup-type}
-use Rattle.semantics.specs.Calls.{ambient-parents, Answer, isAccepted, typed, refuse, Machine, Step, answers, rule, leading, leaves, settledBy}
+use Rattle.semantics.specs.Calls.{ambient-parents, Answer, isAccepted, typed, closed, refuse, Machine, machine, Step, answers, rule, leading}
+use Rattle.semantics.specs.Calls.{leaves, settledBy}
 use Rattle.semantics.specs.Calls.{equalityRule, impositionRule, applicationRule, closeRule, acceptance, refusal, stepBy, step}
 
 module _ (k : Call) (m : Machine) where
@@ -83,6 +86,25 @@ unfolding closeCauses firstOf
 close-first c = go (c .core .met)
   where
     go : (o : Option ℕ) → firstOf (elim o [ none ↦ [] | some n ↦ n if true ∷ [] ]) ≡ o
+    go none = refl
+    go (some n) = refl
+
+-- the close of a structure, with the flags that the call leaves, is that of a machine
+unfoldable pub closedAnswer : Machine → Structure → Answered Closed → Step
+closedAnswer m s (accepted c) = answers (closed c) (machine (m .sig) (leaves true (closed c) s))
+closedAnswer m s (refused n) = refusal m n
+
+abbrev pub closedBy : Machine → Outcome Closed Structure → Step
+closedBy m o = closedAnswer m (o .after) (o .answer)
+
+pub close-steps : (m : Machine) → closedBy m (closing.close (m .sig) (m .structure)) ≡ step close m
+unfolding step stepBy rule closeRule acceptance closing.close closeBy outcome decided closedAnswer
+close-steps m = go (firstOf (closeCauses (closeRun (m .sig) (m .structure))))
+  where
+    go : (o : Option ℕ)
+        → closedBy m (decided o (refusing (m .structure))
+        (accepting (reportOf (closeRun (m .sig) (m .structure))) (afterClose (closeRun (m .sig) (m .structure)) (m .structure))))
+        ≡ decided o (refusal m) (acceptance (closeRule (closeRun (m .sig) (m .structure)) m))
     go none = refl
     go (some n) = refl
 

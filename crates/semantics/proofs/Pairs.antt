@@ -10,7 +10,7 @@ use Rattle.signature.specs.Model.{Sig}
 use Rattle.semantics.specs.Structure.{Fact, FuncApp, PredApp, Pair, Structure, maxPairs, maxFuncApps}
 use Rattle.semantics.specs.Types.{Core, refineParents, refineAll, imposeAll}
 use Rattle.semantics.specs.Close.{Turn, turn, Pass, drained, drainPass, rewriting, enterAll, rewrote, functionalityPass, demands, typed}
-use Rattle.semantics.specs.Close.{typingPass, passes, round, Rounds, isNone, lastRound, oneMore, roundsFrom, rounds, fuel, coreOf}
+use Rattle.semantics.specs.Close.{typingPass, passes, round, Rounds, isNone, lastRound, oneMore, roundsFrom, rounds, fuel, coreAtStart}
 use Rattle.semantics.proofs.Queues.{drain-pairs, Room, still-room, refineParents-queue, refineAll-queue, imposeAll-queue, pairs-room, apps-few}
 use Rattle.semantics.proofs.Stages.{Stage, Along, run-along}
 
@@ -43,15 +43,15 @@ pub record Roomy (t : Turn) : Type 0 where
 -- a pass, by the pairs that wait
 pub record QueueLaw (p : Pass) (A B : Stage) : Type 1 where
   -- what is said of every moment of the pass
-  pub Fits : Turn → Type 0
-  pub fits : (t : Turn) → A t → Fits t
+  pub Moments : Turn → Type 0
+  pub fits : (t : Turn) → A t → Moments t
   pub leads : (g : Sig) (preds : List PredApp) (t : Turn) → A t → B (p g preds t)
 
 -- it begins with a queue that the table can hold, and only takes pairs from it
 unfoldable pub drain-queue : QueueLaw drainPass Waiting Emptied
 unfolding drainPass drained
 drain-queue = record {
-  Fits = λ t. length (t .core .pairs) ≤ maxPairs;
+  Moments = λ t. length (t .core .pairs) ≤ maxPairs;
   fits = λ t h. h .most;
   leads = λ g preds t h. record { few = h .few; none = drain-pairs (t .core) };
 }
@@ -60,7 +60,7 @@ drain-queue = record {
 unfoldable pub functionality-queue : QueueLaw functionalityPass Emptied Roomy
 unfolding functionalityPass rewrote
 functionality-queue = record {
-  Fits = λ t.
+  Moments = λ t.
       (xs ys : List FuncApp) → xs ++ ys ≡ t .apps → length (enterAll (t .core .links) xs (rewriting [] (t .core .pairs) false) .pairs) < maxPairs;
   fits = λ t h xs ys e. begun t h xs (omega (arith, length-append xs ys, ap length e, h .few));
   leads = λ g preds t h. record {
@@ -80,7 +80,7 @@ functionality-queue = record {
 unfoldable pub typing-queue : QueueLaw typingPass Roomy Roomy
 unfolding typingPass typed
 typing-queue = record {
-  Fits = λ t. Imposes (t .core);
+  Moments = λ t. Imposes (t .core);
   fits = λ t h. imposes (t .core) (h .room);
   leads = λ g preds t h.
       let fs = demands g (t .apps) preds in
@@ -94,7 +94,7 @@ all-queue = (Emptied, drain-queue, (Roomy, functionality-queue, (Roomy, typing-q
 -- at every moment of the passes of a list
 abbrev pub AllFit : (g : Sig) (preds : List PredApp) (ps : List Pass) (A B : Stage) → Along QueueLaw ps A B → Turn → Type 0
 AllFit g preds [] A B l t = Unit {0}
-AllFit g preds (p ∷ ps) A C l t = l .1 .Fits t × AllFit g preds ps (l .0) C (l .2) (p g preds t)
+AllFit g preds (p ∷ ps) A C l t = l .1 .Moments t × AllFit g preds ps (l .0) C (l .2) (p g preds t)
 
 all-fit : (g : Sig) (preds : List PredApp) (ps : List Pass) (A B : Stage) (l : Along QueueLaw ps A B) (t : Turn) → A t → AllFit g preds ps A B l t
 all-fit g preds [] A B l t h = tt
@@ -108,7 +108,7 @@ round-roomy g preds xs w = run-along QueueLaw g preds (λ p A B l. l .leads g pr
 module _ (g : Sig) (s : Structure) where
   -- what k rounds leave, were no round the last
   unfoldable pub after : ℕ → Turn
-  after zero = turn (coreOf s) (s .func-apps) false
+  after zero = turn (coreAtStart s) (s .func-apps) false
   after (suc k) = round g (s .pred-apps) (after k .apps) (after k .core)
 
   -- the rounds of a close leave what some number of rounds leaves
@@ -129,22 +129,22 @@ module _ (g : Sig) (s : Structure) where
     -- what the next round begins with
     begins : (k : ℕ) → Waiting (turn (after k .core) (after k .apps) false)
     unfolding after
-    begins zero = (unfold coreOf in record { few = few; most = start })
+    begins zero = (unfold coreAtStart in record { few = few; most = start })
     begins (suc k) =
         let r = round-roomy g (s .pred-apps) (after k .apps) (after k .core) (begins k) in
         record { few = r .few; most = omega (arith, r .room) }
 
     -- in the next round
-    abbrev pub Fits : ℕ → Type 0
-    Fits k = AllFit g (s .pred-apps) passes Waiting Roomy all-queue (turn (after k .core) (after k .apps) false)
+    abbrev pub RoundFits : ℕ → Type 0
+    RoundFits k = AllFit g (s .pred-apps) passes Waiting Roomy all-queue (turn (after k .core) (after k .apps) false)
 
-    pub rounds-fit : (k : ℕ) → Fits k
+    pub rounds-fit : (k : ℕ) → RoundFits k
     rounds-fit k = all-fit g (s .pred-apps) passes Waiting Roomy all-queue (turn (after k .core) (after k .apps) false) (begins k)
 
     -- while the impositions are imposed a pair can be queued
-    pub impositions-fit : Imposes (rounds g (s .pred-apps) (s .func-apps) (coreOf s) .core)
+    pub impositions-fit : Imposes (rounds g (s .pred-apps) (s .func-apps) (coreAtStart s) .core)
     unfolding rounds after
     impositions-fit =
         let r = some-rounds fuel 0 in
         let a = round-roomy g (s .pred-apps) (after (r .0) .apps) (after (r .0) .core) (begins (r .0)) in
-        imposes (rounds g (s .pred-apps) (s .func-apps) (coreOf s) .core) (omega (arith, ap (λ (v : Core). length (v .pairs)) (r .1), a .room))
+        imposes (rounds g (s .pred-apps) (s .func-apps) (coreAtStart s) .core) (omega (arith, ap (λ (v : Core). length (v .pairs)) (r .1), a .room))

@@ -146,11 +146,15 @@ lastRound t = rounds-made (t .core) (t .apps) 1
 unfoldable pub oneMore : Rounds → Rounds
 oneMore r = rounds-made (r .core) (r .apps) (suc (r .count))
 
+-- another round follows
+abbrev pub goesOn : Turn → Bool
+goesOn t = t .worked && isNone (t .core .met)
+
 -- from a round that left t on, at most so many more
 unfoldable pub roundsFrom : ℕ → Sig → List PredApp → Turn → Rounds
 roundsFrom zero g preds t = lastRound t
 roundsFrom (suc k) g preds t =
-    elim (t .worked && isNone (t .core .met)) [ true ↦ oneMore (roundsFrom k g preds (round g preds (t .apps) (t .core))) | false ↦ lastRound t ]
+    elim (goesOn t) [ true ↦ oneMore (roundsFrom k g preds (round g preds (t .apps) (t .core))) | false ↦ lastRound t ]
 
 -- more rounds than a close of a valid structure can take
 unfoldable pub fuel : ℕ
@@ -170,8 +174,8 @@ pub record Closed : Type 0 where
 abbrev pub report : Bool → ℕ → ℕ → Closed
 report changed merges rounds = record { changed = changed; merges = merges; rounds = rounds }
 
-unfoldable pub coreOf : Structure → Core
-coreOf s = core (s .links) (s .marks) (s .facts) (s .pairs) 0 0 none
+unfoldable pub coreAtStart : Structure → Core
+coreAtStart s = core (s .links) (s .marks) (s .facts) (s .pairs) 0 0 none
 
 -- "`canonicalise_refs` rewrites predicate applications, variables, facts and impositions; function applications and ambient elements it leaves untouched."
 unfoldable pub canonicaliseRefs : List ℕ → Structure → Structure
@@ -190,12 +194,15 @@ pub record CloseRun : Type 0 where
   pub rounds : Rounds
   pub core : Core
 
+abbrev pub close-run : Rounds → Core → CloseRun
+close-run r w = record { rounds = r; core = w }
+
 -- "Then each imposition is imposed in queue order"
 unfoldable pub imposedAfter : Rounds → Structure → CloseRun
-imposedAfter r s = record { rounds = r; core = imposeAll (s .impositions) (r .core) }
+imposedAfter r s = close-run r (imposeAll (s .impositions) (r .core))
 
 unfoldable pub closeRun : Sig → Structure → CloseRun
-closeRun g s = imposedAfter (rounds g (s .pred-apps) (s .func-apps) (coreOf s)) s
+closeRun g s = imposedAfter (rounds g (s .pred-apps) (s .func-apps) (coreAtStart s)) s
 
 -- "changed (the Rust's)": a round before the last worked, or an imposition did
 unfoldable pub reportOf : CloseRun → Closed

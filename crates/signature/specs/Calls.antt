@@ -219,13 +219,13 @@ abbrev pub typedOf : Typed → TypedM
 typedOf (At t n) = at (t .0) n
 typedOf Absent = absent
 
-abbrev pub lookedOf : TypeLookup → Answered TypedM
-lookedOf (lookup.Looked t) = accepted (typedOf t)
-lookedOf (lookup.Refused n) = refused n
+abbrev pub typeLookedOf : TypeLookup → Answered TypedM
+typeLookedOf (lookup.Looked t) = accepted (typedOf t)
+typeLookedOf (lookup.Refused n) = refused n
 
-abbrev pub answered : Declared → Answered ℕ
-answered (Number n) = accepted n
-answered (Refused n) = refused n
+abbrev pub declaredAnswer : Declared → Answered ℕ
+declaredAnswer (Number n) = accepted n
+declaredAnswer (Refused n) = refused n
 
 abbrev pub declared : Declaring → Outcome ℕ Sig
-declared r = record { answer = answered (r .answer); after = sigOf (r .signature) }
+declared r = record { answer = declaredAnswer (r .answer); after = sigOf (r .signature) }

@@ -97,24 +97,27 @@ pub record Sig : Type 0 where
   pub models : List ModelM
   pub mor-apps : List MorAppM
 
+abbrev pub sig : List TypeM → List PredM → List FuncM → List ModelM → List MorAppM → Sig
+sig ts ps fs ms xs = record { types = ts; preds = ps; funcs = fs; models = ms; mor-apps = xs }
+
 unfoldable pub empty : Sig
-empty = record { types = []; preds = []; funcs = []; models = []; mor-apps = [] }
+empty = sig [] [] [] [] []
 
 -- each table replaced, the others as they were
 unfoldable pub with-types : Sig → List TypeM → Sig
-with-types g ts = record { types = ts; preds = g .preds; funcs = g .funcs; models = g .models; mor-apps = g .mor-apps }
+with-types g ts = sig ts (g .preds) (g .funcs) (g .models) (g .mor-apps)
 
 unfoldable pub with-preds : Sig → List PredM → Sig
-with-preds g ps = record { types = g .types; preds = ps; funcs = g .funcs; models = g .models; mor-apps = g .mor-apps }
+with-preds g ps = sig (g .types) ps (g .funcs) (g .models) (g .mor-apps)
 
 unfoldable pub with-funcs : Sig → List FuncM → Sig
-with-funcs g fs = record { types = g .types; preds = g .preds; funcs = fs; models = g .models; mor-apps = g .mor-apps }
+with-funcs g fs = sig (g .types) (g .preds) fs (g .models) (g .mor-apps)
 
 unfoldable pub with-models : Sig → List ModelM → Sig
-with-models g ms = record { types = g .types; preds = g .preds; funcs = g .funcs; models = ms; mor-apps = g .mor-apps }
+with-models g ms = sig (g .types) (g .preds) (g .funcs) ms (g .mor-apps)
 
 unfoldable pub with-mor-apps : Sig → List MorAppM → Sig
-with-mor-apps g ms = record { types = g .types; preds = g .preds; funcs = g .funcs; models = g .models; mor-apps = ms }
+with-mor-apps g xs = sig (g .types) (g .preds) (g .funcs) (g .models) xs
 
 -- what stands for a type, a predicate or a function that is not declared
 abbrev pub noType : TypeM

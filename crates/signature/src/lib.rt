@@ -15,7 +15,7 @@ ghost use Rattle.signature.specs.Model.{maxTypes, maxPreds, maxFuncs, ma
 ghost use Rattle.signature.specs.Model.{predOf, funcOf, modelOf, morAppOf, viewTypes, viewPreds, viewFuncs, viewModels};
 ghost use Rattle.signature.specs.Model.{viewMorApps, sigOf};
 ghost use Rattle.signature.specs.Calls.{isType, areTypes, isFunc, isModel, isMor, isMorOf, member, functions, modelGiven, inModels};
-ghost use Rattle.signature.specs.Calls.{inMorApps, pairGiven, concreteTypeAt, lookupType, typedOf, lookedOf};
+ghost use Rattle.signature.specs.Calls.{inMorApps, pairGiven, concreteTypeAt, lookupType, typedOf, typeLookedOf};
 
 // Mor is the kind of a model's morphisms, with the model's type.
 pub enum TypeKind {
@@ -566,7 +566,7 @@ impl Types {
 impl Signature {
     // The public type lookup.
     pub fn lookup_type(self, typ: TypeId, parents: ElIds) -> TypeLookup
-        ensures { λ r. ⌜ lookedOf r ≡ lookupType (sigOf self) (typ .0) (givenEls parents) ⌝ }
+        ensures { λ r. ⌜ typeLookedOf r ≡ lookupType (sigOf self) (typ .0) (givenEls parents) ⌝ }
     {
         let verdict = Verdict::Accepted;
         let verdict = verdict.refuse_if(Refusal::MALFORMED, parents.is_too_long());

@@ -21,7 +21,7 @@ use Rattle.ids.proofs.Views.{length-view, view-pushed}
 use Rattle.unification.specs.declared.Finding.{Finding}
 use Rattle.unification.specs.declared.Finding.the-variants as findings
 use Rattle.unification.specs.Roots as roots
-use Rattle.unification.specs.Roots.{maxEls, linksOf, shortOf, FindM, findOf, findCauses, answered}
+use Rattle.unification.specs.Roots.{maxEls, linksOf, shortOf, FindM, findOf, findCauses, foundAnswer}
 use Rattle.unification.proofs.Laws.{short-length}
 use Rattle.unification.proofs.Beside.{kept}
 use Rattle.signature.specs.Model.{Sig}
@@ -48,11 +48,11 @@ unfoldable pub findingOf : Answered FindM → Answer
 findingOf (accepted f) = calls.found f
 findingOf (refused n) = calls.refuse n
 
-pub finding : (f : Finding) {a : Answered FindM} → answered f ≡ a → foundOf f ≡ findingOf a
+pub finding : (f : Finding) {a : Answered FindM} → foundAnswer f ≡ a → foundOf f ≡ findingOf a
 unfolding findingOf
 finding f e = go f ∙ ap findingOf e
   where
-    go : (f : Finding) → foundOf f ≡ findingOf (answered f)
+    go : (f : Finding) → foundOf f ≡ findingOf (foundAnswer f)
     go (findings.Found f) = refl
     go (findings.Refused n) = refl
 

@@ -107,10 +107,10 @@ elsIn (calls.refuse n) = []
 abbrev pub looking : Step → Looking
 looking s = beside s (elsIn (s .answer))
 
-abbrev pub lookedOf : List ℕ → Looked → calls.Answer
-lookedOf es looked.Found = calls.els es
-lookedOf es (looked.Refused n) = calls.refuse n
+abbrev pub ambientsLookedOf : List ℕ → Looked → calls.Answer
+ambientsLookedOf es looked.Found = calls.els es
+ambientsLookedOf es (looked.Refused n) = calls.refuse n
 
 -- the elements stand beside the answer, as many as their length says
 abbrev pub lookingOf : calls.Machine → AmbientParents → Looking
-lookingOf m r = beside (answers (lookedOf (givenEls (r .els)) (r .answer)) m) (givenEls (r .els))
+lookingOf m r = beside (answers (ambientsLookedOf (givenEls (r .els)) (r .answer)) m) (givenEls (r .els))

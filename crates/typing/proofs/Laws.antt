@@ -14,7 +14,7 @@ use Rattle.ids.specs.Ids.{elOf, typeOf, elsOf, typesOf}
 use Rattle.ids.proofs.Views.{length-view, map-take, view-next, view-done}
 use Rattle.signature.specs.declared.Typed.{Typed}
 use Rattle.signature.specs.declared.Typed.the-variants.{At, Absent}
-use Rattle.signature.specs.Model.{Sig, TypeM}
+use Rattle.signature.specs.Model.{Sig, TypeM, sig}
 use Rattle.signature.specs.Calls.{TypedM, typedOf, concreteTypeAt}
 use Rattle.semantics.specs.Structure.{Fact, fact}
 use Rattle.semantics.specs.Types as types
@@ -35,7 +35,7 @@ uncut l n h = sym (take-all n (elsOf l) (omega (arith, length-view elOf (l .len)
 
 -- some signature with these types
 abbrev pub onlyTypes : List TypeM → Sig
-onlyTypes ts = record { types = ts; preds = []; funcs = []; models = []; mor-apps = [] }
+onlyTypes ts = sig ts [] [] [] []
 
 -- A type that is looked up at an element, with as many parents given as there are.
 module _ (g : Sig) (t : ℕ) (ps : List ℕ) (e : ℕ) {ts : List TypeM} {given : ℕ} {typed : Typed} (looked : typedOf typed ≡ concreteTypeAt ts t given)

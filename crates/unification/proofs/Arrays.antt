@@ -2,20 +2,20 @@
 use mathlib.Core.Path.{_≡_, refl, sym, ap, _∙_}
 use mathlib.Core.Logic.{⊎-elim}
 use mathlib.Core.List.{List, [], _∷_}
-use mathlib.Core.Option.{none, some}
+use mathlib.Core.Option.{Option, none}
 use Prim.Native.Nat.{ℕ, zero, suc, _+_, _≤_, _<_}
 use native.Mathlib.Omega.{arith}
 use native.Mathlib.Numerals.{add-one}
 use lib.ListN.{length, getD, take, set, length-set, length-append, length-take, List·getD-append, List·getD-eq-default}
 use lib.Seq.{getD-set-same, getD-set-other, getD-at, getD-take, take-set-lt, take-suc-set}
-use borrow.Author.Tests.{le-leb, lt-leb}
-use Rattle.ids.specs.Answers.{undeclared, firstOf, outcome, refusing, accepting}
-use Rattle.ids.proofs.Answers.{first-applies, first-passes, first-none}
-use Rattle.ids.proofs.Judging.{decided-refuses, decided-accepts}
+use lib.Dec.{leb}
+use Rattle.ids.specs.Answers.{undeclared, _if_}
+use Rattle.ids.specs.Judge.{orIf}
+use Rattle.ids.proofs.Judging.{SoFar, begin, judge}
 use Rattle.ids.proofs.Tables.{push-room, push-full}
 use Rattle.unification.specs.declared.Unification.{Unification}
 use Rattle.unification.specs.Roots.{maxEls, linksOf, upTo, link, rootOf, depthOf, shortOf, addedOf, FindM, findOf, ShortM}
-use Rattle.unification.specs.Roots.{shortenedOf, findCauses, rootConst, root}
+use Rattle.unification.specs.Roots.{shortenedOf, findCauses}
 use Rattle.unification.proofs.Numbers.{less-or, same-or}
 use Rattle.unification.proofs.Laws.{link-other, root-stop, root-pass, root-above, depth-stop, depth-pass, depth-above, short-stop}
 use Rattle.unification.proofs.Laws.{short-first}
@@ -106,32 +106,10 @@ short-past ls e h =
     let own : link ls e ≡ e = link-past ls e h in
     short-is ls e e 0 ls (root-stop ls e (omega arith)) (depth-stop ls e (omega arith)) (short-stop ls e (omega arith))
 
--- The public finds: refused where the element is not there, else what the finds above give.
-
-module _ (ls : List ℕ) (e : ℕ) where
-  not-there : length ls ≤ e → firstOf (findCauses ls e) ≡ some undeclared
-  unfolding findCauses
-  not-there h = first-applies _ _ _ (le-leb (length ls) e h)
-
-  there : e < length ls → firstOf (findCauses ls e) ≡ none
-  unfolding findCauses
-  there h = first-passes _ _ _ (lt-leb (length ls) e h) ∙ first-none
-
-  pub const-refused : length ls ≤ e → refusing ls undeclared ≡ rootConst ls e
-  unfolding rootConst outcome
-  const-refused h = sym (decided-refuses _ _ (not-there h))
-
-  pub const-found : e < length ls → accepting (findOf ls e) ls ≡ rootConst ls e
-  unfolding rootConst outcome
-  const-found h = sym (decided-accepts _ _ (there h))
-
-  pub root-refused : length ls ≤ e → refusing ls undeclared ≡ root ls e
-  unfolding root outcome
-  root-refused h = sym (decided-refuses _ _ (not-there h))
-
-  pub root-found : (r : ShortM) → r ≡ shortenedOf ls e → e < length ls → accepting (r .find) (r .links) ≡ root ls e
-  unfolding root outcome shortenedOf
-  root-found r is h = (λ i. accepting (is i .find) (is i .links)) ∙ sym (decided-accepts _ _ (there h))
+-- The public finds judge whether the element is there, by the number n of elements.
+pub find-judged : (ls : List ℕ) (e : ℕ) {n : ℕ} {v : Option ℕ} → n ≡ length ls → v ≡ orIf none (undeclared if leb n e) → SoFar v (findCauses ls e)
+unfolding findCauses
+find-judged ls e h is = judge undeclared begin is (ap (λ (k : ℕ). leb k e) h)
 
 -- One turn of the loop that shortens: from x, whose link p falls, its entry now that of p.
 module _ (u : Unification) (x p : ℕ) (at : x < length (linksOf u)) (is : p ≡ link (linksOf u) x) (low : p < x) where

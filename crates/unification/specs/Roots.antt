@@ -97,15 +97,15 @@ root ls e = outcome (findCauses ls e) ls (findOf ls e) (shortOf ls e)
 abbrev pub found : Find → FindM
 found f = record { root = f .root .0; count = f .count }
 
-abbrev pub answered : Finding → Answered FindM
-answered (Found f) = accepted (found f)
-answered (Refused n) = refused n
+abbrev pub foundAnswer : Finding → Answered FindM
+foundAnswer (Found f) = accepted (found f)
+foundAnswer (Refused n) = refused n
 
 abbrev pub shortened : Shortened → ShortM
 shortened r = record { find = found (r .find); links = linksOf (r .unification) }
 
 abbrev pub rooted : Rooted → Outcome FindM (List ℕ)
-rooted r = record { answer = answered (r .find); after = linksOf (r .unification) }
+rooted r = record { answer = foundAnswer (r .find); after = linksOf (r .unification) }
 
 -- no link rises
 pub record Formed (ls : List ℕ) : Type 0 where

@@ -3,6 +3,7 @@
 use ids::ElId;
 use ids::ElIds;
 use ids::Refusal;
+use ids::Verdict;
 ghost use mathlib.Core.Path.{_≡_};
 ghost use mathlib.Core.List.{map};
 ghost use lib.ListN.{set};
@@ -10,7 +11,7 @@ ghost use Rattle.ids.specs.Ids.{elsOf, handedEls, whole};
 ghost use Rattle.ids.specs.Table.{Sized};
 ghost use Rattle.unification.specs.Roots.{maxEls, linksOf, handedLinks, rootOf, fresh, findOf, found};
 ghost use Rattle.unification.specs.Roots.{shortenedOf, shortened, mergedOf, addedOf};
-ghost use Rattle.unification.specs.Roots.{rootConst, answered, root, rooted};
+ghost use Rattle.unification.specs.Roots.{rootConst, foundAnswer, root, rooted};
 
 // Element e links to links[e]; the first `len` are there.
 pub struct Unification {
@@ -190,11 +191,13 @@ impl Unification {
 
     // The public find that alters no link.
     pub fn root_const(self, el: ElId) -> Finding
-        ensures { λ r. ⌜ record { answer = answered r; after = linksOf self } ≡ rootConst (linksOf self) (el .0) ⌝ }
+        ensures { λ r. ⌜ record { answer = foundAnswer r; after = linksOf self } ≡ rootConst (linksOf self) (el .0) ⌝ }
     {
         let at = el.0 as usize;
-        if self.size() <= at {
-            return Finding::Refused(Refusal::UNDECLARED);
+        let verdict = Verdict::Accepted;
+        let verdict = verdict.refuse_if(Refusal::UNDECLARED, self.size() <= at);
+        if let Verdict::Refused(number) = verdict {
+            return Finding::Refused(number);
         }
         Finding::Found(self.find(el))
     }
@@ -204,9 +207,11 @@ impl Unification {
         ensures { λ r. ⌜ rooted r ≡ root (linksOf self) (el .0) ⌝ }
     {
         let at = el.0 as usize;
-        if self.size() <= at {
+        let verdict = Verdict::Accepted;
+        let verdict = verdict.refuse_if(Refusal::UNDECLARED, self.size() <= at);
+        if let Verdict::Refused(number) = verdict {
             return Rooted {
-                find: Finding::Refused(Refusal::UNDECLARED),
+                find: Finding::Refused(number),
                 unification: self,
             };
         }

@@ -41,7 +41,7 @@ use Rattle.semantics.proofs.Judged.{step-by, listed-if}
 use Rattle.validity.proofs.Imposing.{canonical-valid}
 use Rattle.validity.proofs.Entering.{canonical-entry}
 use Rattle.validity.proofs.Closing.{after-close}
-use Rattle.validity.proofs.Growing.{More, table-more, queue-more, queue-push, pair-more, fact-more, func-app-more, pred-app-more}
+use Rattle.validity.proofs.Growing.{CountsGrow, table-more, queue-more, queue-push, pair-more, fact-more, func-app-more, pred-app-more}
 use Rattle.validity.proofs.Growing.{var-more, ambient-more, counted}
 use Rattle.validity.proofs.Replacing.{flags-valid, links-valid, pairs-valid, impositions-valid, func-apps-valid, pred-apps-valid}
 use Rattle.validity.proofs.Replacing.{vars-valid, ambients-valid}
@@ -118,7 +118,7 @@ module _ (g : Sig) (s : Structure) (v : Valid g s) where
 
   -- Kind 6.
 
-  more : More c (countsAt g (suc (length (s .links))))
+  more : CountsGrow c (countsAt g (suc (length (s .links))))
   more = record { els = omega arith; types = omega arith; preds = omega arith; funcs = omega arith }
 
   added-valid : (mark : Bool) → length (s .links) < maxEls → ValidStructure (countsAt g (suc (length (s .links)))) (withEl mark s)

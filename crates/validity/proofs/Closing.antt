@@ -7,7 +7,7 @@ use mathlib.Core.Option.{Option, none, some}
 use Prim.Native.Nat.{ℕ, _+_}
 use native.Mathlib.Omega.{arith}
 use lib.ListN.{length, length-map}
-use Rattle.ids.specs.Answers.{Outcome, outcome, accepted, refused, refusing, accepting}
+use Rattle.ids.specs.Answers.{Answered, Outcome, outcome, accepted, refused, refusing, accepting}
 use Rattle.ids.specs.Table.{rewriteInto}
 use Rattle.ids.proofs.Judging.{decided-refuses, decided-accepts, decided-by}
 use Rattle.ids.proofs.Sorted.{All, all-map, all-image, rewrite-all, rewrite-sorted, rewrite-length, sorted-image}
@@ -16,24 +16,26 @@ use Rattle.signature.specs.Model.{Sig}
 use Rattle.semantics.specs.Structure.{Fact, PredApp, Var, Structure, compareFact, comparePredApp, compareVar, compareFuncApp, maxFuncApps}
 use Rattle.semantics.specs.Structure.{canonicalFact, canonicalPredApp, canonicalVar, empty}
 use Rattle.semantics.specs.Types.{Core}
-use Rattle.semantics.specs.Close.{Turn, CloseRun, Closed, round, rounds, roundsFrom, isNone, fuel, coreOf, canonicaliseRefs, withCore, imposedAfter}
+use Rattle.semantics.specs.Close.{Turn, CloseRun, Closed, round, rounds, roundsFrom, isNone, fuel, coreAtStart, canonicaliseRefs, withCore, imposedAfter, goesOn}
 use Rattle.semantics.specs.Close.{closeRun, closeCauses, reportOf, afterClose, closeBy, close}
 use Rattle.semantics.specs.Valid.{Counts, countsOf, FactValid, PredAppValid, VarValid, FuncAppValid, OnRoot, Queue, Table, ValidStructure, Unreserved}
 use Rattle.semantics.specs.Valid.{Valid}
 use Rattle.semantics.proofs.Orders.{fact-ordered, pred-app-ordered}
 use Rattle.semantics.proofs.Computes.{everything}
-use Rattle.semantics.proofs.Judged.{close-first}
+use Rattle.semantics.specs.Calls as calls
+use Rattle.semantics.specs.Calls.{Machine, Step, closed, refusal, step}
+use Rattle.semantics.proofs.Judged.{close-first, closedAnswer, close-steps}
 use Rattle.semantics.proofs.Queues.{Room}
-use Rattle.semantics.proofs.Pairs.{Imposes, Fits, rounds-fit, impositions-fit}
+use Rattle.semantics.proofs.Pairs.{Imposes, RoundFits, rounds-fit, impositions-fit}
 use Rattle.validity.specs.Numbers.{closeNumbers, MayMeet}
 use Rattle.validity.proofs.Drain.{ValidCore}
 use Rattle.validity.proofs.Imposing.{Imposed, imposeAll-advances, roots-listed, canonical-valid, canonical-rooted}
 use Rattle.validity.proofs.Turns.{Begins, AfterRound}
-use Rattle.validity.proofs.Fuel.{goesOn, Last, more-fuel, rounds-end, rounds-after}
+use Rattle.validity.proofs.Fuel.{LastRoundOf, more-fuel, rounds-end, rounds-after}
 use Rattle.validity.proofs.Growing.{counted}
 
-pub core-valid : (c : Counts) (s : Structure) → ValidStructure c s → ValidCore c (coreOf s)
-unfolding coreOf
+pub core-valid : (c : Counts) (s : Structure) → ValidStructure c s → ValidCore c (coreAtStart s)
+unfolding coreAtStart
 core-valid c s v = record {
   els = v .els;
   links = v .links;
@@ -115,19 +117,19 @@ module _ (g : Sig) (s : Structure) (v : Valid g s) where
 
   -- The rounds.
 
-  begins : Begins g c (coreOf s) (s .func-apps)
+  begins : Begins g c (coreAtStart s) (s .func-apps)
   begins = record { valid = core-valid c s vs; apps = vs .func-apps; unreserved = v .unreserved }
 
   pub close-fuel : (j : ℕ)
-      → roundsFrom (fuel + j) g (s .pred-apps) (round g (s .pred-apps) (s .func-apps) (coreOf s))
-      ≡ rounds g (s .pred-apps) (s .func-apps) (coreOf s)
+      → roundsFrom (fuel + j) g (s .pred-apps) (round g (s .pred-apps) (s .func-apps) (coreAtStart s))
+      ≡ rounds g (s .pred-apps) (s .func-apps) (coreAtStart s)
   unfolding rounds
   close-fuel =
-      more-fuel g (v .sig) (c .els) (s .pred-apps) (vs .pred-apps .each) (vs .els-most) (coreOf s) (s .func-apps) begins
+      more-fuel g (v .sig) (c .els) (s .pred-apps) (vs .pred-apps .each) (vs .els-most) (coreAtStart s) (s .func-apps) begins
 
-  pub close-ends : Last g (s .pred-apps) (rounds g (s .pred-apps) (s .func-apps) (coreOf s))
+  pub close-ends : LastRoundOf g (s .pred-apps) (rounds g (s .pred-apps) (s .func-apps) (coreAtStart s))
   close-ends =
-      rounds-end g (v .sig) (c .els) (s .pred-apps) (vs .pred-apps .each) (vs .els-most) (coreOf s) (s .func-apps) begins
+      rounds-end g (v .sig) (c .els) (s .pred-apps) (vs .pred-apps .each) (vs .els-most) (coreAtStart s) (s .func-apps) begins
 
   last : Turn
   last = close-ends .turn
@@ -135,7 +137,7 @@ module _ (g : Sig) (s : Structure) (v : Valid g s) where
   last-after : AfterRound g c last
   unfolding last close-ends
   last-after =
-      rounds-after g (v .sig) (c .els) (s .pred-apps) (vs .pred-apps .each) (vs .els-most) (coreOf s) (s .func-apps) begins
+      rounds-after g (v .sig) (c .els) (s .pred-apps) (vs .pred-apps .each) (vs .els-most) (coreAtStart s) (s .func-apps) begins
 
   last-ends : goesOn last ≡ false
   unfolding last
@@ -258,5 +260,16 @@ module _ (g : Sig) (s : Structure) (v : Valid g s) where
 
   -- at every moment of the close at most `maxPairs` pairs wait: in each round, and while the impositions are imposed, also those of a close
   -- that 11 refuses
-  pub close-fits : ((k : ℕ) → Fits g s (vs .func-apps .most) (vs .pairs .most) k) × Imposes (rounds g (s .pred-apps) (s .func-apps) (coreOf s) .core)
+  pub close-fits : ((k : ℕ) → RoundFits g s (vs .func-apps .most) (vs .pairs .most) k) × Imposes (rounds g (s .pred-apps) (s .func-apps) (coreAtStart s) .core)
   close-fits = (rounds-fit g s (vs .func-apps .most) (vs .pairs .most), impositions-fit g s (vs .func-apps .most) (vs .pairs .most))
+
+-- The call: refused with one of those numbers, and everything as it was, or accepted.
+pub close-step-answers : (m : Machine) → Valid (m .sig) (m .structure)
+    → ((n : ℕ) × List·Memᴰ n closeNumbers × (step calls.close m ≡ refusal m n)) ⊎ ((c : Closed) × (step calls.close m .answer ≡ closed c))
+unfolding closedAnswer
+close-step-answers m v =
+    let o = close (m .sig) (m .structure) in
+    elim (close-answers (m .sig) (m .structure) v) [
+      | inl r ↦ inl (r .number, r .listed, sym (close-steps m) ∙ ap (closedAnswer m (o .after)) (r .answer))
+      | inr a ↦ inr (a .closed, sym (ap (λ (s : Step). s .answer) (close-steps m)) ∙ ap (λ (x : Answered Closed). closedAnswer m (o .after) x .answer) (a .answer))
+    ]

@@ -1,5 +1,5 @@
 -- What merges and drains keep of a valid structure, and what they lower.
-use mathlib.Core.Path.{_≡_, refl, ap, _∙_}
+use mathlib.Core.Path.{_≡_, refl, sym, ap, subst, _∙_}
 use mathlib.Core.Logic.{_≢_, _⊎_, inl, inr}
 use mathlib.Core.Bool.{Bool, true, false, _&&_}
 use mathlib.Core.List.{List, [], _∷_}
@@ -9,7 +9,7 @@ use native.Mathlib.Omega.{arith}
 use lib.ListN.{length, set, length-set}
 use lib.Dec.{eqb}
 use borrow.Author.Tests.{eqb-false, ne-eqb}
-use Rattle.ids.proofs.Sorted.{All, all-map, no-test, rewrite-all, rewrite-sorted, rewrite-length}
+use Rattle.ids.proofs.Sorted.{All, all-map, rewrite-all, rewrite-sorted, rewrite-length}
 use Rattle.unification.specs.Roots.{rootOf, mergedOf, Formed}
 use Rattle.unification.proofs.Numbers.{less-or}
 use Rattle.unification.proofs.Laws.{root-le, root-root, joined, joined-other, root-merged, merged-less}
@@ -35,35 +35,35 @@ pub record ValidCore (c : Counts) (w : Core) : Type 0 where
 unfoldable pub remaining : Core → ℕ
 remaining w = (maxFacts + 2) * roots (w .links) + (maxFacts + 1 - length (w .facts))
 
--- from w to v: what v holds is valid, and each merge and each added fact was paid for
+-- from w to v: what v holds is valid, and each merge and each added fact lowers what remains to do by one at least
 pub record Advances (c : Counts) (w v : Core) : Type 0 where
   pub valid : ValidCore c v
   pub merges : w .merges ≤ v .merges
   pub added : w .added ≤ v .added
-  pub paid : remaining v + (v .merges + v .added) ≤ remaining w + (w .merges + w .added)
+  pub lowered : remaining v + (v .merges + v .added) ≤ remaining w + (w .merges + w .added)
   -- a number that was met stays
   pub met : v .met ≡ none → w .met ≡ none
 
-pub stays : (c : Counts) (w : Core) → ValidCore c w → Advances c w w
-stays c w h = record { valid = h; merges = omega arith; added = omega arith; paid = omega arith; met = λ q. q }
+pub advances-none : (c : Counts) (w : Core) → ValidCore c w → Advances c w w
+advances-none c w h = record { valid = h; merges = omega arith; added = omega arith; lowered = omega arith; met = λ q. q }
 
 pub advances-then : (c : Counts) (w v u : Core) → Advances c w v → Advances c v u → Advances c w u
 advances-then c w v u a b = record {
   valid = b .valid;
   merges = omega (arith, a .merges, b .merges);
   added = omega (arith, a .added, b .added);
-  paid = omega (arith, a .paid, b .paid);
+  lowered = omega (arith, a .lowered, b .lowered);
   met = λ q. a .met (b .met q);
 }
 
 -- other pairs
-pub requeued : (c : Counts) (ps : List Pair) (w : Core) → ValidCore c w → Queue (PairValid c) maxPairs ps → Advances c w (with-pairs ps w)
+pub requeued-advances : (c : Counts) (ps : List Pair) (w : Core) → ValidCore c w → Queue (PairValid c) maxPairs ps → Advances c w (with-pairs ps w)
 unfolding remaining
-requeued c ps w h q = record {
+requeued-advances c ps w h q = record {
   valid = record { els = h .els; links = h .links; marks = h .marks; facts = h .facts; rooted = h .rooted; pairs = q; met = h .met };
   merges = omega arith;
   added = omega arith;
-  paid = omega arith;
+  lowered = omega arith;
   met = λ z. z;
 }
 
@@ -115,7 +115,7 @@ module _ (c : Counts) (keep drop : ℕ) (w : Core) (h : ValidCore c w) (low : ke
     };
     merges = omega arith;
     added = omega arith;
-    paid = omega (arith, fewer, h .facts .most, roots-merged (w .links) keep drop low inside rk rd);
+    lowered = omega (arith, fewer, h .facts .most, roots-merged (w .links) keep drop low inside rk rd);
     met = λ q. q;
   }
     where
@@ -137,7 +137,7 @@ module _ (c : Counts) where
   joinRoots-advances a b w h la lb ra rb = go (eqb a b) refl
     where
       go : (t : Bool) → eqb a b ≡ t → Advances c w (elim t [ true ↦ w | false ↦ merge (min a b) (max a b) w ])
-      go true e = stays c w h
+      go true e = advances-none c w h
       go false e = elim (ordered a b (eqb-false a b e)) [
         | inl o ↦ rw (o .0, o .1) (merge-advances c a b w h (o .2) lb ra rb)
         | inr o ↦ rw (o .0, o .1) (merge-advances c b a w h (o .2) la rb ra)
@@ -156,21 +156,31 @@ TwoRoots ls p = rootOf ls (p .lhs) ≢ rootOf ls (p .rhs)
 
 join-merges : (p : Pair) (w : Core) → TwoRoots (w .links) p → w .merges < join p w .merges
 unfolding join joinRoots merge
-join-merges p w n = go (eqb a b) (ne-eqb a b n)
+join-merges p w h = rw (join, joinRoots, ne-eqb (rootOf (w .links) (p .lhs)) (rootOf (w .links) (p .rhs)) h) (omega arith)
+
+join-more : (p : Pair) (w : Core) → w .merges ≤ join p w .merges
+unfolding join joinRoots merge
+join-more p w = go (rootOf (w .links) (p .lhs)) (rootOf (w .links) (p .rhs)) (eqb (rootOf (w .links) (p .lhs)) (rootOf (w .links) (p .rhs)))
   where
-    a : ℕ
-    a = rootOf (w .links) (p .lhs)
+    go : (a b : ℕ) (t : Bool) → w .merges ≤ (elim t as (λ _. Core) [ true ↦ w | false ↦ merge (min a b) (max a b) w ]) .merges
+    go a b true = omega arith
+    go a b false = omega arith
 
-    b : ℕ
-    b = rootOf (w .links) (p .rhs)
+drainPairs-more : (ps : List Pair) (w : Core) → w .merges ≤ drainPairs ps w .merges
+unfolding drainPairs
+drainPairs-more [] w = omega arith
+drainPairs-more (p ∷ ps) w = omega (arith, join-more p w, drainPairs-more ps (join p w))
 
-    go : (t : Bool) → t ≡ false → w .merges < (elim t as (λ _. Core) [ true ↦ w | false ↦ merge (min a b) (max a b) w ]) .merges
-    go true e = no-test refl e
-    go false e = omega arith
+-- where the pair that was queued last has two roots, they are merged
+pub drain-merges : (w : Core) (p : Pair) (ps : List Pair) → w .pairs ≡ p ∷ ps → TwoRoots (w .links) p → w .merges < drain w .merges
+unfolding drain drainPairs
+drain-merges w p ps q two =
+    subst (λ (l : List Pair). w .merges < drainPairs l (with-pairs [] w) .merges) (sym q)
+    (omega (arith, join-merges p (with-pairs [] w) two, drainPairs-more ps (join p (with-pairs [] w))))
 
 drainPairs-advances : (c : Counts) (ps : List Pair) (w : Core) → ValidCore c w → All (PairValid c) ps → Advances c w (drainPairs ps w)
 unfolding drainPairs
-drainPairs-advances c [] w h v = stays c w h
+drainPairs-advances c [] w h v = advances-none c w h
 drainPairs-advances c (p ∷ ps) w h v =
     let a = join-advances c p w h (v .0) in
     advances-then c w (join p w) (drainPairs ps (join p w)) a (drainPairs-advances c ps (join p w) (a .valid) (v .1))
@@ -181,20 +191,8 @@ module _ (c : Counts) (w : Core) (h : ValidCore c w) where
 
   first : Advances c w start
   unfolding start
-  first = requeued c [] w h (record { each = tt; most = omega arith })
+  first = requeued-advances c [] w h (record { each = tt; most = omega arith })
 
   pub drain-advances : Advances c w (drain w)
   unfolding drain start
   drain-advances = advances-then c w start (drainPairs (w .pairs) start) first (drainPairs-advances c (w .pairs) start (first .valid) (h .pairs .each))
-
-  -- where the pair that was queued last has two roots, they are merged
-  pub drain-merges : (p : Pair) (ps : List Pair) → w .pairs ≡ p ∷ ps → TwoRoots (w .links) p → w .merges < drain w .merges
-  unfolding drain drainPairs start
-  drain-merges p ps q n = rw q (go (rw q at (h .pairs .each)))
-    where
-      go : All (PairValid c) (p ∷ ps) → w .merges < drainPairs ps (join p start) .merges
-      go v =
-          let a = join-merges p start n in
-          let b = join-advances c p start (first .valid) (v .0) in
-          let e = drainPairs-advances c ps (join p start) (b .valid) (v .1) in
-          omega (arith, a, e .merges)

@@ -31,7 +31,7 @@ enterAll-report ls (x ∷ xs) t h =
 
 module _ (c : Counts) (ls : List ℕ) where
   -- an entry that is rewritten: its result is a root
-  pub record Entry (x : FuncApp) : Type 0 where
+  pub record RewrittenEntry (x : FuncApp) : Type 0 where
     pub valid : FuncAppValid c x
     pub root : rootOf ls (x .result) ≡ x .result
 
@@ -40,13 +40,13 @@ module _ (c : Counts) (ls : List ℕ) where
     pub valid : PairValid c p
     pub two : TwoRoots ls p
 
-  pub record Entered (t : Rewritten) : Type 0 where
-    pub each : All Entry (t .apps)
+  pub record EnteredValid (t : Rewritten) : Type 0 where
+    pub each : All RewrittenEntry (t .apps)
     pub sorted : Sorted compareFuncApp (t .apps)
     pub pairs : All Clash (t .pairs)
     pub report : t .queued ≡ waits (t .pairs)
 
-  pub canonical-entry : (x : FuncApp) → FuncAppValid c x → Entry (canonicalFuncApp ls x)
+  pub canonical-entry : (x : FuncApp) → FuncAppValid c x → RewrittenEntry (canonicalFuncApp ls x)
   unfolding canonicalFuncApp
   canonical-entry x v = record {
     valid = record {
@@ -58,10 +58,10 @@ module _ (c : Counts) (ls : List ℕ) where
     root = root-root ls (x .result);
   }
 
-  pub fresh-entered : (xs : List FuncApp) → All (FuncAppValid c) xs → Entered (enterAll ls xs fresh)
+  pub fresh-entered : (xs : List FuncApp) → All (FuncAppValid c) xs → EnteredValid (enterAll ls xs fresh)
   unfolding waits
   fresh-entered xs v = record {
-    each = enterAll-all Entry ls xs fresh (all-map canonical-entry xs v) tt;
+    each = enterAll-all RewrittenEntry ls xs fresh (all-map canonical-entry xs v) tt;
     sorted = enterAll-sorted ls xs fresh tt;
     pairs = enterAll-pairs (λ e. (e < c .els) × (rootOf ls e ≡ e)) Clash
         (λ p a b n. record { valid = record { lhs = a .0; rhs = b .0 }; two = λ z. n (sym (a .1) ∙ z ∙ b .1) }) ls xs fresh

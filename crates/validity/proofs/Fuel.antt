@@ -1,7 +1,7 @@
 -- The rounds of a close of a valid structure, marks or not, end with one in which no pass reports work or number 11 was met: fuel never ends them.
 use mathlib.Core.Path.{_≡_, refl, sym, ap, _∙_}
 use mathlib.Core.Logic.{inl, inr}
-use mathlib.Core.Bool.{Bool, true, false, _&&_}
+use mathlib.Core.Bool.{true, false}
 use mathlib.Core.List.{List}
 use Prim.Native.Nat.{ℕ, zero, suc, _+_, _≤_, _<_}
 use native.Mathlib.Omega.{arith}
@@ -10,14 +10,10 @@ use Rattle.unification.specs.Roots.{maxEls}
 use Rattle.signature.specs.Model.{Sig}
 use Rattle.semantics.specs.Structure.{FuncApp, PredApp}
 use Rattle.semantics.specs.Types.{Core}
-use Rattle.semantics.specs.Close.{Turn, Rounds, rounds, round, isNone, lastRound, oneMore, roundsFrom, fuel}
+use Rattle.semantics.specs.Close.{Turn, Rounds, rounds, round, isNone, lastRound, oneMore, roundsFrom, fuel, goesOn}
 use Rattle.semantics.specs.Valid.{countsAt, PredAppValid, ValidSig}
 use Rattle.semantics.proofs.Cases.{test, and-first}
 use Rattle.validity.proofs.Turns.{Begins, AfterRound, Within, measure, measure-fuel, measure-falls, round-within}
-
--- another round follows
-abbrev pub goesOn : Turn → Bool
-goesOn t = t .worked && isNone (t .core .met)
 
 -- the last of the rounds of `roundsFrom`, with its report
 unfoldable pub lastFrom : ℕ → Sig → List PredApp → Turn → Turn
@@ -64,7 +60,7 @@ module _ (g : Sig) (preds : List PredApp) where
   ]
 
 -- the last round of some, with its report: it is a round, and no round follows
-pub record Last (g : Sig) (preds : List PredApp) (r : Rounds) : Type 0 where
+pub record LastRoundOf (g : Sig) (preds : List PredApp) (r : Rounds) : Type 0 where
   pub before : List FuncApp × Core
   pub turn : Turn
   pub is : turn ≡ round g preds (before .0) (before .1)
@@ -145,7 +141,7 @@ module _ (g : Sig) (v : ValidSig g) (n : ℕ) (preds : List PredApp) (pv : All (
         rounds-enough (fuel + j) fuel (round g preds xs w) begin (λ e. omega (arith, l)) (λ e. l)
 
     -- the last round reports no work, or a number was met
-    pub rounds-end : Last g preds (rounds g preds xs w)
+    pub rounds-end : LastRoundOf g preds (rounds g preds xs w)
     unfolding rounds
     rounds-end =
         let t = round g preds xs w in

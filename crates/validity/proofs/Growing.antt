@@ -71,13 +71,13 @@ module _ {n m i j : ℕ} (k : n ≤ m) (l : i ≤ j) where
 
 -- The structure.
 
-pub record More (c d : Counts) : Type 0 where
+pub record CountsGrow (c d : Counts) : Type 0 where
   pub els : c .els ≤ d .els
   pub types : c .types ≤ d .types
   pub preds : c .preds ≤ d .preds
   pub funcs : c .funcs ≤ d .funcs
 
-module _ (c d : Counts) (k : More c d) where
+module _ (c d : Counts) (k : CountsGrow c d) where
   pub pair-more : (p : Pair) → PairValid c p → PairValid d p
   pair-more p h = record { lhs = omega (arith, h .lhs, k .els); rhs = omega (arith, h .rhs, k .els) }
 

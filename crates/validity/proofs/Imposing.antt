@@ -22,7 +22,7 @@ use Rattle.semantics.proofs.Orders.{fact-ordered}
 use Rattle.semantics.proofs.Cases.{and-first}
 use Rattle.semantics.proofs.Queues.{Room, still-room, drain-pairs, refine-queue, refineParents-queue, impose-queue}
 use Rattle.validity.specs.Numbers.{MayMeet}
-use Rattle.validity.proofs.Drain.{ValidCore, Advances, remaining, stays, advances-then, requeued, drain-advances, drain-merges}
+use Rattle.validity.proofs.Drain.{ValidCore, Advances, remaining, advances-none, advances-then, requeued-advances, drain-advances, drain-merges}
 
 -- Roots of what is valid.
 
@@ -68,7 +68,7 @@ pub record Imposed (c : Counts) (w v : Core) : Type 0 where
   pub place : Placed w v
 
 pub idle : (c : Counts) (w : Core) → ValidCore c w → Imposed c w w
-idle c w h = record { advances = stays c w h; place = inl (refl, refl) }
+idle c w h = record { advances = advances-none c w h; place = inl (refl, refl) }
 
 pub then : (c : Counts) (w v u : Core) → Imposed c w v → Imposed c v u → Imposed c w u
 then c w v u a b = record { advances = advances-then c w v u (a .advances) (b .advances); place = go (a .place) (b .place) }
@@ -88,7 +88,7 @@ module _ (c : Counts) where
 
   -- the queue that is drained at once has at most `maxPairs` pairs
   pub queued-advances : (a b : ℕ) (w : Core) → a < c .els → b < c .els → ValidCore c w → Room w → Advances c w (queued a b w)
-  queued-advances a b w la lb h r = requeued c (pair a b ∷ w .pairs) w h (record {
+  queued-advances a b w la lb h r = requeued-advances c (pair a b ∷ w .pairs) w h (record {
     each = (record { lhs = la; rhs = lb }, h .pairs .each);
     most = r;
   })
@@ -108,7 +108,7 @@ module _ (c : Counts) where
             advances = advances-then c w (queued a b w) (drain (queued a b w)) q (drain-advances c (queued a b w) (q .valid));
             place = inr (
               drain-pairs (queued a b w),
-              drain-merges c (queued a b w) (q .valid) (pair a b) (w .pairs) refl (λ z. n (sym ra ∙ z ∙ rb)),
+              drain-merges (queued a b w) (pair a b) (w .pairs) refl (λ z. n (sym ra ∙ z ∙ rb)),
             );
           }
 
@@ -156,7 +156,7 @@ module _ (c : Counts) where
     };
     merges = omega arith;
     added = omega arith;
-    paid = omega arith;
+    lowered = omega arith;
     met = met-back (w .met);
   }
     where
@@ -195,7 +195,7 @@ module _ (c : Counts) where
               };
               merges = omega arith;
               added = omega arith;
-              paid = omega arith;
+              lowered = omega arith;
               met = λ z. z;
             };
             place = inl (refl, refl);

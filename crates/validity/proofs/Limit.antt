@@ -19,13 +19,16 @@ use Rattle.signature.specs.Model.{Sig}
 use Rattle.semantics.specs.Structure.{Fact, FuncApp, PredApp, Pair, Structure, compareFact, canonicalFact, factAt, maxFacts, pair}
 use Rattle.semantics.specs.Types.{Core, with-pairs, with-added, with-met, marked, movedFacts, merge, joinRoots, join, drainPairs, drain}
 use Rattle.semantics.specs.Types.{concreteTypesOf, refineRoots, refine, refineParents, refineAll, insertFact, insertCanonical, impose, imposeAll}
-use Rattle.semantics.specs.Close.{Turn, Pass, drained, drainPass, rewrote, functionalityPass, typed, typingPass, demands, passes, runPasses, round}
-use Rattle.semantics.specs.Close.{Rounds, isNone, lastRound, oneMore, roundsFrom, rounds, fuel, Closed, coreOf, CloseRun, imposedAfter, closeRun}
+use Rattle.semantics.specs.Calls as calls
+use Rattle.semantics.specs.Calls.{Machine, step}
+use Rattle.semantics.proofs.Judged.{closedBy, close-steps}
+use Rattle.semantics.specs.Close.{Turn, Pass, drained, drainPass, rewrote, functionalityPass, typed, typingPass, demands, passes, runPasses, round, close-run, goesOn}
+use Rattle.semantics.specs.Close.{Rounds, isNone, lastRound, oneMore, roundsFrom, rounds, fuel, Closed, coreAtStart, CloseRun, imposedAfter, closeRun}
 use Rattle.semantics.specs.Close.{reportOf, afterClose, closeBy, close, turn}
 use Rattle.semantics.specs.Valid.{Valid}
 use Rattle.semantics.proofs.Judged.{close-first}
 use Rattle.validity.specs.Unlimited.{imposeBy, imposeAllBy, imposedBy, typingBy, PassBy, passesBy, runPassesBy, roundBy, roundsFromBy, roundsBy}
-use Rattle.validity.specs.Unlimited.{ranBy, worksUnmet, limited, notedIfOver, insertAlways, works, ranFree, unlimited, moment, elevenAt}
+use Rattle.validity.specs.Unlimited.{ranBy, limited, notedIfOver, insertAlways, works, ranFree, unlimited, moment, elevenAt}
 use Rattle.validity.specs.Unlimited.{closeOrEleven}
 use Rattle.validity.proofs.Closing.{close-fuel}
 
@@ -325,7 +328,7 @@ pub is-round : (g : Sig) (preds : List PredApp) (apps : List FuncApp) (w : Core)
 unfolding roundBy round
 is-round g preds apps w = run-is passesBy passes all-limited g preds (turn w apps false)
 
-pub is-rounds : (n : ℕ) (g : Sig) (preds : List PredApp) (t : Turn) → roundsFromBy insertFact worksUnmet n g preds t ≡ roundsFrom n g preds t
+pub is-rounds : (n : ℕ) (g : Sig) (preds : List PredApp) (t : Turn) → roundsFromBy insertFact goesOn n g preds t ≡ roundsFrom n g preds t
 unfolding roundsFromBy roundsFrom
 is-rounds zero g preds t = refl
 is-rounds (suc n) g preds t = ap
@@ -363,13 +366,13 @@ more-agree r q (inr h) = inr h
 
 -- from a round on
 pub rounds-agree : (g : Sig) (preds : List PredApp) (n : ℕ) (t : Turn) → t .core .met ≡ none
-    → Agree metRounds (roundsFromBy insertFact worksUnmet n g preds t) (roundsFromBy insertAlways works n g preds t)
+    → Agree metRounds (roundsFromBy insertFact goesOn n g preds t) (roundsFromBy insertAlways works n g preds t)
 unfolding roundsFromBy lastRound isNone
 rounds-agree g preds zero t m = inl (refl, m)
 rounds-agree g preds (suc n) t m =
     go (t .worked) (isNone (t .core .met)) (ap isNone m)
-    (agree-then metTurn metRounds (roundsFromBy insertFact worksUnmet n g preds) (roundsFromBy insertAlways works n g preds) (rounds-agree g preds n)
-    (λ u. rounds-hold insertFact Met met-through insert-met worksUnmet n g preds u) (λ u. rounds-hold insertAlways Met met-through always-met works n g preds u)
+    (agree-then metTurn metRounds (roundsFromBy insertFact goesOn n g preds) (roundsFromBy insertAlways works n g preds) (rounds-agree g preds n)
+    (λ u. rounds-hold insertFact Met met-through insert-met goesOn n g preds u) (λ u. rounds-hold insertAlways Met met-through always-met works n g preds u)
     (roundBy insertFact g preds (t .apps) (t .core)) (roundBy insertAlways g preds (t .apps) (t .core))
     (round-agrees g preds (t .apps) (t .core) m))
   where
@@ -383,22 +386,22 @@ rounds-agree g preds (suc n) t m =
 
 is-imposed : (r : Rounds) (s : Structure) → imposedBy insertFact r s ≡ imposedAfter r s
 unfolding imposedBy imposedAfter
-is-imposed r s = λ i. record { rounds = r; core = is-imposeAll (s .impositions) (r .core) i }
+is-imposed r s = λ i. close-run r (is-imposeAll (s .impositions) (r .core) i)
 
 module _ (g : Sig) (s : Structure) where
-  is-ran : (n : ℕ) → roundsBy insertFact worksUnmet n g s ≡ roundsFrom n g (s .pred-apps) (round g (s .pred-apps) (s .func-apps) (coreOf s))
+  is-ran : (n : ℕ) → roundsBy insertFact goesOn n g s ≡ roundsFrom n g (s .pred-apps) (round g (s .pred-apps) (s .func-apps) (coreAtStart s))
   unfolding roundsBy
   is-ran n =
-      is-rounds n g (s .pred-apps) (roundBy insertFact g (s .pred-apps) (s .func-apps) (coreOf s))
-      ∙ ap (roundsFrom n g (s .pred-apps)) (is-round g (s .pred-apps) (s .func-apps) (coreOf s))
+      is-rounds n g (s .pred-apps) (roundBy insertFact g (s .pred-apps) (s .func-apps) (coreAtStart s))
+      ∙ ap (roundsFrom n g (s .pred-apps)) (is-round g (s .pred-apps) (s .func-apps) (coreAtStart s))
 
   -- with any number of rounds that leaves what the rounds of the close leave
   is-close-at : (n : ℕ)
-      → roundsFrom n g (s .pred-apps) (round g (s .pred-apps) (s .func-apps) (coreOf s)) ≡ rounds g (s .pred-apps) (s .func-apps) (coreOf s)
+      → roundsFrom n g (s .pred-apps) (round g (s .pred-apps) (s .func-apps) (coreAtStart s)) ≡ rounds g (s .pred-apps) (s .func-apps) (coreAtStart s)
       → close g s ≡ limited insertFact n g s
   unfolding close closeRun limited ranBy
   is-close-at n e =
-      sym (ap (λ (c : CloseRun). closeBy c s) (is-imposed (roundsBy insertFact worksUnmet n g s) s ∙ ap (λ (r : Rounds). imposedAfter r s) (is-ran n ∙ e)))
+      sym (ap (λ (c : CloseRun). closeBy c s) (is-imposed (roundsBy insertFact goesOn n g s) s ∙ ap (λ (r : Rounds). imposedAfter r s) (is-ran n ∙ e)))
 
   pub is-close : close g s ≡ limited insertFact fuel g s
   unfolding rounds
@@ -406,28 +409,28 @@ module _ (g : Sig) (s : Structure) where
 
 module _ (g : Sig) (s : Structure) where
   -- the whole run, of at most so many rounds after the first
-  pub ran-agrees : (n : ℕ) → Agree metRan (ranBy insertFact worksUnmet n g s) (ranFree n g s)
+  pub ran-agrees : (n : ℕ) → Agree metRan (ranBy insertFact goesOn n g s) (ranFree n g s)
   unfolding ranBy roundsBy imposedBy
   ran-agrees n =
       agree-then metRounds metRan (λ r. imposedBy insertFact r s) (λ r. imposedBy insertAlways r s) imposed
       (λ r. imposeAll-holds insertFact Met met-through insert-met (s .impositions) (r .core))
       (λ r. imposeAll-holds insertAlways Met met-through always-met (s .impositions) (r .core)) _ _
-      (agree-then metTurn metRounds (roundsFromBy insertFact worksUnmet n g (s .pred-apps)) (roundsFromBy insertAlways works n g (s .pred-apps))
-      (rounds-agree g (s .pred-apps) n) (rounds-hold insertFact Met met-through insert-met worksUnmet n g (s .pred-apps))
+      (agree-then metTurn metRounds (roundsFromBy insertFact goesOn n g (s .pred-apps)) (roundsFromBy insertAlways works n g (s .pred-apps))
+      (rounds-agree g (s .pred-apps) n) (rounds-hold insertFact Met met-through insert-met goesOn n g (s .pred-apps))
       (rounds-hold insertAlways Met met-through always-met works n g (s .pred-apps)) _ _
-      (round-agrees g (s .pred-apps) (s .func-apps) (coreOf s) (unfold coreOf in refl)))
+      (round-agrees g (s .pred-apps) (s .func-apps) (coreAtStart s) (unfold coreAtStart in refl)))
     where
       imposed : (r : Rounds) → r .core .met ≡ none → Agree metRan (imposedBy insertFact r s) (imposedBy insertAlways r s)
       imposed r m = (unfold imposedBy in go (imposeAll-agree (s .impositions) (r .core) m))
         where
-          go : {w u : Core} → Agree metCore w u → Agree metRan (record { rounds = r; core = w }) (record { rounds = r; core = u })
-          go (inl h) = inl (ap (λ (x : Core). record { rounds = r; core = x }) (h .0), h .1)
+          go : {w u : Core} → Agree metCore w u → Agree metRan (close-run r w) (close-run r u)
+          go (inl h) = inl (ap (λ (x : Core). close-run r x) (h .0), h .1)
           go (inr h) = inr h
 
   -- for any number of rounds
   pub limited-exactly : (n : ℕ) → limited insertFact n g s ≡ closeOrEleven n g s
   unfolding limited unlimited moment elevenAt isNone closeBy outcome
-  limited-exactly n = go (ranBy insertFact worksUnmet n g s) (ranFree n g s) (ran-agrees n)
+  limited-exactly n = go (ranBy insertFact goesOn n g s) (ranFree n g s) (ran-agrees n)
     where
       free : CloseRun → Outcome Closed Structure
       free c = accepting (reportOf c) (afterClose c s)
@@ -471,6 +474,10 @@ module _ (g : Sig) (s : Structure) where
       go true m = refl
       go false m = accepts (sym (ap (λ (o : Outcome Closed Structure). o .answer) (eleven-else m)) ∙ e)
 
+-- and so the call
+pub eleven-step : (m : Machine) → step calls.close m ≡ closedBy m (closeOrEleven fuel (m .sig) (m .structure))
+eleven-step m = sym (close-steps m) ∙ ap (closedBy m) (eleven-exactly (m .sig) (m .structure))
+
 -- At no moment of a close are more than `maxFacts` facts held, where that many are held at its start: after each round, and after each fact that
 -- is imposed.
 
@@ -498,4 +505,4 @@ round-held g preds apps w h =
 
 pub rounds-held : (n : ℕ) (g : Sig) (preds : List PredApp) (t : Turn) → WithinLimit (t .core) → WithinLimit (roundsFrom n g preds t .core)
 rounds-held n g preds t h =
-    subst (λ (r : Rounds). WithinLimit (r .core)) (is-rounds n g preds t) (rounds-hold insertFact WithinLimit held-through insert-held worksUnmet n g preds t h)
+    subst (λ (r : Rounds). WithinLimit (r .core)) (is-rounds n g preds t) (rounds-hold insertFact WithinLimit held-through insert-held goesOn n g preds t h)

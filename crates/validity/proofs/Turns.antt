@@ -22,9 +22,9 @@ use Rattle.semantics.proofs.Functionality.{enterAll-all}
 use Rattle.semantics.proofs.Queues.{Room, drain-pairs}
 use Rattle.semantics.proofs.Stages.{Stage, Along, run-along}
 use Rattle.semantics.proofs.Pairs.{functionality-queue, typing-queue}
-use Rattle.validity.proofs.Drain.{ValidCore, Advances, remaining, advances-then, requeued, TwoRoots, drain-advances, drain-merges}
+use Rattle.validity.proofs.Drain.{ValidCore, Advances, remaining, advances-then, requeued-advances, TwoRoots, drain-advances, drain-merges}
 use Rattle.validity.proofs.Imposing.{Imposed, imposeAll-advances}
-use Rattle.validity.proofs.Entering.{waits, Entered, fresh-entered}
+use Rattle.validity.proofs.Entering.{waits, EnteredValid, fresh-entered}
 use Rattle.validity.proofs.Demands.{demands-valid}
 
 -- The stages of a round.
@@ -99,9 +99,9 @@ module _ (g : Sig) (v : ValidSig g) (n : ℕ) (preds : List PredApp) (pv : All (
             advances = a;
             works = λ q. elim (or-either (t .worked) (ltb (t .core .merges) (d .merges)) q) [
               | inl e ↦ no-test e (h .idle)
-              | inr e ↦ inl (omega (arith, ltb-true (t .core .merges) (d .merges) e, a .paid, a .added))
+              | inr e ↦ inl (omega (arith, ltb-true (t .core .merges) (d .merges) e, a .lowered, a .added))
             ];
-            drains = λ p ps q two. omega (arith, drain-merges c (t .core) (h .begins .valid) p ps q two, a .paid, a .added);
+            drains = λ p ps q two. omega (arith, drain-merges (t .core) p ps q two, a .lowered, a .added);
           };
           none = none;
         }
@@ -116,11 +116,11 @@ module _ (g : Sig) (v : ValidSig g) (n : ℕ) (preds : List PredApp) (pv : All (
           let b = h .within .after .begins in
           let ls = t .core .links in
           let r : Rewritten = enterAll ls (t .apps) (rewriting [] (t .core .pairs) false) in
-          let e : Entered c ls r =
-          subst (λ (ps : List Pair). Entered c ls (enterAll ls (t .apps) (rewriting [] ps false))) (sym (h .none))
+          let e : EnteredValid c ls r =
+          subst (λ (ps : List Pair). EnteredValid c ls (enterAll ls (t .apps) (rewriting [] ps false))) (sym (h .none))
           (fresh-entered c ls (t .apps) (b .apps .each)) in
           let roomy = functionality-queue .leads g preds t (record { few = b .apps .most; none = h .none }) in
-          let a = requeued c (r .pairs) (t .core) (b .valid)
+          let a = requeued-advances c (r .pairs) (t .core) (b .valid)
           (record { each = all-map (λ p k. k .valid) (r .pairs) (e .pairs); most = omega (arith, roomy .room) }) in
           record {
             after = record {
@@ -167,22 +167,22 @@ module _ (g : Sig) (v : ValidSig g) (n : ℕ) (preds : List PredApp) (pv : All (
             advances = advances-then c w (t .core) x up a;
             works = λ q. elim (or-either (t .worked) (ltb (t .core .merges + t .core .added) (x .merges + x .added)) q) [
               | inl z ↦ elim (h .works z) [
-                | inl l ↦ inl (omega (arith, l, a .paid, a .merges, a .added))
+                | inl l ↦ inl (omega (arith, l, a .lowered, a .merges, a .added))
                 | inr s ↦ elim (i .place) [
                   | inl p ↦ inr (ap waits (p .1) ∙ s)
-                  | inr p ↦ inl (omega (arith, p .1, a .paid, a .added, up .paid, up .merges, up .added))
+                  | inr p ↦ inl (omega (arith, p .1, a .lowered, a .added, up .lowered, up .merges, up .added))
                 ]
               ]
               | inr z ↦ inl (omega (
                 arith,
                 ltb-true (t .core .merges + t .core .added) (x .merges + x .added) z,
-                a .paid,
-                up .paid,
+                a .lowered,
+                up .lowered,
                 up .merges,
                 up .added,
               ))
             ];
-            drains = λ p ps q two. omega (arith, h .drains p ps q two, a .paid, a .merges, a .added);
+            drains = λ p ps q two. omega (arith, h .drains p ps q two, a .lowered, a .merges, a .added);
           };
     }
 
@@ -231,7 +231,7 @@ unfolding measure
 measure-falls g c t u h r q = go (t .core .pairs) refl
   where
     lower : remaining (u .core) ≤ remaining (t .core)
-    lower = omega (arith, r .advances .paid, r .advances .merges, r .advances .added)
+    lower = omega (arith, r .advances .lowered, r .advances .merges, r .advances .added)
 
     go : (ps : List Pair) → t .core .pairs ≡ ps → 2 * remaining (u .core) + flag (u .core .pairs) < 2 * remaining (t .core) + flag (t .core .pairs)
     go [] z =

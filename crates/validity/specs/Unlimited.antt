@@ -3,7 +3,7 @@
 -- rounds as parameters: the proofs of the code are about the definitions there. With the parameters of the close they are the close, which
 -- proofs/Limit.antt shows (`is-close`).
 use Prim.Native.Nat.{ℕ, zero, suc}
-use mathlib.Core.Bool.{Bool, true, false, not, _&&_}
+use mathlib.Core.Bool.{Bool, true, false, not}
 use mathlib.Core.List.{List, [], _∷_}
 use lib.ListN.{length}
 use lib.Dec.{ltb}
@@ -12,7 +12,7 @@ use Rattle.ids.specs.Table.{present, placed}
 use Rattle.signature.specs.Model.{Sig}
 use Rattle.semantics.specs.Structure.{Fact, FuncApp, PredApp, Structure, compareFact, canonicalFact, maxFacts}
 use Rattle.semantics.specs.Types.{Core, with-added, with-met, concreteTypesOf, refineAll}
-use Rattle.semantics.specs.Close.{Turn, Pass, drainPass, functionalityPass, typed, demands, Rounds, isNone, lastRound, oneMore, Closed, coreOf}
+use Rattle.semantics.specs.Close.{Turn, Pass, drainPass, functionalityPass, typed, demands, Rounds, isNone, lastRound, oneMore, Closed, coreAtStart, close-run, goesOn}
 use Rattle.semantics.specs.Close.{CloseRun, closeBy, reportOf, afterClose, turn}
 
 module _ (insert : Fact → Core → Core) where
@@ -29,7 +29,7 @@ module _ (insert : Fact → Core → Core) where
 
   -- `imposedAfter`
   unfoldable pub imposedBy : Rounds → Structure → CloseRun
-  imposedBy r s = record { rounds = r; core = imposeAllBy (s .impositions) (r .core) }
+  imposedBy r s = close-run r (imposeAllBy (s .impositions) (r .core))
 
   -- `typingPass`
   unfoldable pub typingBy : Pass
@@ -61,7 +61,7 @@ module _ (insert : Fact → Core → Core) where
         elim (more t) [ true ↦ oneMore (roundsFromBy k g preds (roundBy g preds (t .apps) (t .core))) | false ↦ lastRound t ]
 
     unfoldable pub roundsBy : ℕ → Sig → Structure → Rounds
-    roundsBy n g s = roundsFromBy n g (s .pred-apps) (roundBy g (s .pred-apps) (s .func-apps) (coreOf s))
+    roundsBy n g s = roundsFromBy n g (s .pred-apps) (roundBy g (s .pred-apps) (s .func-apps) (coreAtStart s))
 
     -- `closeRun`
     unfoldable pub ranBy : ℕ → Sig → Structure → CloseRun
@@ -69,11 +69,8 @@ module _ (insert : Fact → Core → Core) where
 
 -- The close with a limit, by its insertion: a number that is met ends the rounds, and refuses.
 
-abbrev pub worksUnmet : Turn → Bool
-worksUnmet t = t .worked && isNone (t .core .met)
-
 unfoldable pub limited : (Fact → Core → Core) → ℕ → Sig → Structure → Outcome Closed Structure
-limited insert n g s = closeBy (ranBy insert worksUnmet n g s) s
+limited insert n g s = closeBy (ranBy insert goesOn n g s) s
 
 -- The close without a limit: every fact that is not stored is inserted, rounds repeat until one in which none reports work, at most n after the
 -- first (of a valid structure any number from `fuel` on gives the same, `eleven-valid`), and nothing is refused. That more than `maxFacts` facts

@@ -40,7 +40,7 @@ start c = running c .before .before .before .before
 ran : (c : tie.After-core) →
     let a = start c .before .args in
     let s = structureOf (a .structure) in
-    ranOf (running c .rounds .result) ≡ closing.rounds (sigOf (a .signature)) (s .pred-apps) (s .func-apps) (closing.coreOf s)
+    ranOf (running c .rounds .result) ≡ closing.rounds (sigOf (a .signature)) (s .pred-apps) (s .func-apps) (closing.coreAtStart s)
 ran c =
     let a = start c .before .args in
     running c .rounds .ensures .is

@@ -3,7 +3,7 @@ use mathlib.Core.Path.{_∙_, sym, ap}
 use Rattle.ids.specs.Ids.{givenEls}
 use Rattle.semantics.specs.Calls.{Step, answers}
 use Rattle.structure.specs.declared.Looked.{Looked}
-use Rattle.structure.specs.View.{machineOf, lookedOf, Looking}
+use Rattle.structure.specs.View.{machineOf, ambientsLookedOf, Looking}
 use Rattle.driver.specs.View.{responded}
 use borrow.Author.Needs.{needs}
 use Rattle.driver.proofs.look_up_ambients.Statement.{statement}
@@ -11,7 +11,7 @@ use Rattle.driver.proofs.look_up_ambients.Tie as tie
 
 -- what is answered, by what the lookup answers
 abbrev looks : tie.After-ambient-parents → Looked → Step
-looks at x = answers (lookedOf (givenEls (at .ambient-parents .result .els)) x) (machineOf (at .before .before .before .args .machine))
+looks at x = answers (ambientsLookedOf (givenEls (at .ambient-parents .result .els)) x) (machineOf (at .before .before .before .args .machine))
 
 ambient-parents-requires : tie.Need-ambient-parents-requires
 ambient-parents-requires c κs = search needs

@@ -1,9 +1,10 @@
 -- `Unification::root_const` meets its contract.
-use mathlib.Core.Path.{_∙_}
-use native.Mathlib.Omega.{arith}
-use Rattle.ids.specs.Answers.{accepted}
-use Rattle.unification.specs.Roots.{linksOf}
-use Rattle.unification.proofs.Arrays.{const-refused, const-found}
+use mathlib.Core.Path.{ap}
+use Rattle.ids.specs.Answers.{outcome, refusing, accepting}
+use Rattle.ids.specs.Judge.{verdictOf}
+use Rattle.ids.proofs.Judging.{SoFar, refused-by, accepted-by}
+use Rattle.unification.specs.Roots.{linksOf, findOf, findCauses, rootConst}
+use Rattle.unification.proofs.Arrays.{find-judged}
 use borrow.Author.Needs.{needs}
 use Rattle.unification.proofs.Unification.root_const.Statement.{statement}
 use Rattle.unification.proofs.Unification.root_const.Tie as tie
@@ -14,17 +15,51 @@ cast-at c = search needs
 size-requires : tie.Need-size-requires
 size-requires c κs = search needs
 
+refuse-if-requires : tie.Need-refuse-if-requires
+refuse-if-requires c κs = search needs
+
+abbrev start : tie.After-refuse-if → tie.Start
+start c = c .before .before .before
+
+so-far : (c : tie.After-refuse-if) → let a = start c .args in SoFar (verdictOf (c .refuse-if .result)) (findCauses (linksOf (a .self)) (a .el .0))
+so-far c = find-judged _ _ (c .before .size .ensures .is) (c .refuse-if .ensures)
+
+enum-known-verdict : tie.Need-enum-known-verdict
+enum-known-verdict c = search needs
+
 returns : tie.Need-returns
-returns c = const-refused _ _ (omega (arith, c .before .size .ensures .is))
+unfolding rootConst outcome
+returns c =
+    let judged = c .before .before .before in
+    let a = start judged .args in
+    let ls = linksOf (a .self) in
+    refused-by (refusing ls) (accepting (findOf ls (a .el .0)) ls) (so-far judged) _ (ap verdictOf (c .before .verdict .given .1))
+
+enum-told : tie.Need-enum-told
+enum-told c = search needs
 
 find-requires : tie.Need-find-requires
 find-requires c κs = search needs
 
 returns-2 : tie.Need-returns-2
+unfolding rootConst outcome
 returns-2 c =
-    let past = c .before .before in
-    (λ i. record { answer = accepted (c .find .ensures i); after = linksOf (past .before .before .args .self) })
-    ∙ const-found _ _ (omega (arith, past .size .ensures .is))
+    let told = c .before in
+    let judged = told .before .before in
+    let a = start judged .args in
+    let ls = linksOf (a .self) in
+    accepted-by (refusing ls) (accepting (findOf ls (a .el .0)) ls) (so-far judged) (ap verdictOf (told .enum-told .given .1))
+    (λ none. λ i. accepting (c .find .ensures i) ls)
 
 pub root-const-spec : {M : Type 1} → statement M
-root-const-spec = tie.close (tie.spec cast-at size-requires returns find-requires returns-2)
+root-const-spec =
+    tie.close
+    (tie.spec
+    cast-at
+    size-requires
+    refuse-if-requires
+    enum-known-verdict
+    returns
+    enum-told
+    find-requires
+    returns-2)
