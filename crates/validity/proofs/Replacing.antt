@@ -6,9 +6,9 @@ use lib.ListN.{length}
 use mathlib.Core.Bool.{Bool}
 use Rattle.ids.proofs.Sorted.{all-map}
 use Rattle.unification.specs.Roots.{rootOf, Formed}
-use Rattle.semantics.specs.Structure.{Fact, FuncApp, PredApp, Pair, Var, Ambient, Structure, structure, maxPairs, maxImpositions, maxFuncApps}
+use Rattle.semantics.specs.Structure.{Fact, FuncApp, PredApp, Pair, Var, Ambient, Structure, maxPairs, maxImpositions, maxFuncApps}
 use Rattle.semantics.specs.Structure.{maxPredApps, maxVars, compareFuncApp, comparePredApp, compareVar, compareAmbient, with-links}
-use Rattle.semantics.specs.Structure.{with-func-apps, with-pred-apps, with-vars, with-ambients, with-pairs, with-impositions}
+use Rattle.semantics.specs.Structure.{with-func-apps, with-pred-apps, with-vars, with-ambients, with-pairs, with-impositions, with-flags}
 use Rattle.semantics.specs.Calls.{Answer, leaves}
 use Rattle.semantics.specs.Valid.{Counts, PairValid, FactValid, FuncAppValid, PredAppValid, VarValid, AmbientValid, OnRoot, Queue, Table}
 use Rattle.semantics.specs.Valid.{ValidStructure}
@@ -19,7 +19,8 @@ module _ (c : Counts) (s : Structure) (v : ValidStructure c s) where
       → Table (FuncAppValid c) compareFuncApp maxFuncApps xs → Table (PredAppValid c) comparePredApp maxPredApps ps
       → Table (VarValid c) compareVar maxVars vs → Table (AmbientValid c) compareAmbient (c .types) bs → Queue (PairValid c) maxPairs qs
       → Queue (FactValid c) maxImpositions is
-      → ValidStructure c (structure (s .links) (s .marks) (s .facts) xs ps vs bs qs is started settled)
+      → ValidStructure c
+      (with-func-apps xs (with-pred-apps ps (with-vars vs (with-ambients bs (with-pairs qs (with-impositions is (with-flags started settled s)))))))
   tables started settled funcs preds variables ambients pairs impositions = record {
     els = v .els;
     els-most = v .els-most;
