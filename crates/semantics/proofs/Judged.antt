@@ -8,7 +8,7 @@ use Prim.Native.Nat.{ℕ}
 use lib.ListN.{length}
 use lib.Dec.{ltb}
 use borrow.Author.Tests.{ltb-true, ltb-false}
-use Rattle.ids.specs.Answers.{Answered, accepted, refused, firstOf, decided, _if_, Outcome, outcome, refusing, accepting}
+use Rattle.ids.specs.Answers.{Answered, accepted, refused, firstOf, decided, Outcome, outcome, refusing, accepting}
 use Rattle.ids.specs.Ids.{tooLong, allBelow}
 use Rattle.ids.specs.Limits.{maxList}
 use Rattle.ids.proofs.Judging.{NoneApplies, numbers, SoFar, decided-by, refused-by, accepted-by}
@@ -17,11 +17,11 @@ use Rattle.signature.specs.Calls.{TypedM, concreteTypeAt, lookupTypeCauses, loo
 use Rattle.semantics.specs.Valid.{Below, Listed}
 use Rattle.semantics.specs.Structure.{Structure}
 use Rattle.semantics.specs.Close as closing
-use Rattle.semantics.specs.Close.{Closed, CloseRun, closeRun, closeCauses, closeBy, reportOf, afterClose}
+use Rattle.semantics.specs.Close.{Closed, CloseRun, closeRun, metCauses, closeCauses, closeBy, reportOf, afterClose}
 use Rattle.semantics.specs.Calls.{Call, push-type, push-pred, push-func, push-model, push-mor-app, push-el, equate-els, impose-type}
-use Rattle.semantics.specs.Calls.{apply-func, apply-pred, bind-var, bind-ambient, close, type-conflicts, root, root-const, lookup-type}
+use Rattle.semantics.specs.Calls.{apply-func, apply-pred, bind-var, bind-ambient, close, type-conflicts, settle, root, root-const, lookup-type}
 use Rattle.semantics.specs.Calls.{ambient-parents, Answer, isAccepted, typed, closed, refuse, Machine, machine, Step, answers, rule, leading}
-use Rattle.semantics.specs.Calls.{leaves, settledBy}
+use Rattle.semantics.specs.Calls.{leaves, settledBy, settleRule}
 use Rattle.semantics.specs.Calls.{equalityRule, impositionRule, applicationRule, closeRule, acceptance, refusal, stepBy, step}
 
 module _ (k : Call) (m : Machine) where
@@ -44,7 +44,7 @@ module _ (k : Call) (m : Machine) where
 
 -- the effect of a call is no refusal
 pub effect-accepted : (k : Call) (m : Machine) → isAccepted (rule k m .answer) ≡ true
-unfolding rule equalityRule impositionRule applicationRule closeRule isAccepted
+unfolding rule equalityRule impositionRule applicationRule closeRule settleRule isAccepted
 effect-accepted (push-type t) m = refl
 effect-accepted (push-pred p) m = refl
 effect-accepted (push-func f) m = refl
@@ -59,6 +59,7 @@ effect-accepted (bind-var v) m = refl
 effect-accepted (bind-ambient a) m = refl
 effect-accepted close m = refl
 effect-accepted type-conflicts m = refl
+effect-accepted settle m = refl
 effect-accepted (root e) m = refl
 effect-accepted (root-const e) m = refl
 effect-accepted (lookup-type t ps) m = refl
@@ -80,14 +81,14 @@ module _ (k : Call) (m : Machine) where
       step-by k m (λ s. isAccepted (s .answer) ≡ true → NoneApplies (rule k m .causes) × (s ≡ acceptance (rule k m)))
       (λ n q e. absurd (no-test e refl)) (λ none-applies e. (none-applies, refl))
 
--- the number that refuses a close is the one first met
+-- the number that refuses is the one first met
+pub met-first : (o : Option ℕ) → firstOf (metCauses o) ≡ o
+unfolding metCauses firstOf
+met-first none = refl
+met-first (some n) = refl
+
 pub close-first : (c : CloseRun) → firstOf (closeCauses c) ≡ c .core .met
-unfolding closeCauses firstOf
-close-first c = go (c .core .met)
-  where
-    go : (o : Option ℕ) → firstOf (elim o [ none ↦ [] | some n ↦ n if true ∷ [] ]) ≡ o
-    go none = refl
-    go (some n) = refl
+close-first c = met-first (c .core .met)
 
 -- the close of a structure, with the flags that the call leaves, is that of a machine
 unfoldable pub closedAnswer : Machine → Structure → Answered Closed → Step

@@ -37,6 +37,8 @@ pub data Source : Type 0 where
 pub data Stated : Type 0 where
   -- changed (1 or 0), merges, rounds
   closes : ℕ → ℕ → ℕ → Stated
+  -- closes run, merges summed
+  settles : ℕ → ℕ → Stated
   conflicts : List Conflict → Stated
   -- the type with its leading parents, or none
   types : Option ConcreteType → Stated
@@ -92,6 +94,7 @@ pub record Row : Type 0 where
 -- what a row states of a call's answer; what the other accepted calls answer it leaves out
 unfoldable pub stated : Answer → List Stated → List Stated
 stated (closed c) rest = closes (bit (c .changed)) (c .merges) (c .rounds) ∷ rest
+stated (steps.settled t) rest = settles (t .closes) (t .merges) ∷ rest
 stated (conflicting cs) rest = conflicts cs ∷ rest
 stated (typed t) rest = types t ∷ rest
 stated (refuse n) rest = refuses n ∷ rest
@@ -442,7 +445,7 @@ table =
     }
     -- "Record 0 comes first; next index 0 ends the chain": records 0, 2, 1, and record 3 is not visited
     ∷ record {
-      source = sheet (entry 2 6 0 0 [] [] ++ entry 0 14 0 0 [] [] ++ entry 1 13 0 0 [] [] ++ entry 0 15 0 0 [] []);
+      source = sheet (entry 2 6 0 0 [] [] ++ entry 0 14 0 0 [] [] ++ entry 1 13 0 0 [] [] ++ entry 0 16 0 0 [] []);
       output = prints (lines ("close 0 0 1" ∷ "conflicts 0" ∷ "end 3" ∷ []));
       claims = [];
     }
@@ -473,7 +476,7 @@ table =
     }
     -- number 3: "kind .. outside the above"
     ∷ record {
-      source = sheet (entry 0 15 0 0 [] []);
+      source = sheet (entry 0 16 0 0 [] []);
       output = prints (lines ("refused 3 at 0" ∷ []));
       claims = machine is whole start ∷ [];
     }
