@@ -6,7 +6,7 @@ use mathlib.Core.Option.{Option, none, some}
 use Prim.Native.Nat.{ℕ, zero, suc}
 use native.Mathlib.Omega.{arith}
 use lib.ListN.{length, replicate}
-use Rattle.ids.specs.Answers.{Answered, accepted, refused, decided, Outcome, outcome}
+use Rattle.ids.specs.Answers.{Answered, accepted, refused, decided, Outcome}
 use Rattle.ids.proofs.Judging.{refused-after}
 use Rattle.semantics.specs.Structure.{Structure, with-flags}
 use Rattle.semantics.specs.Close as closing
@@ -128,10 +128,16 @@ module _ (m : Machine) where
   unfolding settleRun
   run-ran = settle-ran _ m
 
+  pub run-closes : Closes m (run .reports) closesLeave
+  run-closes = run-ran .closes
+
+  pub run-refused : (n : ℕ) → run .met ≡ some n → step close closesLeave .answer ≡ refuse n
+  run-refused = run-ran .refused
+
   -- what each accepted close keeps, the closes of a settle keep, also of one that is refused
   pub run-keeps {ℓ} : (P : Machine → Type ℓ) → ((z : Machine) (c : Closed) → step close z .answer ≡ closed c → P z → P (step close z .after))
       → P m → P closesLeave
-  run-keeps P keeps = closes-keep P keeps (run .reports) m closesLeave (run-ran .closes)
+  run-keeps P keeps = closes-keep P keeps (run .reports) m closesLeave run-closes
 
   -- The call.
 
@@ -153,7 +159,7 @@ module _ (m : Machine) where
   started : run .met ≡ none → run .after .started ≡ true
   started e =
       let f = some-close e in
-      let h : Closes m (f .0 ∷ f .1) closesLeave = subst (λ (cs : List Closed). Closes m cs closesLeave) (f .2) (run-ran .closes) in
+      let h : Closes m (f .0 ∷ f .1) closesLeave = subst (λ (cs : List Closed). Closes m cs closesLeave) (f .2) run-closes in
       closes-keep (λ (z : Machine). z .structure .started ≡ true) (λ z c q s. close-starts z c q) (f .1) (step close m .after) closesLeave (h .1)
       (close-starts m (f .0) (h .0))
 
@@ -183,7 +189,7 @@ module _ (m : Machine) where
   -- an accepted settle is its closes ..
   pub settle-closes : (t : Settled) → step settle m .answer ≡ settled t → Closes m (run .reports) (step settle m .after)
   settle-closes t =
-      settle-by (λ s. s .answer ≡ settled t → Closes m (run .reports) (s .after)) (λ e q. run-ran .closes) (λ n e q. not-settled q)
+      settle-by (λ s. s .answer ≡ settled t → Closes m (run .reports) (s .after)) (λ e q. run-closes) (λ n e q. not-settled q)
 
   -- .. and answers how many there were and their merges
   pub settle-totals : (t : Settled) → step settle m .answer ≡ settled t → t ≡ totalsOf (run .reports)
@@ -200,7 +206,7 @@ module _ (m : Machine) where
   pub settle-refused : (n : ℕ) → step settle m .answer ≡ refuse n → Closes m (run .reports) closesLeave × (step close closesLeave .answer ≡ refuse n)
   settle-refused n =
       settle-by (λ s. s .answer ≡ refuse n → Closes m (run .reports) closesLeave × (step close closesLeave .answer ≡ refuse n))
-      (λ e q. not-settled (sym q)) (λ k e q. (run-ran .closes, (let same : k ≡ n = cc in run-ran .refused n (e ∙ ap some same))))
+      (λ e q. not-settled (sym q)) (λ k e q. (run-closes, (let same : k ≡ n = cc in run-refused n (e ∙ ap some same))))
 
   -- what each accepted close keeps, a settle keeps
   pub settle-keeps {ℓ} : (P : Machine → Type ℓ) → ((z : Machine) (c : Closed) → step close z .answer ≡ closed c → P z → P (step close z .after))

@@ -1,4 +1,5 @@
--- A close of a valid structure: it is refused with a number of `closeNumbers` or accepted, leaves no pair that waits where it is accepted, and leaves a valid structure, with one root fewer for each merge.
+-- A close of a valid structure: it is refused with a number of `closeNumbers` or accepted, leaves no pair that waits where it is accepted, and
+-- leaves a valid structure, with one root fewer for each merge.
 use mathlib.Core.Path.{_≡_, refl, sym, ap, subst, _∙_}
 use mathlib.Core.Logic.{_⊎_, inl, inr}
 use mathlib.Core.Bool.{Bool, true, false, _&&_}
@@ -262,9 +263,13 @@ module _ (g : Sig) (s : Structure) (v : Valid g s) where
       (accepting (reportOf (closeRun g s)) (afterClose (closeRun g s) s)) (λ n m. before) (λ none-applies. after)
 
   -- a close adds no element
-  pub close-els : length (close g s .after .links) ≡ c .els
+
+  pub after-els : length (afterClose (closeRun g s) s .links) ≡ c .els
   unfolding ran
-  close-els = by-close (λ x. length (x .links) ≡ c .els) refl (after-valid .els)
+  after-els = after-valid .els
+
+  pub close-els : length (close g s .after .links) ≡ c .els
+  close-els = by-close (λ x. length (x .links) ≡ c .els) refl after-els
 
   pub close-valid : Valid g (close g s .after)
   close-valid = by-close (Valid g) v after-close
