@@ -29,7 +29,7 @@ use Rattle.validity.proofs.Settling.{Reaches, closes-reach}
 use Rattle.history.proofs.Closing.{accepted-close}
 use Rattle.history.proofs.SecondClose.{Idle, idle-report, idle-flags, closed-idle}
 
--- The last of some closes reported no change; there is one.
+-- there is a last one of these closes, and it reported no change
 pub data LastQuiet : List Closed → Type 0 where
   last : {c : Closed} → c .changed ≡ false → LastQuiet (c ∷ [])
   later : {c : Closed} {cs : List Closed} → LastQuiet cs → LastQuiet (c ∷ cs)
@@ -96,7 +96,7 @@ none-idle g s v e = record {
     vs : ValidStructure (countsOf g s) s
     vs = v .structure
 
--- With no root there is none: 0 would be one.
+-- With no root there is no element, since 0 would be a root.
 
 count-first : (p : ℕ → Bool) (n : ℕ) → p 0 ≡ true → 0 < count p (suc n)
 count-first p zero e = omega (arith, count-yes p 0 e)
@@ -162,7 +162,8 @@ module _ (g : Sig) (s : Structure) (v : Valid g s) where
   unfolding settleRun
   run-settled = ended .settled
 
--- the closes are at most as many as the bound says
+-- The closes are at most as many as the bound says, of any structure.
+
 few-after : (k : ℕ) (rest : Structure → SettleRun) → ((t : Structure) → length (rest t .reports) ≤ k) → (a : Answered Closed) (t : Structure)
     → length (settleAfter a t rest .reports) ≤ suc k
 unfolding settleAfter reportedFirst
