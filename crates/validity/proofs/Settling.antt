@@ -44,11 +44,11 @@ module _ (m : Machine) (v : ValidMachine m) (c : Closed) (q : step close m .answ
   unfolding rule closeRule acceptance
   merges = let e = sym q ∙ ap (λ (s : Step). s .answer) left in cc
 
-  close-els : elsOf (step close m .after) ≡ elsOf m
-  close-els = ap length links ∙ after-els (m .sig) (m .structure) v
+  pub close-step-els : elsOf (step close m .after) ≡ elsOf m
+  close-step-els = ap length links ∙ after-els (m .sig) (m .structure) v
 
-  close-sum : rootsOf (step close m .after) + c .merges ≡ rootsOf m
-  close-sum = omega (arith, ap roots links, merges, close-roots (m .sig) (m .structure) v)
+  pub close-step-roots : rootsOf (step close m .after) + c .merges ≡ rootsOf m
+  close-step-roots = omega (arith, ap roots links, merges, close-roots (m .sig) (m .structure) v)
 
 pub closes-reach : (cs : List Closed) (m z : Machine) → ValidMachine m → Closes m cs z → Reaches m cs z
 unfolding mergesIn
@@ -58,8 +58,8 @@ closes-reach (c ∷ cs) m z v h =
     let r = closes-reach cs n z (step-valid close m v) (h .1) in
     record {
       valid = r .valid;
-      els = r .els ∙ close-els m v c (h .0);
-      sum = omega (arith, r .sum, close-sum m v c (h .0));
+      els = r .els ∙ close-step-els m v c (h .0);
+      sum = omega (arith, r .sum, close-step-roots m v c (h .0));
     }
 
 module _ (m : Machine) (v : ValidMachine m) where
