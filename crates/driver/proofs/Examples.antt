@@ -12,7 +12,7 @@ use Rattle.semantics.specs.Close.{Closed, report}
 use Rattle.semantics.specs.Calls.{push-el, equate-els, root, close, closed, isAccepted}
 use Rattle.semantics.proofs.Computes.{everything}
 use Rattle.history.specs.Book as book
-use Rattle.history.specs.Book.{history, Conserved}
+use Rattle.history.specs.Book.{history, closes, Conserved}
 use Rattle.driver.specs.Calls.{rootKind, callAt, callList, callsBefore, callsIn, lastAnswer, listBefore, runList}
 use Rattle.driver.specs.declared.Responded.{Responded}
 use Rattle.driver.proofs.run.Reads as run-fn
@@ -59,9 +59,9 @@ pub worked-links : runList worked .after .structure .links ≡ 0 ∷ 0 ∷ []
 unfolding computed
 worked-links = refl
 
-pub worked-ends : Ends (callsIn worked) answered
+pub worked-ends : Ends (callsIn worked) (answered ∷ [])
 unfolding computed
-worked-ends = record { before = push-el false ∷ push-el false ∷ equate-els 0 1 ∷ root 1 ∷ root 9 ∷ []; is = refl; answers = refl }
+worked-ends = record { before = push-el false ∷ push-el false ∷ equate-els 0 1 ∷ root 1 ∷ root 9 ∷ []; call = close; is = refl; ran = closes refl }
 
 pub worked-unmarked : anyMarked (history (callsIn worked) .book .marks) ≡ false
 unfolding computed
@@ -69,8 +69,8 @@ worked-unmarked = refl
 
 -- so the rule holds of what `run` hands back for these bytes
 pub worked-conserved : (κs : Lfts 1) (bytes : _) (r : Responded) → run-fn.Learnt κs (bytes, tt) r (bytes, tt) → now bytes ≡ worked
-    → Conserved (history (callsIn worked) .book) (linksOf (r .machine .structure .unification)) answered
+    → Conserved (history (callsIn worked) .book) (linksOf (r .machine .structure .unification)) (answered ∷ [])
 worked-conserved κs bytes r ran e =
-    subst (λ (l : List ℕ). Conserved (history (callsIn l) .book) (linksOf (r .machine .structure .unification)) answered) e
-    (run-conserves κs bytes r ran answered (subst (λ (l : List ℕ). Ends (callsIn l) answered) (sym e) worked-ends)
+    subst (λ (l : List ℕ). Conserved (history (callsIn l) .book) (linksOf (r .machine .structure .unification)) (answered ∷ [])) e
+    (run-conserves κs bytes r ran (answered ∷ []) (subst (λ (l : List ℕ). Ends (callsIn l) (answered ∷ [])) (sym e) worked-ends)
     (subst (λ (l : List ℕ). anyMarked (history (callsIn l) .book .marks) ≡ false) (sym e) worked-unmarked))
