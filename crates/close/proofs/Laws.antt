@@ -133,27 +133,27 @@ module _ (g : Sig) (preds : List PredApp) where
 
 -- A close: r is what the rounds came to, and w what the impositions come to after them.
 
-module _ (g : Sig) (s : model.Structure) (r : closing.Rounds) (w : types.Core)
-    (ran : r ≡ closing.rounds g (s .pred-apps) (s .func-apps) (closing.coreAtStart s)) (imposed : w ≡ imposeAll (s .impositions) (r .core)) where
+pub run-is : (g : Sig) (s : model.Structure) (r : closing.Rounds) (w : types.Core)
+    → r ≡ closing.rounds g (s .pred-apps) (s .func-apps) (closing.coreAtStart s) → w ≡ imposeAll (s .impositions) (r .core)
+    → close-run r w ≡ closeRun g s
+unfolding closeRun imposedAfter
+run-is g s r w ran imposed = (λ i. close-run r (imposed i)) ∙ (λ i. imposedAfter (ran i) s)
+
+-- The call.
+module _ (g : Sig) (s : model.Structure) where
   abbrev run : CloseRun
-  run = close-run r w
+  run = closeRun g s
 
-  run-is : run ≡ closeRun g s
-  unfolding closeRun imposedAfter
-  run-is = (λ i. close-run r (imposed i)) ∙ (λ i. imposedAfter (ran i) s)
-
-  closes : decided (w .met) (refusal (machine g s)) (acceptance (closeRule run (machine g s))) ≡ step calls.close (machine g s)
+  closes : decided (run .core .met) (refusal (machine g s)) (acceptance (closeRule run (machine g s))) ≡ step calls.close (machine g s)
   unfolding step stepBy rule closeRule
-  closes =
-      (λ i. decided (sym (close-first run) i) (refusal (machine g s)) (acceptance (closeRule run (machine g s))))
-      ∙ (λ i. stepBy (closeRule (run-is i) (machine g s)) (machine g s))
+  closes = λ i. decided (sym (close-first run) i) (refusal (machine g s)) (acceptance (closeRule run (machine g s)))
 
   -- a number is met
-  pub refuses : {n : ℕ} → w .met ≡ some n → refusal (machine g s) n ≡ step calls.close (machine g s)
+  pub refuses : {n : ℕ} → run .core .met ≡ some n → refusal (machine g s) n ≡ step calls.close (machine g s)
   refuses e = sym (decided-refuses (refusal (machine g s)) (acceptance (closeRule run (machine g s))) e) ∙ closes
 
   -- none is met
-  pub accepts : w .met ≡ none → {a : closing.Closed} {t : model.Structure} → a ≡ reportOf run → t ≡ afterClose run s
+  pub accepts : run .core .met ≡ none → {a : closing.Closed} {t : model.Structure} → a ≡ reportOf run → t ≡ afterClose run s
       → answers (closed a) (machine g (leaves true (closed a) t)) ≡ step calls.close (machine g s)
   unfolding acceptance closeRule
   accepts e p q =

@@ -1,0 +1,114 @@
+-- `close_run` meets its contract.
+use mathlib.Core.Path.{_≡_, refl, sym, ap, _∙_}
+use mathlib.Core.Bool.{_||_}
+use Prim.Native.Nat.{_+_, _≤_}
+use native.Mathlib.Omega.{arith}
+use lib.Dec.{ltb}
+use Rattle.signature.specs.Model.{sigOf}
+use Rattle.semantics.specs.Types.{imposeAll}
+use Rattle.semantics.specs.Close as closing
+use Rattle.semantics.specs.Close.{report, canonicaliseRefs, withCore, reportOf, afterClose}
+use Rattle.apps.specs.View.{funcAppsOf, predAppsOf}
+use Rattle.structure.specs.View.{structureOf}
+use Rattle.merging.specs.View.{coreOf}
+use Rattle.close.specs.View.{ranOf, oneClose}
+use Rattle.close.proofs.Laws.{fuel-is, grew-more, run-is}
+use borrow.Author.Needs.{needs}
+use Rattle.close.proofs.close_run.Statement.{statement}
+use Rattle.close.proofs.close_run.Tie as tie
+
+core-of-requires : tie.Need-core-of-requires
+core-of-requires c κs = search needs
+
+rounds-requires : tie.Need-rounds-requires
+rounds-requires c κs = search needs
+
+apply-pending-type-impositions-requires : tie.Need-apply-pending-type-impositions-requires
+apply-pending-type-impositions-requires c κs = search needs
+
+-- what the rounds and the impositions ensure
+
+abbrev imposing : tie.After-core → tie.After-apply-pending-type-impositions
+imposing c = c .before
+
+abbrev running : tie.After-core → tie.After-rounds
+running c = imposing c .before .before .before
+
+abbrev start : tie.After-core → tie.After-core-of
+start c = running c .before .before .before .before
+
+ran : (c : tie.After-core) →
+    let a = start c .before .args in
+    let s = structureOf (a .structure) in
+    ranOf (running c .rounds .result) ≡ closing.rounds (sigOf (a .signature)) (s .pred-apps) (s .func-apps) (closing.coreAtStart s)
+ran c =
+    let a = start c .before .args in
+    running c .rounds .ensures .is
+    ∙ ap (closing.rounds (sigOf (a .signature)) (predAppsOf (a .structure .«pred_apps»)) (funcAppsOf (a .structure .«func_apps»))) (start c .core-of .ensures)
+
+imposed : (c : tie.After-core) →
+    let r = running c .rounds .result in
+    let w = imposing c .apply-pending-type-impositions .result in
+    coreOf (w .core) (w .merges + r .merges) (w .added + r .added)
+    ≡ imposeAll (structureOf (start c .before .args .structure) .impositions) (ranOf r .core)
+imposed c =
+    let r = running c .rounds .result in
+    imposing c .apply-pending-type-impositions .ensures .is (r .merges) (r .added)
+
+counted-requires : tie.Need-counted-requires
+counted-requires c κs = search needs
+
+or-requires : tie.Need-or-requires
+or-requires c κs = search needs
+
+-- the merges of the rounds and of the impositions
+most : (c : tie.After-core) → running c .rounds .result .merges + imposing c .apply-pending-type-impositions .result .merges ≤ oneClose
+most c =
+    let r = running c .rounds .ensures in
+    omega (arith, r .count-most, r .merges-most, imposing c .apply-pending-type-impositions .ensures .merges-most)
+
+add-merges : tie.Need-add-merges
+add-merges c = search (needs, most (c .before .before .before .before .before), fuel-is)
+
+with-core-requires : tie.Need-with-core-requires
+with-core-requires c κs = search needs
+
+canonicalise-refs-requires : tie.Need-canonicalise-refs-requires
+canonicalise-refs-requires c κs = search needs
+
+returns : tie.Need-returns
+unfolding reportOf afterClose withCore
+returns c =
+    let cored = c .before in
+    let changing = cored .before .before .before in
+    let at = changing .before .before .before in
+    let a = start at .before .args in
+    let r = running at .rounds .result in
+    let w = imposing at .apply-pending-type-impositions .result in
+    let m = w .merges + r .merges in
+    let b = w .added + r .added in
+    let is = run-is (sigOf (a .signature)) (structureOf (a .structure)) (ranOf r) (coreOf (w .core) m b) (ran at) (imposed at) in
+    let sum : r .merges + w .merges ≡ m = omega arith in
+    let grows = grew-more (ranOf r .core) (coreOf (w .core) m b) (w .merges) (w .added) refl refl in
+    let changes = changing .or .ensures ∙ (λ i. ltb 1 (r .count) || (changing .before .counted .ensures ∙ sym grows) i) in
+    let after = c .canonicalise-refs .ensures ∙ (λ i. canonicaliseRefs (cored .with-core .ensures i .links) (cored .with-core .ensures i)) in
+    record {
+      met = ap (λ (x : closing.CloseRun). x .core .met) is;
+      report = (λ i. report (changes i) (sum i) (r .count)) ∙ ap reportOf is;
+      after = after ∙ ap (λ (x : closing.CloseRun). afterClose x (structureOf (a .structure))) is;
+      merges-most = most at;
+    }
+
+pub close-run-spec : {M : Type 1} → statement M
+close-run-spec =
+    tie.close
+    (tie.spec
+    core-of-requires
+    rounds-requires
+    apply-pending-type-impositions-requires
+    counted-requires
+    or-requires
+    add-merges
+    with-core-requires
+    canonicalise-refs-requires
+    returns)
