@@ -4,6 +4,7 @@ pub mod Cases
 pub mod Counts
 pub mod Links
 pub mod Judged
+pub mod Settling
 pub mod Imposed
 pub mod Functionality
 pub mod Queues

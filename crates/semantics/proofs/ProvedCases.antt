@@ -1,4 +1,4 @@
--- The proved cases (01, "Proved sheets"): P1 to P10, rows for each number 1 to 11 and for single sentences of 01, as one table, and one theorem: every row holds.
+-- The proved cases (01, "Proved sheets"): P1 to P10, rows for each number 1 to 11 and for single sentences of 01 and 02, as one table, and one theorem: every row holds.
 -- A row is data: what it runs, what that answers or prints, and claims about the machine that it leaves. That a refused call leaves the machine as
 -- it was is a theorem over every call (`refused-leaves`, Judged); the rows on refusals state it where it computes in few steps.
 use mathlib.Core.Path.{_≡_, refl}
@@ -8,7 +8,7 @@ use mathlib.Core.Option.{Option, none, some}
 use Prim.Native.Nat.{ℕ, zero, suc, _-_, _/_, _%_}
 use Prim.Native.Char.{code}
 use Prim.Native.String.{String, [] as no-text, _∷_ as _∷ᵗ_}
-use lib.ListN.{length, take, getD}
+use lib.ListN.{length, take, getD, set, replicate}
 use Rattle.ids.specs.Table.{lookupOf}
 use Rattle.unification.specs.Roots.{maxEls}
 use Rattle.signature.specs.Model.{Kind, plain, model, mor, maxTypes, maxPreds, maxFuncs, type-entry, pred-entry, func-entry, model-entry}
@@ -19,9 +19,9 @@ use Rattle.semantics.specs.Types.{factsAt}
 use Rattle.semantics.specs.Conflicts.{Conflict, conflict}
 use Rattle.semantics.specs.Calls.{Call, push-type, push-func, push-pred, push-el, equate-els, impose-type, apply-func, apply-pred}
 use Rattle.semantics.specs.Calls.{push-model, push-mor-app, bind-var, bind-ambient}
-use Rattle.semantics.specs.Calls.{close, type-conflicts, lookup-type, ambient-parents, ConcreteType, concrete-type, afterCalls}
+use Rattle.semantics.specs.Calls.{close, type-conflicts, settle, lookup-type, ambient-parents, ConcreteType, concrete-type, afterCalls}
 use Rattle.semantics.specs.Calls as steps
-use Rattle.semantics.specs.Calls.{Answer, number, says, done, closed, conflicting, found, typed, els, refuse, Machine, start, step}
+use Rattle.semantics.specs.Calls.{totals, Answer, number, says, done, closed, conflicting, found, typed, els, refuse, Machine, start, step}
 use Rattle.semantics.specs.Sheet.{bit, newline, runSheet}
 use Rattle.semantics.proofs.Computes.{everything}
 
@@ -248,6 +248,14 @@ setFacts fs m = steps.machine (m .sig) (with-facts fs (m .structure))
 abbrev pub holding : ℕ → Machine
 holding n = setFacts (factsBefore n []) (afterCalls (downFrom maxTypes (λ n. typ plain []) ++ downFrom maxTypes (λ n. plainEl)) start)
 
+-- a sheet of one settle whose word i is 1
+abbrev pub settleWith : ℕ → Row
+settleWith i = record {
+  source = sheet (littleEndian (set (0 ∷ 15 ∷ replicate 14 0) i 1));
+  output = prints (lines ("refused 3 at 0" ∷ []));
+  claims = machine is whole start ∷ [];
+}
+
 -- The table.
 
 unfoldable pub table : List Row
@@ -328,6 +336,38 @@ table =
       source = calls (imposed5 ++ (close ∷ close ∷ close ∷ []));
       output = tells (closes 1 1 2 ∷ closes 1 1 3 ∷ closes 0 0 1 ∷ []);
       claims = settled is flag true ∷ [];
+    }
+    -- settle: "repeats close until one reports no change"; with no element that is the first
+    ∷ record { source = calls (settle ∷ []); output = tells (settles 1 0 ∷ []); claims = settled is flag true ∷ [] }
+    ∷ record { source = sheet (entry 0 15 0 0 [] []); output = prints (lines ("settle 1 0" ∷ "end 1" ∷ [])); claims = [] }
+    -- P4 as settles
+    ∷ record {
+      source = calls (imposed4 ++ (settle ∷ equate-els 0 1 ∷ settle ∷ []));
+      output = tells (settles 2 0 ∷ settles 2 1 ∷ []);
+      claims = facts 2 is fact-list (fact 2 1 (0 ∷ []) ∷ []) ∷ settled is flag true ∷ [];
+    }
+    -- P5 as a settle; the next one has nothing to do
+    ∷ record {
+      source = calls (imposed5 ++ (settle ∷ []));
+      output = tells (settles 3 2 ∷ []);
+      claims =
+          link 1 is el 0 ∷ link 3 is el 2 ∷ key 0 (0 ∷ []) [] is result (some 2) ∷ key 0 (1 ∷ []) [] is result none
+          ∷ facts 4 is fact-list (fact 4 1 (0 ∷ []) ∷ []) ∷ settled is flag true ∷ answer settle is said (steps.settled (totals 1 0)) ∷ [];
+    }
+    -- "at most the element count plus one closes": with one element as many
+    ∷ record {
+      source = calls (typ plain [] ∷ plainEl ∷ impose 0 0 [] ∷ settle ∷ []);
+      output = tells (settles 2 0 ∷ []);
+      claims = facts 0 is fact-list (fact 0 0 [] ∷ []) ∷ [];
+    }
+    -- with four elements one fewer: each close but the last merges one element with 0, whose facts differ in a marked parent then
+    ∷ record {
+      source = calls
+          (types2
+          ++ (typ plain (0 ∷ []) ∷ plainEl ∷ markedEl ∷ markedEl ∷ markedEl ∷ impose 0 2 (1 ∷ []) ∷ impose 2 2 (0 ∷ [])
+          ∷ impose 0 1 (3 ∷ []) ∷ impose 3 1 (2 ∷ []) ∷ impose 0 1 (0 ∷ []) ∷ settle ∷ []));
+      output = tells (settles 4 3 ∷ []);
+      claims = link 1 is el 0 ∷ link 2 is el 0 ∷ link 3 is el 0 ∷ [];
     }
     -- P6: "a type with two parents, given 7: absent; given 7, 8, 9: parents 7, 8"
     ∷ record {
@@ -435,6 +475,12 @@ table =
       source = calls (plainEl ∷ typ plain [] ∷ []);
       output = tells (refuses 4 ∷ []);
       claims = machine is whole (afterCalls (plainEl ∷ []) start) ∷ [];
+    }
+    -- "Number 4 treats kind 15 as it does 14", and a settle of one close leaves what the close leaves
+    ∷ record {
+      source = calls (settle ∷ typ plain [] ∷ []);
+      output = tells (settles 1 0 ∷ refuses 4 ∷ []);
+      claims = machine is whole (afterCalls (close ∷ []) start) ∷ [];
     }
     -- numbers 3, 4 and 5 leave the machine as it was
     ∷ record {
@@ -586,7 +632,8 @@ table =
       output = tells (refuses 11 ∷ []);
       claims = [];
     }
-    ∷ []
+    -- number 3: ".. or an unused word outside the above": of a settle these are all but the first two
+    ∷ map settleWith (2 ∷ 3 ∷ 4 ∷ 5 ∷ 6 ∷ 7 ∷ 8 ∷ 9 ∷ 10 ∷ 11 ∷ 12 ∷ 13 ∷ 14 ∷ 15 ∷ [])
 
 -- The theorem.
 

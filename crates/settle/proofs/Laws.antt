@@ -3,7 +3,7 @@ use Prim.Native.Nat.{ℕ, suc, _+_, _*_, _-_, _^_, _≤_, _<_}
 use mathlib.Core.Path.{_≡_, refl, sym, ap, _∙_}
 use mathlib.Core.Bool.{Bool, true, false}
 use mathlib.Core.List.{List, [], _∷_, _++_, append-nil, append-assoc}
-use mathlib.Core.Option.{none, some}
+use mathlib.Core.Option.{Option, none, some}
 use native.Mathlib.Omega.{arith}
 use lib.ListN.{length, length-append}
 use Rattle.ids.specs.Answers.{decided, Outcome, outcome, refusing, accepting}
@@ -13,116 +13,133 @@ use Rattle.signature.specs.Model.{Sig}
 use Rattle.semantics.specs.Structure.{Structure}
 use Rattle.semantics.specs.Close.{Closed, closeRun, closeBy, reportOf, afterClose, close, fuel}
 use Rattle.semantics.specs.Calls as calls
-use Rattle.semantics.specs.Calls.{totals, settled, closed, machine, answers, leaves, SettleRun, settle-run, reportedFirst, settleAfter, settleBy}
-use Rattle.semantics.specs.Calls.{settleFrom, settleRun, mergesIn, totalsOf, rule, settleRule, acceptance, refusal, stepBy, step}
-use Rattle.close.specs.View.{oneClose}
+use Rattle.semantics.specs.Calls.{Settled, totals, settled, closed, machine, answers, leaves, SettleRun, settle-run, reportedFirst, settleAfter}
+use Rattle.semantics.specs.Calls.{settleBy, settleFrom, settleRun, mergesIn, totalsOf, rule, settleRule, acceptance, refusal, stepBy, step}
 use Rattle.semantics.proofs.Judged.{met-first, close-first}
+use Rattle.merging.specs.View.{metOf}
+use Rattle.structure.specs.View.{structureOf, settledOf}
+use Rattle.close.specs.View.{oneClose}
+use Rattle.settle.specs.declared.SettleRun as code
+use Rattle.settle.specs.View.{SettleRunIs}
 
 -- closes that answered cs, before others
-abbrev pub reported : List Closed → SettleRun → SettleRun
+abbrev reported : List Closed → SettleRun → SettleRun
 reported cs r = settle-run (cs ++ r .reports) (r .met) (r .after)
 
--- a settle that came to an end
-abbrev pub ended : List Closed → Structure → SettleRun
-ended cs s = settle-run cs none s
+-- before none
+alone : (cs : List Closed) (o : Option ℕ) (s : Structure) → settle-run cs o s ≡ reported cs (settle-run [] o s)
+alone cs o s = ap (λ (ds : List Closed). settle-run ds o s) (sym (append-nil cs))
 
 merges-last : (cs : List Closed) (c : Closed) → mergesIn (cs ++ (c ∷ [])) ≡ mergesIn cs + c .merges
 unfolding mergesIn
 merges-last [] c = omega arith
 merges-last (d ∷ ds) c = omega (arith, merges-last ds c)
 
--- the merges of one more close can be counted
-pub sums-fit : {closes merges m : ℕ} → closes ≤ maxEls → merges ≤ closes * oneClose → m ≤ oneClose → merges + m < 2 ^ 64
+totals-last : (cs : List Closed) (c : Closed) {t : Settled} → t ≡ totalsOf cs → totals (t .closes + 1) (t .merges + c .merges) ≡ totalsOf (cs ++ (c ∷ []))
+unfolding totalsOf
+totals-last cs c e =
+    let closes : length cs + 1 ≡ length (cs ++ (c ∷ [])) = omega (arith, length-append cs (c ∷ [])) in
+    ap (λ (x : Settled). totals (x .closes + 1) (x .merges + c .merges)) e
+    ∙ (λ i. totals (closes i) (sym (merges-last cs c) i))
+
+-- one close more can be counted
+pub sums-fit : {i closes merges m : ℕ} → i ≤ maxEls → closes ≡ i → merges ≤ i * oneClose → m ≤ oneClose → (closes + 1 < 2 ^ 64) × (merges + m < 2 ^ 64)
 unfolding fuel
-sums-fit l p q = omega arith
+sums-fit l e p q = (omega arith, omega arith)
 
 module _ (g : Sig) where
   -- some closes answered `reports` and left s; with those to come they are the whole settle, which runs at most so many
-  pub record Going (whole : SettleRun) (most : ℕ) (s : Structure) (again : Bool) (closes merges : ℕ) : Type 0 where
+  pub record Going (whole : SettleRun) (most : ℕ) (s : Structure) (again : Bool) (t : Settled) (i : ℕ) : Type 0 where
     pub reports : List Closed
-    pub closes-are : closes ≡ length reports
-    pub merges-are : merges ≡ mergesIn reports
-    pub few : closes ≤ most
-    pub more : again ≡ true → (k : ℕ) → k + closes ≡ most → reported reports (settleFrom k g s) ≡ whole
-    pub stops : again ≡ false → ended reports s ≡ whole
+    pub totals-are : t ≡ totalsOf reports
+    pub closes-are : t .closes ≡ i
+    pub few : i ≤ most
+    pub more : again ≡ true → (k : ℕ) → k + i ≡ most → reported reports (settleFrom k g s) ≡ whole
+    pub stops : again ≡ false → settle-run reports none s ≡ whole
 
-  pub begins : (s : Structure) → Going (settleRun g s) (suc (length (s .links))) s true 0 0
-  unfolding settleRun mergesIn
+  pub begins : (s : Structure) → Going (settleRun g s) (suc (length (s .links))) s true (totals 0 0) 0
+  unfolding settleRun totalsOf mergesIn
   begins s = record {
     reports = [];
+    totals-are = refl;
     closes-are = refl;
-    merges-are = refl;
     few = omega arith;
     more = λ e k q. let same : k ≡ suc (length (s .links)) = omega arith in ap (λ (n : ℕ). settleFrom n g s) same;
     stops = λ e. let z : _≡_ {A = ℕ} 0 1 = cc e in absurd (omega arith);
   }
 
-  module _ {whole : SettleRun} {most : ℕ} {s : Structure} {again : Bool} {closes merges : ℕ} (so-far : Going whole most s again closes merges) where
+  module _ {whole : SettleRun} {most : ℕ} {s : Structure} {again : Bool} {t : Settled} {i : ℕ} (so-far : Going whole most s again t i) where
     -- none is to come
-    pub ends : closes ≡ most → ended (so-far .reports) s ≡ whole
+    pub ends : most ≤ i → settle-run (so-far .reports) none s ≡ whole
     unfolding settleFrom
     ends l = go again refl
       where
-        go : (b : Bool) → again ≡ b → ended (so-far .reports) s ≡ whole
-        go true e = ap (λ (cs : List Closed). ended cs s) (sym (append-nil (so-far .reports))) ∙ so-far .more e 0 (omega arith)
+        go : (b : Bool) → again ≡ b → settle-run (so-far .reports) none s ≡ whole
+        go true e = alone (so-far .reports) none s ∙ so-far .more e 0 (omega (arith, so-far .few))
         go false e = so-far .stops e
 
-    module _ (h : again ≡ true) (l : closes < most) where
+    module _ (h : again ≡ true) (l : i < most) where
       -- with one more close
-      next : (k : ℕ) → suc k + closes ≡ most → reported (so-far .reports) (settleBy (close g s) (settleFrom k g)) ≡ whole
+      next : (k : ℕ) → suc k + i ≡ most → reported (so-far .reports) (settleBy (close g s) (settleFrom k g)) ≡ whole
       unfolding settleFrom
       next k q = so-far .more h (suc k) q
 
       -- it is refused
-      pub refused-by : (n : ℕ) → closeRun g s .core .met ≡ some n → whole .met ≡ some n
+      pub refused-by : (n : ℕ) → closeRun g s .core .met ≡ some n → settle-run (so-far .reports) (some n) s ≡ whole
       unfolding close closeBy outcome settleBy settleAfter
       refused-by n e =
-          let o = decided-refuses {R = Outcome Closed Structure} (refusing s) (accepting (reportOf (closeRun g s)) (afterClose (closeRun g s) s)) (close-first (closeRun g s) ∙ e) in
-          sym (ap (λ (r : SettleRun). r .met) (next (most - suc closes) (omega arith)))
-          ∙ ap (λ (x : Outcome Closed Structure). settleBy x (settleFrom (most - suc closes) g) .met) o
+          let r = closeRun g s in
+          let k = most - suc i in
+          alone (so-far .reports) (some n) s
+          ∙ sym (ap (λ (o : Outcome Closed Structure). reported (so-far .reports) (settleBy o (settleFrom k g)))
+          (decided-refuses (refusing s) (accepting (reportOf r) (afterClose r s)) (close-first r ∙ e)))
+          ∙ next k (omega arith)
 
-      module _ (met : closeRun g s .core .met ≡ none) {c : Closed} {t : Structure} (answered : c ≡ reportOf (closeRun g s))
-          (left : t ≡ leaves true (closed c) (afterClose (closeRun g s) s)) where
-        -- what follows a close that answered d and left v
-        abbrev then : ℕ → Closed → Structure → SettleRun
-        then k d v = elim (d .changed) [ true ↦ settleFrom k g v | false ↦ ended [] v ]
+      module _ (met : closeRun g s .core .met ≡ none) {c : Closed} {v : Structure} (answered : c ≡ reportOf (closeRun g s))
+          (left : v ≡ leaves true (closed c) (afterClose (closeRun g s) s)) where
+        -- what follows a close that left x, whether it reported a change
+        abbrev then : ℕ → Bool → Structure → SettleRun
+        then k b x = elim b [ true ↦ settleFrom k g x | false ↦ settle-run [] none x ]
 
-        abbrev rest : ℕ → SettleRun
-        rest k = then k c t
-
-        accepted-by : (k : ℕ) → settleBy (close g s) (settleFrom k g) ≡ reportedFirst c (rest k)
+        accepted-by : (k : ℕ) → settleBy (close g s) (settleFrom k g) ≡ reportedFirst c (then k (c .changed) v)
         unfolding close closeBy outcome settleBy settleAfter
         accepted-by k =
             let r = closeRun g s in
             ap (λ (o : Outcome Closed Structure). settleBy o (settleFrom k g))
             (decided-accepts (refusing s) (accepting (reportOf r) (afterClose r s)) (close-first r ∙ met))
-            ∙ ap (λ (d : Closed). reportedFirst d (then k d (leaves true (closed d) (afterClose r s)))) (sym answered)
-            ∙ ap (λ (v : Structure). reportedFirst c (then k c v)) (sym left)
+            ∙ ap (λ (d : Closed). reportedFirst d (then k (d .changed) (leaves true (closed d) (afterClose r s)))) (sym answered)
+            ∙ ap (λ (x : Structure). reportedFirst c (then k (c .changed) x)) (sym left)
 
-        changed-is : (k : ℕ) {b : Bool} → c .changed ≡ b → elim b [ true ↦ settleFrom k g t | false ↦ ended [] t ] ≡ rest k
-        changed-is k e = sym (ap (λ (b : Bool). elim b [ true ↦ settleFrom k g t | false ↦ ended [] t ]) e)
+        abbrev now : List Closed
+        now = so-far .reports ++ (c ∷ [])
 
-        on : (k : ℕ) → suc k + closes ≡ most → reported (so-far .reports ++ (c ∷ [])) (rest k) ≡ whole
+        on : (k : ℕ) {b : Bool} → c .changed ≡ b → suc k + i ≡ most → reported now (then k b v) ≡ whole
         unfolding reportedFirst
-        on k q =
-            ap (λ (cs : List Closed). settle-run cs (rest k .met) (rest k .after)) (append-assoc (so-far .reports) (c ∷ []) (rest k .reports))
+        on k {b} e q =
+            ap (λ (cs : List Closed). settle-run cs (then k b v .met) (then k b v .after)) (append-assoc (so-far .reports) (c ∷ []) (then k b v .reports))
+            ∙ sym (ap (λ (x : Bool). reported (so-far .reports) (reportedFirst c (then k x v))) e)
             ∙ sym (ap (reported (so-far .reports)) (accepted-by k))
             ∙ next k q
 
         -- it is accepted
-        pub takes : Going whole most t (c .changed) (closes + 1) (merges + c .merges)
-        takes = record {
-          reports = so-far .reports ++ (c ∷ []);
-          closes-are = omega (arith, so-far .closes-are, length-append (so-far .reports) (c ∷ []));
-          merges-are = omega (arith, so-far .merges-are, merges-last (so-far .reports) c);
+        pub takes : {u : Settled} {b : Bool} → u ≡ totals (t .closes + 1) (t .merges + c .merges) → b ≡ c .changed → Going whole most v b u (i + 1)
+        takes counted changed = record {
+          reports = now;
+          totals-are = counted ∙ totals-last (so-far .reports) c (so-far .totals-are);
+          closes-are = ap (λ (x : Settled). x .closes) counted ∙ ap (λ (n : ℕ). n + 1) (so-far .closes-are);
           few = omega arith;
-          more = λ e k q. ap (reported (so-far .reports ++ (c ∷ []))) (changed-is k e) ∙ on k (omega arith);
-          stops = λ e.
-              let k = most - suc closes in
-              ap (λ (cs : List Closed). ended cs t) (sym (append-nil (so-far .reports ++ (c ∷ []))))
-              ∙ ap (reported (so-far .reports ++ (c ∷ []))) (changed-is k e)
-              ∙ on k (omega arith);
+          more = λ e k q. on k (sym changed ∙ e) (omega arith);
+          stops = λ e. alone now none v ∙ on (most - suc i) (sym changed ∙ e) (omega arith);
         }
+
+-- what the code's run is
+pub run-is : (g : Sig) (s : Structure) (r : code.SettleRun) {cs : List Closed} {o : Option ℕ} → settle-run cs o (structureOf (r .structure)) ≡ settleRun g s
+    → metOf (r .met) ≡ o → settledOf (r .totals) ≡ totalsOf cs → SettleRunIs g s r
+run-is g s r e met counted = record {
+  met = met ∙ ap (λ (x : SettleRun). x .met) e;
+  totals = counted ∙ ap (λ (x : SettleRun). totalsOf (x .reports)) e;
+  after = ap (λ (x : SettleRun). x .after) e;
+}
 
 -- The call.
 module _ (g : Sig) (s : Structure) where
@@ -138,11 +155,10 @@ module _ (g : Sig) (s : Structure) where
   refuses e = sym (decided-refuses (refusal (machine g s)) (acceptance (settleRule run (machine g s))) e) ∙ settles
 
   -- none is
-  pub accepts : (cs : List Closed) (t : Structure) {closes merges : ℕ} → ended cs t ≡ run → closes ≡ length cs → merges ≡ mergesIn cs
-      → answers (settled (totals closes merges)) (machine g (leaves true (settled (totals closes merges)) t)) ≡ step calls.settle (machine g s)
-  unfolding acceptance settleRule totalsOf
-  accepts cs t e p q =
-      (λ i. answers (settled (totals (p i) (q i))) (machine g (leaves true (settled (totals (p i) (q i))) t)))
-      ∙ (λ i. acceptance (settleRule (e i) (machine g s)))
-      ∙ sym (decided-accepts (refusal (machine g s)) (acceptance (settleRule run (machine g s))) (sym (ap (λ (r : SettleRun). r .met) e)))
+  pub accepts : run .met ≡ none → {t : Settled} {v : Structure} → t ≡ totalsOf (run .reports) → v ≡ run .after
+      → answers (settled t) (machine g (leaves true (settled t) v)) ≡ step calls.settle (machine g s)
+  unfolding acceptance settleRule
+  accepts e p q =
+      (λ i. answers (settled (p i)) (machine g (leaves true (settled (p i)) (q i))))
+      ∙ sym (decided-accepts (refusal (machine g s)) (acceptance (settleRule run (machine g s))) e)
       ∙ settles
