@@ -162,9 +162,9 @@ pub fn settle_line(closes: u64, merges: u64) -> Line
     ensures { λ r. ⌜ lineOf r ≡ sheet.settleLine (totals closes merges) ⌝ }
 {
     let word = Line::new().put_word(b"settle");
-    let first = word.put_spaced(closes);
-    let second = first.put_spaced(merges);
-    second.put(b'\n')
+    let one = word.put_spaced(closes);
+    let two = one.put_spaced(merges);
+    two.put(b'\n')
 }
 
 // `refused N at I`
