@@ -9,6 +9,7 @@ use contract.Lifetimes.{Lfts}
 use denote.Ref.{now}
 use Rattle.ids.specs.Ids.{givenEls}
 use Rattle.unification.specs.Roots.{linksOf}
+use Rattle.signature.specs.declared.Signature.{Signature}
 use Rattle.signature.specs.Model.{sigOf}
 use Rattle.semantics.specs.Types.{anyMarked}
 use Rattle.semantics.specs.Close.{Closed}
@@ -23,6 +24,7 @@ use Rattle.structure.specs.declared.Answer as code-answer
 use Rattle.structure.specs.declared.Answer.the-variants as answer
 use Rattle.structure.specs.declared.Closed as code
 use Rattle.structure.specs.declared.Settled as code-settled
+use Rattle.structure.specs.declared.Structure.{Structure}
 use Rattle.structure.specs.declared.Stepped.{Stepped}
 use Rattle.structure.specs.View.{structureOf, machineOf, closedOf, settledOf, answerOf, stepOf}
 use Rattle.conflicts.specs.View.{conflictsOf}
@@ -201,7 +203,7 @@ module _ (κs : Lfts 1) (bytes : _) (r : Responded) (ran : run-fn.Learnt κs (by
       subst (λ (l : List ℕ). Conserved (history (ks ++ (k ∷ [])) .book) l cs) links
       (conservation ks k cs (subst (λ (m : Machine). RanCloses m k cs) was ran) unmarked)
 
-  abbrev given : _
+  abbrev given : Structure × (Signature × Unit {0})
   given = (r .machine .structure, (r .machine .signature, tt))
 
   pub run-then-close-conserves : (z : Stepped) (c : Closed) → close-fn.Learnt tt given z given → answerOf [] (z .answer) ≡ closed c
