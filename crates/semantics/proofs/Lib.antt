@@ -12,3 +12,4 @@ pub mod Stages
 pub mod Pairs
 pub mod Computes
 pub mod ProvedCases
+pub mod RefusedSettle

@@ -616,7 +616,7 @@ table =
       claims = machine is whole (afterCalls (typ model [] ∷ typ model [] ∷ plainEl ∷ ambientEl 0 0 ∷ []) start) ∷ [];
     }
     -- number 11: "the close would at some moment hold 1,025 facts": 1,024 are held, and the next refuses the close; a fact that is
-    -- there is no other one
+    -- there is no other one; a settle that meets 11 in its second close is `settle-undone` (RefusedSettle)
     ∷ record {
       source = callsFrom (holding (maxFacts - 1)) (impose 0 0 (1 ∷ []) ∷ close ∷ []);
       output = tells (closes 1 0 1 ∷ []);

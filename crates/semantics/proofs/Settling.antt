@@ -63,17 +63,17 @@ module _ (m : Machine) where
   abbrev o : Outcome Closed Structure
   o = closing.close (m .sig) (m .structure)
 
-  refused-step : (n : ℕ) → o .answer ≡ refused n → step close m ≡ refusal m n
+  pub close-refused : (n : ℕ) → o .answer ≡ refused n → step close m ≡ refusal m n
   unfolding closedAnswer
-  refused-step n e = sym (close-steps m) ∙ ap (closedAnswer m (o .after)) e
+  close-refused n e = sym (close-steps m) ∙ ap (closedAnswer m (o .after)) e
 
   -- what an accepted close leaves
   abbrev left : Closed → Machine
   left c = machine (m .sig) (leaves true (closed c) (o .after))
 
-  accepted-step : (c : Closed) → o .answer ≡ accepted c → step close m ≡ answers (closed c) (left c)
+  pub close-accepted : (c : Closed) → o .answer ≡ accepted c → step close m ≡ answers (closed c) (left c)
   unfolding closedAnswer
-  accepted-step c e = sym (close-steps m) ∙ ap (closedAnswer m (o .after)) e
+  close-accepted c e = sym (close-steps m) ∙ ap (closedAnswer m (o .after)) e
 
   refused-left : (n : ℕ) → o .answer ≡ refused n → o .after ≡ m .structure
   unfolding closing.close closeBy
@@ -84,15 +84,15 @@ module _ (m : Machine) where
   ran-refused : (n : ℕ) → o .answer ≡ refused n → Ran m (settle-run [] (some n) (o .after))
   ran-refused n e = subst (λ (s : Structure). Ran m (settle-run [] (some n) s)) (sym (refused-left n e)) (record {
     closes = refl;
-    refused = λ k q. (let same : n ≡ k = cc in ap (λ (s : Step). s .answer) (refused-step n e) ∙ ap refuse same);
+    refused = λ k q. (let same : n ≡ k = cc in ap (λ (s : Step). s .answer) (close-refused n e) ∙ ap refuse same);
   })
 
   ran-first : (c : Closed) (r : SettleRun) → o .answer ≡ accepted c → Ran (left c) r → Ran m (reportedFirst c r)
   unfolding reportedFirst
   ran-first c r e h = record {
     closes = (
-      ap (λ (s : Step). s .answer) (accepted-step c e),
-      subst (λ (x : Machine). Closes x (r .reports) (machine (m .sig) (r .after))) (sym (ap (λ (s : Step). s .after) (accepted-step c e))) (h .closes),
+      ap (λ (s : Step). s .answer) (close-accepted c e),
+      subst (λ (x : Machine). Closes x (r .reports) (machine (m .sig) (r .after))) (sym (ap (λ (s : Step). s .after) (close-accepted c e))) (h .closes),
     );
     refused = h .refused;
   }
@@ -167,15 +167,15 @@ module _ (m : Machine) where
   unfolding leaves settledBy
   same-flags e = ap (λ (b : Bool). with-flags b (run .after .settled) (run .after)) (sym (started e))
 
-  accepts : run .met ≡ none → step settle m ≡ answers (settled (totalsOf (run .reports))) closesLeave
+  pub settle-accepts : run .met ≡ none → step settle m ≡ answers (settled (totalsOf (run .reports))) closesLeave
   unfolding decided acceptance settleRule
-  accepts e =
+  settle-accepts e =
       settle-decides ∙ ap (λ (x : Option ℕ). decided x (refusal m) (acceptance (settleRule run m))) e
       ∙ ap (λ (s : Structure). answers (settled (totalsOf (run .reports))) (machine (m .sig) s)) (same-flags e)
 
-  refuses : (n : ℕ) → run .met ≡ some n → step settle m ≡ refusal m n
+  pub settle-refuses : (n : ℕ) → run .met ≡ some n → step settle m ≡ refusal m n
   unfolding decided
-  refuses n e = settle-decides ∙ ap (λ (x : Option ℕ). decided x (refusal m) (acceptance (settleRule run m))) e
+  settle-refuses n e = settle-decides ∙ ap (λ (x : Option ℕ). decided x (refusal m) (acceptance (settleRule run m))) e
 
   -- a settle by the number that its run meets: the answers of its closes summed and what they leave, or that number
   pub settle-by {ℓ} : (P : Step → Type ℓ) → (run .met ≡ none → P (answers (settled (totalsOf (run .reports))) closesLeave))
@@ -183,8 +183,8 @@ module _ (m : Machine) where
   settle-by P done met = go (run .met) refl
     where
       go : (x : Option ℕ) → run .met ≡ x → P (step settle m)
-      go none e = subst P (sym (accepts e)) (done e)
-      go (some n) e = subst P (sym (refuses n e)) (met n e)
+      go none e = subst P (sym (settle-accepts e)) (done e)
+      go (some n) e = subst P (sym (settle-refuses n e)) (met n e)
 
   -- an accepted settle is its closes ..
   pub settle-closes : (t : Settled) → step settle m .answer ≡ settled t → Closes m (run .reports) (step settle m .after)
