@@ -29,9 +29,7 @@ impl Prepared {
 
     /// The line that the close prints.
     pub fn line(&self) -> String {
-        let mut words = [0; 16];
-        words[1] = 13;
-        self.oracle.clone().call(&Record { words }).to_string()
+        self.oracle.clone().call(&Record::of_kind(13)).to_string()
     }
 
     /// The time, by `clock`, of `times` closes, each of a copy of its own. Copies are made before, and dropped after,
