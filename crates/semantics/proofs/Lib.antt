@@ -13,3 +13,4 @@ pub mod Pairs
 pub mod Computes
 pub mod ProvedCases
 pub mod RefusedSettle
+pub mod WrongSettles

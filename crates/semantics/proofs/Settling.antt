@@ -42,9 +42,20 @@ close-starts m c e = ap (λ (s : Step). s .after .structure .started) (accepted-
 
 -- A settle's run.
 
+-- every close but the last reported a change
+abbrev pub UntilQuiet : List Closed → Type 0
+UntilQuiet [] = Unit {0}
+UntilQuiet (c ∷ []) = Unit {0}
+UntilQuiet (c ∷ d ∷ cs) = (c .changed ≡ true) × UntilQuiet (d ∷ cs)
+
+until-more : (c : Closed) (cs : List Closed) → c .changed ≡ true → UntilQuiet cs → UntilQuiet (c ∷ cs)
+until-more c [] e u = tt
+until-more c (d ∷ cs) e u = (e, u)
+
 -- what a run that begins at m comes to
 record Ran (m : Machine) (r : SettleRun) : Type 0 where
   closes : Closes m (r .reports) (machine (m .sig) (r .after))
+  until : UntilQuiet (r .reports)
   -- the number that it met refuses the next close
   refused : (n : ℕ) → r .met ≡ some n → step close (machine (m .sig) (r .after)) .answer ≡ refuse n
 
@@ -56,7 +67,7 @@ not-settled e = let z : _≡_ {A = ℕ} 0 1 = cc in absurd (omega arith)
 
 -- no close ran
 ran-none : (m : Machine) → Ran m (settle-run [] none (m .structure))
-ran-none m = record { closes = refl; refused = λ n e. no-number e }
+ran-none m = record { closes = refl; until = tt; refused = λ n e. no-number e }
 
 module _ (m : Machine) where
   -- the close of the structure
@@ -84,16 +95,18 @@ module _ (m : Machine) where
   ran-refused : (n : ℕ) → o .answer ≡ refused n → Ran m (settle-run [] (some n) (o .after))
   ran-refused n e = subst (λ (s : Structure). Ran m (settle-run [] (some n) s)) (sym (refused-left n e)) (record {
     closes = refl;
+    until = tt;
     refused = λ k q. (let same : n ≡ k = cc in ap (λ (s : Step). s .answer) (close-refused n e) ∙ ap refuse same);
   })
 
-  ran-first : (c : Closed) (r : SettleRun) → o .answer ≡ accepted c → Ran (left c) r → Ran m (reportedFirst c r)
+  ran-first : (c : Closed) (r : SettleRun) → o .answer ≡ accepted c → Ran (left c) r → UntilQuiet (c ∷ r .reports) → Ran m (reportedFirst c r)
   unfolding reportedFirst
-  ran-first c r e h = record {
+  ran-first c r e h u = record {
     closes = (
       ap (λ (s : Step). s .answer) (close-accepted c e),
       subst (λ (x : Machine). Closes x (r .reports) (machine (m .sig) (r .after))) (sym (ap (λ (s : Step). s .after) (close-accepted c e))) (h .closes),
     );
+    until = u;
     refused = h .refused;
   }
 
@@ -101,14 +114,16 @@ module _ (m : Machine) where
   unfolding settleBy settleAfter
   ran-by k rest = go (o .answer) refl
     where
-      after : (c : Closed) (b : Bool)
-          → Ran (left c) (elim b [ true ↦ settleFrom k (m .sig) (left c .structure) | false ↦ settle-run [] none (left c .structure) ])
-      after c true = rest (left c)
-      after c false = ran-none (left c)
+      after : (c : Closed) → o .answer ≡ accepted c → (b : Bool) → c .changed ≡ b
+          → Ran m (reportedFirst c (elim b [ true ↦ settleFrom k (m .sig) (left c .structure) | false ↦ settle-run [] none (left c .structure) ]))
+      after c e true q =
+          let r = settleFrom k (m .sig) (left c .structure) in
+          ran-first c r e (rest (left c)) (until-more c (r .reports) q (rest (left c) .until))
+      after c e false q = ran-first c _ e (ran-none (left c)) tt
 
       go : (a : Answered Closed) → o .answer ≡ a → Ran m (settleAfter a (o .after) (settleFrom k (m .sig)))
       go (refused n) e = ran-refused n e
-      go (accepted c) e = ran-first c _ e (after c (c .changed))
+      go (accepted c) e = after c e (c .changed) refl
 
 settle-ran : (k : ℕ) (m : Machine) → Ran m (settleFrom k (m .sig) (m .structure))
 unfolding settleFrom
@@ -130,6 +145,10 @@ module _ (m : Machine) where
 
   pub run-closes : Closes m (run .reports) closesLeave
   run-closes = run-ran .closes
+
+  -- "repeats close until one reports no change": none follows that one
+  pub run-until : UntilQuiet (run .reports)
+  run-until = run-ran .until
 
   pub run-refused : (n : ℕ) → run .met ≡ some n → step close closesLeave .answer ≡ refuse n
   run-refused = run-ran .refused
