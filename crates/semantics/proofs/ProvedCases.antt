@@ -337,7 +337,7 @@ table =
       output = tells (closes 1 1 2 ∷ closes 1 1 3 ∷ closes 0 0 1 ∷ []);
       claims = settled is flag true ∷ [];
     }
-    -- settle: "repeats close until one reports no change"; with no element that is the first
+    -- P1 as a settle: "repeats close until one reports no change", and with no element that is the first
     ∷ record { source = calls (settle ∷ []); output = tells (settles 1 0 ∷ []); claims = settled is flag true ∷ [] }
     ∷ record { source = sheet (entry 0 15 0 0 [] []); output = prints (lines ("settle 1 0" ∷ "end 1" ∷ [])); claims = [] }
     -- P4 as settles
