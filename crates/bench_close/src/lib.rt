@@ -194,15 +194,20 @@ fn step(run: Machine, bytes: &[u8], index: u16) -> Machine {
     }
 }
 
+// A close or a settle.
+fn is_timed(kind: u16) -> bool {
+    match kind {
+        13 | 15 => true,
+        _ => false,
+    }
+}
+
 // The records of a sheet before its first close or settle, carried out.
 fn build(bytes: &[u8]) -> Machine {
     let mut run = Machine::new();
     let mut index: u16 = 0;
     for _visited in 0..1024u16 {
-        if word(bytes, index, 1) == 13 {
-            return run;
-        }
-        if word(bytes, index, 1) == 15 {
+        if is_timed(word(bytes, index, 1)) {
             return run;
         }
         let next = step(run, bytes, index);
