@@ -230,7 +230,7 @@ fn report(stepped: Stepped, out: &mut [u64; 4]) {
             out[1] = c.merges;
             out[2] = c.rounds;
         }
-        Answer::Settled(t) => {
+        Answer::Summed(t) => {
             out[0] = t.closes;
             out[1] = t.merges;
             out[2] = 0;

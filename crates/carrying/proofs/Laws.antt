@@ -44,7 +44,7 @@ none-beside (variants.Says b) = refl
 none-beside variants.Done = refl
 none-beside (variants.Closed c) = refl
 none-beside variants.Conflicting = refl
-none-beside (variants.Settled t) = refl
+none-beside (variants.Summed t) = refl
 none-beside (variants.Refused n) = refl
 
 -- the step of a record that is carried out, with the conflicts as they are held

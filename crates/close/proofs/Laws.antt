@@ -144,19 +144,18 @@ module _ (g : Sig) (s : model.Structure) where
   abbrev run : CloseRun
   run = closeRun g s
 
-  closes : decided (run .core .met) (refusal (machine g s)) (acceptance (closeRule run (machine g s))) ≡ step calls.close (machine g s)
-  unfolding step stepBy rule closeRule
-  closes = λ i. decided (sym (close-first run) i) (refusal (machine g s)) (acceptance (closeRule run (machine g s)))
+  only-met : rule calls.close (machine g s) .causes ≡ metCauses (run .core .met)
+  unfolding rule closeRule
+  only-met = refl
 
   -- a number is met
   pub refuses : {n : ℕ} → run .core .met ≡ some n → refusal (machine g s) n ≡ step calls.close (machine g s)
-  refuses e = sym (decided-refuses (refusal (machine g s)) (acceptance (closeRule run (machine g s))) e) ∙ closes
+  refuses e = sym (met-refuses calls.close (machine g s) (run .core .met) only-met _ e)
 
   -- none is met
   pub accepts : run .core .met ≡ none → {a : closing.Closed} {t : model.Structure} → a ≡ reportOf run → t ≡ afterClose run s
       → answers (closed a) (machine g (leaves true (closed a) t)) ≡ step calls.close (machine g s)
-  unfolding acceptance closeRule
+  unfolding rule acceptance closeRule
   accepts e p q =
       (λ i. answers (closed (p i)) (machine g (leaves true (closed (p i)) (q i))))
-      ∙ sym (decided-accepts (refusal (machine g s)) (acceptance (closeRule run (machine g s))) e)
-      ∙ closes
+      ∙ sym (met-accepts calls.close (machine g s) (run .core .met) only-met e)

@@ -173,7 +173,7 @@ fn with_core(structure: Structure, core: Core, apps: FuncApps) -> Structure
     next
 }
 
-// What a close comes to: the number first met, 0 for none, and what it reports and leaves where it met none.
+// What a close comes to: the number first met, 0 for none, and what it reports and leaves where none refuses it.
 pub struct CloseRun {
     pub met: u16,
     pub report: Closed,

@@ -10,7 +10,7 @@ use Rattle.signature.specs.Calls.{TypedM}
 use Rattle.semantics.specs.Types.{anyMarked}
 use Rattle.semantics.specs.Close.{Closed}
 use Rattle.semantics.specs.Calls as calls
-use Rattle.semantics.specs.Calls.{Call, Settled, Answer, closed, settled, isAccepted, settleRun, machine, Step, answers, step}
+use Rattle.semantics.specs.Calls.{Call, Totals, Answer, closed, summed, isAccepted, settleRun, machine, Step, answers, step}
 use Rattle.semantics.proofs.Judged.{lookedUp, lookup-steps}
 use Rattle.structure.specs.declared.Machine.{Machine}
 use Rattle.structure.specs.View.{structureOf, machineOf, Looking}
@@ -68,7 +68,7 @@ module _ {w z : Machine} where
   pub close-ran : {c : Closed} → Made w calls.close (closed c) z → RanCloses (machineOf w) calls.close (c ∷ [])
   close-ran m = closes (sym (ap (λ (s : Step). s .answer) (made-step m)))
 
-  pub settle-ran : {t : Settled} → Made w calls.settle (settled t) z
+  pub settle-ran : {t : Totals} → Made w calls.settle (summed t) z
       → RanCloses (machineOf w) calls.settle (settleRun (sigOf (w .signature)) (structureOf (w .structure)) .reports)
   settle-ran m = settles (sym (ap (λ (s : Step). s .answer) (made-step m)))
 

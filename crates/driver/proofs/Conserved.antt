@@ -14,19 +14,20 @@ use Rattle.signature.specs.Model.{sigOf}
 use Rattle.semantics.specs.Types.{anyMarked}
 use Rattle.semantics.specs.Close.{Closed}
 use Rattle.semantics.specs.Calls as calls
-use Rattle.semantics.specs.Calls.{Call, Settled, Answer, number, says, done, closed, conflicting, settled, found, typed, els, refuse, isAccepted}
-use Rattle.semantics.specs.Calls.{Machine, Step, answers, settleRun, totalsOf, start, rule, equalityRule, impositionRule, applicationRule}
+use Rattle.semantics.specs.Calls.{Call, Totals, Answer, number, says, done, closed, conflicting, summed, found, typed, els, refuse, isAccepted}
+use Rattle.semantics.specs.Calls.{Machine, Step, answers, settleRun, sumsOf, start, rule, equalityRule, impositionRule, applicationRule}
 use Rattle.semantics.specs.Calls.{closeRule, settleRule, acceptance, step}
 use Rattle.semantics.specs.Sheet.{recordAt, carryOut}
+use Rattle.semantics.proofs.Cases.{none-some}
 use Rattle.semantics.proofs.Judged.{accepted-leaves}
 use Rattle.semantics.proofs.Settling.{settle-totals}
 use Rattle.structure.specs.declared.Answer as code-answer
 use Rattle.structure.specs.declared.Answer.the-variants as answer
 use Rattle.structure.specs.declared.Closed as code
-use Rattle.structure.specs.declared.Settled as code-settled
+use Rattle.structure.specs.declared.Totals as code-totals
 use Rattle.structure.specs.declared.Structure.{Structure}
 use Rattle.structure.specs.declared.Stepped.{Stepped}
-use Rattle.structure.specs.View.{structureOf, machineOf, closedOf, settledOf, answerOf, stepOf}
+use Rattle.structure.specs.View.{structureOf, machineOf, closedOf, totalsOf, answerOf, stepOf}
 use Rattle.conflicts.specs.View.{conflictsOf}
 use Rattle.close.proofs.close.Reads as close-fn
 use Rattle.settle.proofs.settle.Reads as settle-fn
@@ -40,65 +41,62 @@ use Rattle.driver.specs.declared.Responded.{Responded}
 use Rattle.driver.proofs.Laws.{after-history}
 use Rattle.driver.proofs.run.Reads as run-fn
 
-no-call : {j : Call} {X : Type 0} → _≡_ {A = Option Call} none (some j) → X
-no-call e = let z : _≡_ {A = ℕ} 0 1 = cc in absurd (omega arith)
-
 -- Only a close answers as a close does, and only a settle as a settle does.
 
 -- the call that answers so, where it is one that closes
-closer : Answer → Option Call
-closer (closed c) = some calls.close
-closer (settled t) = some calls.settle
-closer (number n) = none
-closer (says b) = none
-closer done = none
-closer (conflicting cs) = none
-closer (found f) = none
-closer (typed t) = none
-closer (els es) = none
-closer (refuse n) = none
+closingCall : Answer → Option Call
+closingCall (closed c) = some calls.close
+closingCall (summed t) = some calls.settle
+closingCall (number n) = none
+closingCall (says b) = none
+closingCall done = none
+closingCall (conflicting cs) = none
+closingCall (found f) = none
+closingCall (typed t) = none
+closingCall (els es) = none
+closingCall (refuse n) = none
 
-closer-effect : (k : Call) (m : Machine) (j : Call) → closer (rule k m .answer) ≡ some j → k ≡ j
-unfolding rule equalityRule impositionRule applicationRule closeRule settleRule closer
-closer-effect (calls.push-type t) m j e = no-call e
-closer-effect (calls.push-pred p) m j e = no-call e
-closer-effect (calls.push-func f) m j e = no-call e
-closer-effect (calls.push-model x) m j e = no-call e
-closer-effect (calls.push-mor-app x) m j e = no-call e
-closer-effect (calls.push-el mark) m j e = no-call e
-closer-effect (calls.equate-els a b) m j e = no-call e
-closer-effect (calls.impose-type f) m j e = no-call e
-closer-effect (calls.apply-func x) m j e = no-call e
-closer-effect (calls.apply-pred x) m j e = no-call e
-closer-effect (calls.bind-var v) m j e = no-call e
-closer-effect (calls.bind-ambient a) m j e = no-call e
-closer-effect calls.close m j e = cc
-closer-effect calls.type-conflicts m j e = no-call e
-closer-effect calls.settle m j e = cc
-closer-effect (calls.root x) m j e = no-call e
-closer-effect (calls.root-const x) m j e = no-call e
-closer-effect (calls.lookup-type t ps) m j e = no-call e
-closer-effect (calls.ambient-parents ts) m j e = no-call e
+closing-effect : (k : Call) (m : Machine) (j : Call) → closingCall (rule k m .answer) ≡ some j → k ≡ j
+unfolding rule equalityRule impositionRule applicationRule closeRule settleRule closingCall
+closing-effect (calls.push-type t) m j e = none-some e
+closing-effect (calls.push-pred p) m j e = none-some e
+closing-effect (calls.push-func f) m j e = none-some e
+closing-effect (calls.push-model x) m j e = none-some e
+closing-effect (calls.push-mor-app x) m j e = none-some e
+closing-effect (calls.push-el mark) m j e = none-some e
+closing-effect (calls.equate-els a b) m j e = none-some e
+closing-effect (calls.impose-type f) m j e = none-some e
+closing-effect (calls.apply-func x) m j e = none-some e
+closing-effect (calls.apply-pred x) m j e = none-some e
+closing-effect (calls.bind-var v) m j e = none-some e
+closing-effect (calls.bind-ambient a) m j e = none-some e
+closing-effect calls.close m j e = cc
+closing-effect calls.type-conflicts m j e = none-some e
+closing-effect calls.settle m j e = cc
+closing-effect (calls.root x) m j e = none-some e
+closing-effect (calls.root-const x) m j e = none-some e
+closing-effect (calls.lookup-type t ps) m j e = none-some e
+closing-effect (calls.ambient-parents ts) m j e = none-some e
 
 -- an answer of a call that closes is no refusal
-closer-accepted : (a : Answer) (j : Call) → closer a ≡ some j → isAccepted a ≡ true
-unfolding closer isAccepted
-closer-accepted (closed c) j e = refl
-closer-accepted (settled t) j e = refl
-closer-accepted (number n) j e = refl
-closer-accepted (says b) j e = refl
-closer-accepted done j e = refl
-closer-accepted (conflicting cs) j e = refl
-closer-accepted (found f) j e = refl
-closer-accepted (typed t) j e = refl
-closer-accepted (els es) j e = refl
-closer-accepted (refuse n) j e = no-call e
+closing-accepted : (a : Answer) (j : Call) → closingCall a ≡ some j → isAccepted a ≡ true
+unfolding closingCall isAccepted
+closing-accepted (closed c) j e = refl
+closing-accepted (summed t) j e = refl
+closing-accepted (number n) j e = refl
+closing-accepted (says b) j e = refl
+closing-accepted done j e = refl
+closing-accepted (conflicting cs) j e = refl
+closing-accepted (found f) j e = refl
+closing-accepted (typed t) j e = refl
+closing-accepted (els es) j e = refl
+closing-accepted (refuse n) j e = none-some e
 
-closer-call : (k : Call) (m : Machine) (j : Call) → closer (step k m .answer) ≡ some j → k ≡ j
+closing-call : (k : Call) (m : Machine) (j : Call) → closingCall (step k m .answer) ≡ some j → k ≡ j
 unfolding acceptance
-closer-call k m j e =
-    let leaves : step k m ≡ acceptance (rule k m) = accepted-leaves k m (closer-accepted (step k m .answer) j e) .1 in
-    closer-effect k m j (ap (λ (s : Step). closer (s .answer)) (sym leaves) ∙ e)
+closing-call k m j e =
+    let leaves : step k m ≡ acceptance (rule k m) = accepted-leaves k m (closing-accepted (step k m .answer) j e) .1 in
+    closing-effect k m j (ap (λ (s : Step). closingCall (s .answer)) (sym leaves) ∙ e)
 
 -- a list of calls ends in a close or settle that is accepted, whose closes answered cs
 pub record Ends (ks : List Call) (cs : List Closed) : Type 0 where
@@ -113,20 +111,20 @@ record LastCall (bytes : List ℕ) (n : ℕ) (j : Call) : Type 0 where
   is : callsBefore bytes n ≡ before ++ (j ∷ [])
   answers : step j (history before .machine) .answer ≡ lastAnswer start bytes n
 
-last-call : (bytes : List ℕ) (n : ℕ) (j : Call) → closer (lastAnswer start bytes n) ≡ some j → LastCall bytes n j
-unfolding lastAnswer callsBefore carryOut callList closer
-last-call bytes zero j e = no-call e
+last-call : (bytes : List ℕ) (n : ℕ) (j : Call) → closingCall (lastAnswer start bytes n) ≡ some j → LastCall bytes n j
+unfolding lastAnswer callsBefore carryOut callList closingCall
+last-call bytes zero j e = none-some e
 last-call bytes (suc n) j e =
-    go (listCallOf (recordAt bytes n)) refl (sym (ap closer after) ∙ e)
+    go (listCallOf (recordAt bytes n)) refl (sym (ap closingCall after) ∙ e)
   where
     after : lastAnswer start bytes (suc n) ≡ carryOut (listCallOf (recordAt bytes n)) (history (callsBefore bytes n) .machine) .answer
     after = ap (λ (m : Machine). carryOut (listCallOf (recordAt bytes n)) m .answer) (after-history (callsBefore bytes n))
 
-    go : (o : Option Call) → listCallOf (recordAt bytes n) ≡ o → closer (carryOut o (history (callsBefore bytes n) .machine) .answer) ≡ some j
+    go : (o : Option Call) → listCallOf (recordAt bytes n) ≡ o → closingCall (carryOut o (history (callsBefore bytes n) .machine) .answer) ≡ some j
         → LastCall bytes (suc n) j
-    go none q e = no-call e
+    go none q e = none-some e
     go (some k) q e =
-        let is-j : k ≡ j = closer-call k (history (callsBefore bytes n) .machine) j e in
+        let is-j : k ≡ j = closing-call k (history (callsBefore bytes n) .machine) j e in
         record {
           before = callsBefore bytes n;
           is = ap (λ (x : Option Call). callsBefore bytes n ++ callList x) (q ∙ ap some is-j);
@@ -134,16 +132,16 @@ last-call bytes (suc n) j e =
         }
 
 pub ends-closed : (bytes : List ℕ) (n : ℕ) (c : Closed) → lastAnswer start bytes n ≡ closed c → Ends (callsBefore bytes n) (c ∷ [])
-unfolding closer
+unfolding closingCall
 ends-closed bytes n c e =
-    let l = last-call bytes n calls.close (ap closer e) in
+    let l = last-call bytes n calls.close (ap closingCall e) in
     record { before = l .before; call = calls.close; is = l .is; ran = closes (l .answers ∙ e) }
 
-pub ends-settled : (bytes : List ℕ) (n : ℕ) (t : Settled) → lastAnswer start bytes n ≡ settled t
-    → (cs : List Closed) × Ends (callsBefore bytes n) cs × (t ≡ totalsOf cs)
-unfolding closer
+pub ends-settled : (bytes : List ℕ) (n : ℕ) (t : Totals) → lastAnswer start bytes n ≡ summed t
+    → (cs : List Closed) × Ends (callsBefore bytes n) cs × (t ≡ sumsOf cs)
+unfolding closingCall
 ends-settled bytes n t e =
-    let l = last-call bytes n calls.settle (ap closer e) in
+    let l = last-call bytes n calls.settle (ap closingCall e) in
     let m = history (l .before) .machine in
     (settleRun (m .sig) (m .structure) .reports, record { before = l .before; call = calls.settle; is = l .is; ran = settles (l .answers ∙ e) }, settle-totals m t (l .answers ∙ e))
 
@@ -174,19 +172,20 @@ module _ (κs : Lfts 1) (bytes : _) (r : Responded) (ran : run-fn.Learnt κs (by
   answered : {a : code-answer.Answer} → r .response ≡ response.Answered a → lastAnswer start (now bytes) (wholeRecords (now bytes)) ≡ answerOf (conflictsOf (r .conflicts)) a
   answered e = ap (λ (s : Step). s .answer) (sym stepped) ∙ ap (responseOf (conflictsOf (r .conflicts)) (givenEls (r .els))) e
 
-  -- The same by what `run` answers: that the last record was a close that was accepted, or a settle.
+  -- The same by what `run` answers: that the last record was an accepted close or settle.
 
   pub run-closed-conserves : (c : code.Closed) → r .response ≡ response.Answered (answer.Closed c)
       → anyMarked (history (callsIn (now bytes)) .book .marks) ≡ false
       → Conserved (history (callsIn (now bytes)) .book) (linksOf (r .machine .structure .unification)) (closedOf c ∷ [])
   run-closed-conserves c e = run-conserves (closedOf c ∷ []) (ends-closed (now bytes) (wholeRecords (now bytes)) (closedOf c) (answered e))
 
-  pub run-settled-conserves : (t : code-settled.Settled) → r .response ≡ response.Answered (answer.Settled t)
+  pub run-settled-conserves : (t : code-totals.Totals) → r .response ≡ response.Answered (answer.Summed t)
       → anyMarked (history (callsIn (now bytes)) .book .marks) ≡ false
-      → (cs : List Closed) × Conserved (history (callsIn (now bytes)) .book) (linksOf (r .machine .structure .unification)) cs × (settledOf t ≡ totalsOf cs)
+      → (cs : List Closed) × Ends (callsIn (now bytes)) cs × (totalsOf t ≡ sumsOf cs)
+      × Conserved (history (callsIn (now bytes)) .book) (linksOf (r .machine .structure .unification)) cs
   run-settled-conserves t e unmarked =
-      let s = ends-settled (now bytes) (wholeRecords (now bytes)) (settledOf t) (answered e) in
-      (s .0, run-conserves (s .0) (s .1) unmarked, s .2)
+      let s = ends-settled (now bytes) (wholeRecords (now bytes)) (totalsOf t) (answered e) in
+      (s .0, s .1, s .2, run-conserves (s .0) (s .1) unmarked)
 
   -- The same of a close or settle of the machine that `run` hands back, by that function's own contract.
 
@@ -211,7 +210,7 @@ module _ (κs : Lfts 1) (bytes : _) (r : Responded) (ran : run-fn.Learnt κs (by
       → Conserved (history (callsIn (now bytes) ++ (calls.close ∷ [])) .book) (linksOf (z .structure .unification)) (c ∷ [])
   run-then-close-conserves z c did ok = then-conserves calls.close (c ∷ []) z did (closes (ap (λ (s : Step). s .answer) (sym did) ∙ ok))
 
-  pub run-then-settle-conserves : (z : Stepped) (t : Settled) → settle-fn.Learnt tt given z given → answerOf [] (z .answer) ≡ settled t
+  pub run-then-settle-conserves : (z : Stepped) (t : Totals) → settle-fn.Learnt tt given z given → answerOf [] (z .answer) ≡ summed t
       → anyMarked (history (callsIn (now bytes) ++ (calls.settle ∷ [])) .book .marks) ≡ false
       → Conserved (history (callsIn (now bytes) ++ (calls.settle ∷ [])) .book) (linksOf (z .structure .unification))
       (settleRun (sigOf (r .machine .signature)) (structureOf (r .machine .structure)) .reports)

@@ -9,7 +9,7 @@ use Rattle.ids.specs.Ids.{padded}
 use Rattle.unification.specs.Roots.{linksOf}
 use Rattle.semantics.specs.Types.{anyMarked}
 use Rattle.semantics.specs.Close.{Closed, report}
-use Rattle.semantics.specs.Calls.{Call, push-el, equate-els, root, close, settle, totals, Answer, closed, settled, isAccepted}
+use Rattle.semantics.specs.Calls.{Call, push-el, equate-els, root, close, settle, totals, Answer, closed, summed, isAccepted}
 use Rattle.semantics.proofs.Computes.{everything}
 use Rattle.history.specs.Book as book
 use Rattle.history.specs.Book.{history, closes, settles, Conserved}
@@ -67,7 +67,7 @@ with-close = record {
 }
 
 -- a settle: "settle 2 1", whose closes are "close 1 1 2" and "close 0 0 1"
-pub with-settle : Worked 15 settle (settled (totals 2 1)) (report true 1 2 ∷ report false 0 1 ∷ [])
+pub with-settle : Worked 15 settle (summed (totals 2 1)) (report true 1 2 ∷ report false 0 1 ∷ [])
 unfolding computed
 with-settle = record {
   calls = refl;

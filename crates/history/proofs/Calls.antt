@@ -29,7 +29,7 @@ use Rattle.semantics.specs.Calls.{appliedEqual, applyAt, insertFuncAppOrEquate,
 use Rattle.semantics.specs.Calls.{withVar, withAmbient, Call, push-type, push-pred, push-func, push-model, push-mor-app, push-el, equate-els}
 use Rattle.semantics.specs.Calls.{impose-type, apply-func, apply-pred, bind-var, bind-ambient, close, type-conflicts, settle, root, root-const}
 use Rattle.semantics.specs.Calls.{lookup-type, ambient-parents, isAccepted, Machine, Step, equalityRule, impositionRule, applicationRule}
-use Rattle.semantics.specs.Calls.{closeRule, settleRule, rule, closed, mergesIn, totalsOf, leaves, acceptance, step}
+use Rattle.semantics.specs.Calls.{closeRule, settleRule, rule, closed, mergesIn, sumsOf, leaves, acceptance, step}
 use Rattle.history.specs.Book.{Book, with-merges, elements, taken, fed, mergesOf}
 use Rattle.semantics.proofs.Links.{length-push}
 use Rattle.semantics.proofs.Judged.{step-by, effect-accepted, below-if}
@@ -430,7 +430,7 @@ module _ (m : Machine) (b : Book) (v : ValidMachine m) (g : AgreesWith b (m .str
   }
 
   effect-agrees : (k : Call) → NoneApplies (rule k m .causes) → AgreesWith (taken k (mergesOf (rule k m .answer)) b) (rule k m .after .structure)
-  unfolding rule equalityRule impositionRule applicationRule closeRule settleRule totalsOf withPredApp withVar withAmbient taken mergesOf coreAtStart
+  unfolding rule equalityRule impositionRule applicationRule closeRule settleRule sumsOf withPredApp withVar withAmbient taken mergesOf coreAtStart
   effect-agrees (push-type t) clear = g
   effect-agrees (push-pred p) clear = g
   effect-agrees (push-func f) clear = g

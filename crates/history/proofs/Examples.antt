@@ -52,7 +52,7 @@ record Worked (k : Call) (cs : List Closed) : Type 0 where
   two-merges : after k .book .merges ≡ 2
   same-root : rootOf (after k .machine .structure .links) 2 ≡ rootOf (after k .machine .structure .links) 3
   -- a close after it reports no change
-  quiet : step close (after k .machine) .answer ≡ closed noChange
+  next-unchanged : step close (after k .machine) .answer ≡ closed noChange
 
 -- "close 1 2 3"
 with-close : Worked close (report true 2 3 ∷ [])
@@ -64,7 +64,7 @@ with-close = record {
   one-equality = refl;
   two-merges = refl;
   same-root = refl;
-  quiet = refl;
+  next-unchanged = refl;
 }
 
 -- "settle 2 2": its closes answer "close 1 2 3" and "close 0 0 1"
@@ -77,7 +77,7 @@ with-settle = record {
   one-equality = refl;
   two-merges = refl;
   same-root = refl;
-  quiet = refl;
+  next-unchanged = refl;
 }
 
 -- so the rule says of each what it says

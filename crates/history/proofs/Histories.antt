@@ -24,7 +24,7 @@ use Rattle.validity.proofs.Calls.{ValidMachine, start-valid, step-valid}
 use Rattle.history.proofs.Elements.{Named, SharedAmongAll, shared-among-all}
 use Rattle.history.proofs.Functionality.{Canon}
 use Rattle.history.proofs.Closing.{closed-step}
-use Rattle.history.proofs.Settling.{quiet-some, settle-ends}
+use Rattle.history.proofs.Settling.{last-some, settle-ends}
 use Rattle.history.proofs.Calls.{TiedTo, AgreesWith, close-soundly, fed-agrees}
 
 -- what holds at each moment of a list
@@ -132,7 +132,7 @@ ran-marks {k} h ran = go ran (isAccepted (step k (h .machine) .answer))
 -- both run closes, one after the other, and at least one
 ran-some : {k : Call} {cs : List Closed} (m : Machine) → ValidMachine m → RanCloses m k cs → Closes m cs (step k m .after) × (0 < length cs)
 ran-some m v (closes e) = ((e, refl), omega arith)
-ran-some m v (settles {t} e) = (settle-closes m t e, quiet-some (settle-ends m v t e .quiet))
+ran-some m v (settles {t} e) = (settle-closes m t e, last-some (settle-ends m v t e .unchanged))
 
 -- one close
 close-leaves : (h : History) (c : Closed) → ValidHistory h → anyMarked (h .book .marks) ≡ false → step close (h .machine) .answer ≡ closed c

@@ -15,8 +15,9 @@ use Rattle.signature.specs.Model.{plain}
 use Rattle.semantics.specs.Structure.{Pair, pair, FuncApp, func-app}
 use Rattle.semantics.specs.Types.{anyMarked}
 use Rattle.semantics.specs.Close.{Closed, report}
-use Rattle.semantics.specs.Calls.{Call, equate-els, close, settle, totals, Answer, number, says, done, closed, conflicting, settled, found, typed, els, refuse}
+use Rattle.semantics.specs.Calls.{Call, equate-els, close, settle, totals, Answer, number, says, done, closed, conflicting, summed, found, typed, els, refuse}
 use Rattle.semantics.specs.Calls.{isAccepted, mergesIn}
+use Rattle.semantics.proofs.WrongSettles.{lastMerges}
 use Rattle.semantics.proofs.ProvedCases.{typ, func, plainEl, markedEl, impose, app}
 use Rattle.history.specs.Book.{Book, book, with-equalities, with-apps, elements, taken, fed, mergesOf, history, Together, none, Meet, Shared}
 use Rattle.history.specs.Book.{Classes, RanCloses, closes, settles, Conserved, Conservation}
@@ -356,7 +357,7 @@ closeMerges (says b) = 0
 closeMerges done = 0
 closeMerges (closed c) = c .merges
 closeMerges (conflicting l) = 0
-closeMerges (settled t) = 0
+closeMerges (summed t) = 0
 closeMerges (found f) = 0
 closeMerges (typed t) = 0
 closeMerges (els l) = 0
@@ -366,11 +367,6 @@ abbrev noSettles : Feeds
 noSettles k a b = fed k (isAccepted a) (closeMerges a) b
 
 -- the merges of the last of some closes
-abbrev lastMerges : List Closed → ℕ
-lastMerges [] = 0
-lastMerges (c ∷ []) = c .merges
-lastMerges (c ∷ d ∷ cs) = lastMerges (d ∷ cs)
-
 -- all so far, but of the last close or settle those
 abbrev lastOfSettle : Book → List Closed → ℕ
 lastOfSettle b cs = b .merges - mergesIn cs + lastMerges cs

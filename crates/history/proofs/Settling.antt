@@ -1,9 +1,10 @@
--- A settle of a valid structure ends by itself (02, M-100), marks or not: its last close reports no change, after at most elements and one closes.
+-- A settle of a valid structure ends by itself (02, M-100), marks or not: its last close reports no change, after at most one close more than there
+-- are elements.
 use mathlib.Core.Path.{_≡_, refl, sym, subst, ap, _∙_}
 use mathlib.Core.Bool.{Bool, true, false, not}
 use mathlib.Core.Logic.{inl, inr}
 use mathlib.Core.List.{List, [], _∷_}
-use mathlib.Core.Option.{Option, none, some}
+use mathlib.Core.Option.{none, some}
 use Prim.Native.Nat.{ℕ, zero, suc, _+_, _≤_, _<_}
 use native.Mathlib.Omega.{arith}
 use lib.ListN.{length}
@@ -19,9 +20,10 @@ use Rattle.semantics.specs.Structure.{Structure}
 use Rattle.semantics.specs.Valid.{countsOf, ValidStructure, Valid}
 use Rattle.semantics.specs.Close.{demands, Closed, close}
 use Rattle.semantics.specs.Calls as calls
-use Rattle.semantics.specs.Calls.{settle, closed, settled, Settled, Machine, machine, Step, leaves, settledBy, SettleRun, settle-run, reportedFirst, settleAfter}
-use Rattle.semantics.specs.Calls.{settleBy, settleFrom, settleRun, mergesIn, totalsOf, step}
+use Rattle.semantics.specs.Calls.{settle, closed, summed, Totals, Machine, machine, Step, leaves, settledBy, SettleRun, settle-run, reportedFirst, settleAfter}
+use Rattle.semantics.specs.Calls.{settleBy, settleFrom, settleRun, mergesIn, sumsOf, step}
 use Rattle.semantics.proofs.Counts.{isRoot, roots, roots-most, count-yes, count-no}
+use Rattle.semantics.proofs.Cases.{none-some}
 use Rattle.semantics.proofs.Judged.{closedAnswer, close-steps}
 use Rattle.semantics.proofs.Settling.{closesLeave, settle-by, settle-totals}
 use Rattle.validity.proofs.Demands.{demands-valid}
@@ -30,28 +32,25 @@ use Rattle.history.proofs.Closing.{accepted-close}
 use Rattle.history.proofs.SecondClose.{Idle, idle-report, idle-flags, closed-idle}
 
 -- there is a last one of these closes, and it reported no change
-pub data LastQuiet : List Closed → Type 0 where
-  last : {c : Closed} → c .changed ≡ false → LastQuiet (c ∷ [])
-  later : {c : Closed} {cs : List Closed} → LastQuiet cs → LastQuiet (c ∷ cs)
+pub data LastUnchanged : List Closed → Type 0 where
+  last : {c : Closed} → c .changed ≡ false → LastUnchanged (c ∷ [])
+  later : {c : Closed} {cs : List Closed} → LastUnchanged cs → LastUnchanged (c ∷ cs)
 
 -- what a settle of at most so many closes comes to, of which k are enough
 record Ended (k : ℕ) (atMost : ℕ → SettleRun) : Type 0 where
   same : (n : ℕ) → k ≤ n → atMost n ≡ atMost k
-  quiet : atMost k .met ≡ none → LastQuiet (atMost k .reports)
+  unchanged : atMost k .met ≡ none → LastUnchanged (atMost k .reports)
   settled : atMost k .met ≡ none → atMost k .after .settled ≡ true
 
 abbrev EndsIn : ℕ → Sig → Structure → Type 0
 EndsIn k g s = Ended k (λ n. settleFrom n g s)
-
-met-one : {X : Type 0} {n : ℕ} → _≡_ {A = Option ℕ} (some n) none → X
-met-one e = let z : _≡_ {A = ℕ} 0 1 = cc in absurd (omega arith)
 
 module _ (k : ℕ) (g : Sig) where
   -- after a close that answered so and left t, where k are enough for the rest
   ended-after : (a : Answered Closed) (t : Structure) → ((c : Closed) → a ≡ accepted c → c .changed ≡ true → EndsIn k g (leaves true (closed c) t))
       → Ended k (λ n. settleAfter a t (settleFrom n g))
   unfolding settleAfter reportedFirst
-  ended-after (refused n) t h = record { same = λ j l. refl; quiet = λ e. met-one e; settled = λ e. met-one e }
+  ended-after (refused n) t h = record { same = λ j l. refl; unchanged = λ e. none-some (sym e); settled = λ e. none-some (sym e) }
   ended-after (accepted c) t h = go (c .changed) refl
     where
       go : (b : Bool) → c .changed ≡ b
@@ -61,14 +60,14 @@ module _ (k : ℕ) (g : Sig) where
           ]))
       go true e =
           let r = h c refl e in
-          record { same = λ n l. ap (reportedFirst c) (r .same n l); quiet = λ q. later (r .quiet q); settled = r .settled }
-      go false e = record { same = λ n l. refl; quiet = λ q. last e; settled = λ q. (unfold leaves settledBy in ap not e) }
+          record { same = λ n l. ap (reportedFirst c) (r .same n l); unchanged = λ q. later (r .unchanged q); settled = r .settled }
+      go false e = record { same = λ n l. refl; unchanged = λ q. last e; settled = λ q. (unfold leaves settledBy in ap not e) }
 
   -- one close more
   ends-in : (s : Structure) → ((c : Closed) → close g s .answer ≡ accepted c → c .changed ≡ true → EndsIn k g (leaves true (closed c) (close g s .after)))
       → EndsIn (suc k) g s
   unfolding settleFrom settleBy
-  ends-in s h = record { same = same; quiet = first .quiet; settled = first .settled }
+  ends-in s h = record { same = same; unchanged = first .unchanged; settled = first .settled }
     where
       first : Ended k (λ n. settleBy (close g s) (settleFrom n g))
       first = ended-after (close g s .answer) (close g s .after) h
@@ -143,7 +142,7 @@ roots-enough (suc (suc k)) g s v l =
           roots-enough (suc k) g (after g s v c e) (r .valid) (omega (arith, l, n, r .sum))
     ])
 
--- So the bound of a settle, elements and one, never cuts.
+-- The bound of a settle never ends it.
 module _ (g : Sig) (s : Structure) (v : Valid g s) where
   ended : EndsIn (suc (length (s .links))) g s
   ended = roots-enough (suc (length (s .links))) g s v (omega (arith, roots-most (s .links)))
@@ -154,9 +153,9 @@ module _ (g : Sig) (s : Structure) (v : Valid g s) where
   settle-fuel j = ended .same (suc (length (s .links)) + j) (omega arith)
 
   -- where none is refused, the last one reported no change
-  pub settle-quiet : settleRun g s .met ≡ none → LastQuiet (settleRun g s .reports)
+  pub settle-unchanged : settleRun g s .met ≡ none → LastUnchanged (settleRun g s .reports)
   unfolding settleRun
-  settle-quiet = ended .quiet
+  settle-unchanged = ended .unchanged
 
   run-settled : settleRun g s .met ≡ none → settleRun g s .after .settled ≡ true
   unfolding settleRun
@@ -187,37 +186,37 @@ pub settle-few : (g : Sig) (s : Structure) → length (settleRun g s .reports) �
 unfolding settleRun
 settle-few g s = from-few (suc (length (s .links))) g s
 
-pub quiet-some : {cs : List Closed} → LastQuiet cs → 0 < length cs
-quiet-some (last e) = omega arith
-quiet-some (later h) = omega arith
+pub last-some : {cs : List Closed} → LastUnchanged cs → 0 < length cs
+last-some (last e) = omega arith
+last-some (later h) = omega arith
 
 -- The call.
 
 -- an accepted settle met no number, and leaves what its closes leave
-settle-accepted : (m : Machine) (t : Settled) → step settle m .answer ≡ settled t
+settle-accepted : (m : Machine) (t : Totals) → step settle m .answer ≡ summed t
     → (settleRun (m .sig) (m .structure) .met ≡ none) × (step settle m .after ≡ closesLeave m)
 settle-accepted m t =
-    settle-by m (λ (x : Step). x .answer ≡ settled t → (settleRun (m .sig) (m .structure) .met ≡ none) × (x .after ≡ closesLeave m))
+    settle-by m (λ (x : Step). x .answer ≡ summed t → (settleRun (m .sig) (m .structure) .met ≡ none) × (x .after ≡ closesLeave m))
     (λ e q. (e, refl)) (λ n e q. let z : _≡_ {A = ℕ} 0 1 = cc in absurd (omega arith))
 
 -- what an accepted settle of m that answers t says
-pub record SettleEnds (m : Machine) (t : Settled) : Type 0 where
+pub record SettleEnds (m : Machine) (t : Totals) : Type 0 where
   -- "at most the element count plus one closes"
   pub few : t .closes ≤ suc (length (m .structure .links))
   pub some : 0 < t .closes
   -- "until one reports no change"
-  pub quiet : LastQuiet (settleRun (m .sig) (m .structure) .reports)
+  pub unchanged : LastUnchanged (settleRun (m .sig) (m .structure) .reports)
   pub settled : step settle m .after .structure .settled ≡ true
 
-pub settle-ends : (m : Machine) → Valid (m .sig) (m .structure) → (t : Settled) → step settle m .answer ≡ settled t → SettleEnds m t
-unfolding totalsOf
+pub settle-ends : (m : Machine) → Valid (m .sig) (m .structure) → (t : Totals) → step settle m .answer ≡ summed t → SettleEnds m t
+unfolding sumsOf
 settle-ends m v t e =
     let a = settle-accepted m t e in
-    let many : t .closes ≡ length (settleRun (m .sig) (m .structure) .reports) = ap (λ (x : Settled). x .closes) (settle-totals m t e) in
-    let quiet = settle-quiet (m .sig) (m .structure) v (a .0) in
+    let many : t .closes ≡ length (settleRun (m .sig) (m .structure) .reports) = ap (λ (x : Totals). x .closes) (settle-totals m t e) in
+    let unchanged = settle-unchanged (m .sig) (m .structure) v (a .0) in
     record {
       few = omega (arith, many, settle-few (m .sig) (m .structure));
-      some = omega (arith, many, quiet-some quiet);
-      quiet = quiet;
+      some = omega (arith, many, last-some unchanged);
+      unchanged = unchanged;
       settled = subst (λ (z : Machine). z .structure .settled ≡ true) (sym (a .1)) (run-settled (m .sig) (m .structure) v (a .0));
     }

@@ -14,7 +14,7 @@ use Rattle.semantics.specs.Types.{anyMarked}
 use Rattle.semantics.specs.Close.{Closed}
 use Rattle.semantics.specs.Calls.{Call, push-type, push-pred, push-func, push-model, push-mor-app, push-el, equate-els, impose-type}
 use Rattle.semantics.specs.Calls.{apply-func, apply-pred, bind-var, bind-ambient, close, type-conflicts, settle, root, root-const}
-use Rattle.semantics.specs.Calls.{lookup-type, ambient-parents, Settled, Answer, number, says, done, closed, conflicting, settled, found, typed}
+use Rattle.semantics.specs.Calls.{lookup-type, ambient-parents, Totals, Answer, number, says, done, closed, conflicting, summed, found, typed}
 use Rattle.semantics.specs.Calls.{els, refuse, Machine, isAccepted, settleRun, Step, start, step}
 
 -- The book: "it reads no structure".
@@ -88,7 +88,7 @@ mergesOf (says b) = 0
 mergesOf done = 0
 mergesOf (closed c) = c .merges
 mergesOf (conflicting l) = 0
-mergesOf (settled t) = t .merges
+mergesOf (summed t) = t .merges
 mergesOf (found f) = 0
 mergesOf (typed t) = 0
 mergesOf (els l) = 0
@@ -164,7 +164,7 @@ pub record Classes (b : Book) (k : ℕ) : Type 1 where
 -- the call k, made on m, is a close or a settle that is accepted, and the closes that it ran answered cs
 pub data RanCloses (m : Machine) : Call → List Closed → Type 0 where
   closes : {c : Closed} → step close m .answer ≡ closed c → RanCloses m close (c ∷ [])
-  settles : {t : Settled} → step settle m .answer ≡ settled t → RanCloses m settle (settleRun (m .sig) (m .structure) .reports)
+  settles : {t : Totals} → step settle m .answer ≡ summed t → RanCloses m settle (settleRun (m .sig) (m .structure) .reports)
 
 -- what holds at the return of an accepted close or settle whose closes answered cs, of the book and the links that it leaves
 pub record Conserved (b : Book) (links : List ℕ) (cs : List Closed) : Type 1 where

@@ -7,7 +7,7 @@ use lib.ListN.{length, length-append}
 use lib.Seq.{take-all}
 use Rattle.semantics.specs.Close.{Closed}
 use Rattle.semantics.specs.Conflicts.{Conflict}
-use Rattle.semantics.specs.Calls.{Settled}
+use Rattle.semantics.specs.Calls.{Totals}
 use Rattle.semantics.specs.Sheet.{spaced, space, slash, newline, close-word, conflict-word, conflicts-word, settle-word, refused-word}
 use Rattle.semantics.specs.Sheet.{at-word, end-word, bit, closeLine, conflictLine, conflictLines, conflictsLine, settleLine, refusedLine, endLine}
 use Rattle.lines.specs.View.{maxLine, putOf, Added, conflictsEnd}
@@ -60,7 +60,7 @@ pub conflicts-parts : (n : ℕ) → conflicts-word ++ spaced (n ∷ []) ++ (newl
 unfolding conflictsEnd
 conflicts-parts n = refl
 
-pub settle-parts : (t : Settled) → settle-word ++ spaced (t .closes ∷ []) ++ spaced (t .merges ∷ []) ++ (newline ∷ []) ≡ settleLine t
+pub settle-parts : (t : Totals) → settle-word ++ spaced (t .closes ∷ []) ++ spaced (t .merges ∷ []) ++ (newline ∷ []) ≡ settleLine t
 unfolding settleLine
 settle-parts t = rw (spaced-more (t .closes) (t .merges ∷ [])) (simp append-assoc)
 

@@ -38,7 +38,7 @@ unfolding answers.firstOf answers.decided answers.outcome
     calls.isIdOrComp calls.isReserved calls.appliedEqual calls.applyAt calls.insertFuncAppOrEquate calls.applicationCauses calls.withApplied
     calls.predicationCauses calls.withPredApp calls.variableCauses calls.withVar calls.ambientCauses calls.withAmbient calls.ambientOf
     calls.haveAmbients calls.ambientEls calls.ambientParentsCauses calls.leading calls.start calls.equalityRule calls.impositionRule calls.applicationRule calls.closeRule
-    calls.reportedFirst calls.settleAfter calls.settleBy calls.settleFrom calls.settleRun calls.mergesIn calls.totalsOf calls.settleRule calls.rule
+    calls.reportedFirst calls.settleAfter calls.settleBy calls.settleFrom calls.settleRun calls.mergesIn calls.sumsOf calls.settleRule calls.rule
     calls.settledBy calls.leaves calls.acceptance calls.stepBy calls.step calls.afterCalls
     sheet.words sheet.recordOf sheet.recordAt sheet.allZero sheet.countFits sheet.listFits sheet.kindOf sheet.typeForm sheet.predForm
     sheet.funcForm sheet.modelForm sheet.morAppForm sheet.elForm sheet.equalityForm sheet.impositionForm sheet.funcAppForm sheet.predAppForm

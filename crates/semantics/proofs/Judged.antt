@@ -1,6 +1,6 @@
 -- Laws of `step`, proved once for every call: a refused call leaves everything as it was and gives the number of one of its causes; an accepted
 -- one leaves its effect.
-use mathlib.Core.Path.{_≡_, refl, ap}
+use mathlib.Core.Path.{_≡_, refl, ap, _∙_}
 use mathlib.Core.Bool.{Bool, true, false}
 use mathlib.Core.List.{List, [], _∷_, List·Memᴰ}
 use mathlib.Core.Option.{Option, none, some}
@@ -11,7 +11,7 @@ use borrow.Author.Tests.{ltb-true, ltb-false}
 use Rattle.ids.specs.Answers.{Answered, accepted, refused, firstOf, decided, Outcome, outcome, refusing, accepting}
 use Rattle.ids.specs.Ids.{tooLong, allBelow}
 use Rattle.ids.specs.Limits.{maxList}
-use Rattle.ids.proofs.Judging.{NoneApplies, numbers, SoFar, decided-by, refused-by, accepted-by}
+use Rattle.ids.proofs.Judging.{NoneApplies, numbers, SoFar, decided-refuses, decided-accepts, decided-by, refused-by, accepted-by}
 use Rattle.ids.proofs.Sorted.{no-test}
 use Rattle.signature.specs.Calls.{TypedM, concreteTypeAt, lookupTypeCauses, lookupType}
 use Rattle.semantics.specs.Valid.{Below, Listed}
@@ -89,6 +89,18 @@ met-first (some n) = refl
 
 pub close-first : (c : CloseRun) → firstOf (closeCauses c) ≡ c .core .met
 close-first c = met-first (c .core .met)
+
+-- a call that nothing else refuses
+module _ (k : Call) (m : Machine) (o : Option ℕ) (only : rule k m .causes ≡ metCauses o) where
+  met-decides : step k m ≡ decided o (refusal m) (acceptance (rule k m))
+  unfolding step stepBy
+  met-decides = ap (λ (x : Option ℕ). decided x (refusal m) (acceptance (rule k m))) (ap firstOf only ∙ met-first o)
+
+  pub met-refuses : (n : ℕ) → o ≡ some n → step k m ≡ refusal m n
+  met-refuses n e = met-decides ∙ decided-refuses (refusal m) (acceptance (rule k m)) e
+
+  pub met-accepts : o ≡ none → step k m ≡ acceptance (rule k m)
+  met-accepts e = met-decides ∙ decided-accepts (refusal m) (acceptance (rule k m)) e
 
 -- the close of a structure, with the flags that the call leaves, is that of a machine
 unfoldable pub closedAnswer : Machine → Structure → Answered Closed → Step

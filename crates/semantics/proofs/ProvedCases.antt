@@ -1,4 +1,4 @@
--- The proved cases (01, "Proved sheets"): P1 to P10, rows for each number 1 to 11 and for single sentences of 01 and 02, as one table, and one theorem: every row holds.
+-- The proved cases (01, "Proved sheets"): P1 to P10, rows for each number 1 to 11 and for single sentences of 01 and 02, as one table, and one theorem: every row holds (with those of RefusedSettle: `everyRowHolds` there).
 -- A row is data: what it runs, what that answers or prints, and claims about the machine that it leaves. That a refused call leaves the machine as
 -- it was is a theorem over every call (`refused-leaves`, Judged); the rows on refusals state it where it computes in few steps.
 use mathlib.Core.Path.{_≡_, refl}
@@ -14,7 +14,7 @@ use Rattle.unification.specs.Roots.{maxEls}
 use Rattle.signature.specs.Model.{Kind, plain, model, mor, maxTypes, maxPreds, maxFuncs, type-entry, pred-entry, func-entry, model-entry}
 use Rattle.signature.specs.Model.{mor-app-entry}
 use Rattle.semantics.specs.Structure.{Fact, fact, func-app, pred-app, variable, ambient, compareFuncApp, resultOf, maxPairs}
-use Rattle.semantics.specs.Structure.{maxImpositions, maxFuncApps, maxPredApps, maxFacts, maxVars, with-facts}
+use Rattle.semantics.specs.Structure.{maxImpositions, maxFuncApps, maxPredApps, maxFacts, maxVars, with-facts, with-impositions}
 use Rattle.semantics.specs.Types.{factsAt}
 use Rattle.semantics.specs.Conflicts.{Conflict, conflict}
 use Rattle.semantics.specs.Calls.{Call, push-type, push-func, push-pred, push-el, equate-els, impose-type, apply-func, apply-pred}
@@ -94,7 +94,7 @@ pub record Row : Type 0 where
 -- what a row states of a call's answer; what the other accepted calls answer it leaves out
 unfoldable pub stated : Answer → List Stated → List Stated
 stated (closed c) rest = closes (bit (c .changed)) (c .merges) (c .rounds) ∷ rest
-stated (steps.settled t) rest = settles (t .closes) (t .merges) ∷ rest
+stated (steps.summed t) rest = settles (t .closes) (t .merges) ∷ rest
 stated (conflicting cs) rest = conflicts cs ∷ rest
 stated (typed t) rest = types t ∷ rest
 stated (refuse n) rest = refuses n ∷ rest
@@ -248,6 +248,10 @@ setFacts fs m = steps.machine (m .sig) (with-facts fs (m .structure))
 abbrev pub holding : ℕ → Machine
 holding n = setFacts (factsBefore n []) (afterCalls (downFrom maxTypes (λ n. typ plain []) ++ downFrom maxTypes (λ n. plainEl)) start)
 
+-- no element, and type 0 imposed on element 0
+abbrev pub impositionOnNone : Machine
+impositionOnNone = steps.machine (afterCalls (typ plain [] ∷ []) start .sig) (with-impositions (fact 0 0 [] ∷ []) (start .structure))
+
 -- a sheet of one settle whose word i is 1
 abbrev pub settleWith : ℕ → Row
 settleWith i = record {
@@ -352,7 +356,7 @@ table =
       output = tells (settles 3 2 ∷ []);
       claims =
           link 1 is el 0 ∷ link 3 is el 2 ∷ key 0 (0 ∷ []) [] is result (some 2) ∷ key 0 (1 ∷ []) [] is result none
-          ∷ facts 4 is fact-list (fact 4 1 (0 ∷ []) ∷ []) ∷ settled is flag true ∷ answer settle is said (steps.settled (totals 1 0)) ∷ [];
+          ∷ facts 4 is fact-list (fact 4 1 (0 ∷ []) ∷ []) ∷ settled is flag true ∷ answer settle is said (steps.summed (totals 1 0)) ∷ [];
     }
     -- "at most the element count plus one closes": with one element as many
     ∷ record {
@@ -360,7 +364,7 @@ table =
       output = tells (settles 2 0 ∷ []);
       claims = facts 0 is fact-list (fact 0 0 [] ∷ []) ∷ [];
     }
-    -- with four elements one fewer: each close but the last merges one element with 0, whose facts differ in a marked parent then
+    -- four elements in four closes: each close but the last merges one element with 0, which brings 0 a fact whose parent the next close merges
     ∷ record {
       source = calls
           (types2
@@ -476,6 +480,13 @@ table =
       output = tells (refuses 4 ∷ []);
       claims = machine is whole (afterCalls (plainEl ∷ []) start) ∷ [];
     }
+    -- a structure that no call makes, with an imposition on an element that is not there: the bound ends the settle before it is settled
+    ∷ record {
+      source = callsFrom impositionOnNone (settle ∷ close ∷ settle ∷ []);
+      output = tells (settles 1 0 ∷ closes 0 0 1 ∷ settles 1 0 ∷ []);
+      claims = [];
+    }
+    ∷ record { source = callsFrom impositionOnNone (settle ∷ []); output = tells (settles 1 0 ∷ []); claims = settled is flag false ∷ [] }
     -- "Number 4 treats kind 15 as it does 14", and a settle of one close leaves what the close leaves
     ∷ record {
       source = calls (settle ∷ typ plain [] ∷ []);
@@ -616,7 +627,7 @@ table =
       claims = machine is whole (afterCalls (typ model [] ∷ typ model [] ∷ plainEl ∷ ambientEl 0 0 ∷ []) start) ∷ [];
     }
     -- number 11: "the close would at some moment hold 1,025 facts": 1,024 are held, and the next refuses the close; a fact that is
-    -- there is no other one; a settle that meets 11 in its second close is `settle-undone` (RefusedSettle)
+    -- there is no other one; the rows on a settle that meets 11 in its second close are in RefusedSettle
     ∷ record {
       source = callsFrom (holding (maxFacts - 1)) (impose 0 0 (1 ∷ []) ∷ close ∷ []);
       output = tells (closes 1 0 1 ∷ []);
@@ -647,6 +658,6 @@ agree : {A B : Type 0} (f g : A → B) (l : List A) → map f l ≡ map g l → 
 agree f g (x ∷ xs) e a (List·Memᴰ·head p) = cc
 agree f g (x ∷ xs) e a (List·Memᴰ·tail m) = agree f g xs (cc) a m
 
--- every row of the table holds
-pub everyRowHolds : (r : Row) → List·Memᴰ r table → Holds r
-everyRowHolds r m = agree shownBy statedBy table rowsShow r m
+-- every row that computes holds; `everyRowHolds` (RefusedSettle) is over all
+pub computedRowHolds : (r : Row) → List·Memᴰ r table → Holds r
+computedRowHolds r m = agree shownBy statedBy table rowsShow r m

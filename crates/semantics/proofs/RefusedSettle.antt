@@ -1,9 +1,11 @@
 -- A settle whose first close is accepted and whose second meets number 11 (02, M-100: "settle returns 11 and the structure before the settle").
 -- With 1,024 facts a close takes too many steps to compute. All but four of them stand at elements that no imposition names: what the closes
--- ask of these is proved once (`Others`), and the rest computes.
+-- ask of these is proved once (`Others`), and the rest computes. The machine is given, as in the other rows on 11; by calls the case is among the
+-- histories that `replay` runs.
 use mathlib.Core.Path.{_≡_, refl, sym, ap, subst, _∙_}
 use mathlib.Core.Bool.{Bool, true, false, _&&_}
-use mathlib.Core.List.{List, [], _∷_, _++_, map, append-nil, append-assoc}
+use mathlib.Core.List.{List, [], _∷_, _++_, map, append-nil, append-assoc, List·Memᴰ, List·Memᴰ·head, List·Memᴰ·tail, List·Memᴰ·append-cases}
+use mathlib.Core.Logic.{inl, inr}
 use mathlib.Core.Option.{none, some}
 use Prim.Native.Nat.{ℕ, zero, suc, _+_, _-_, _*_}
 use lib.ListN.{length, drop, replicate}
@@ -27,10 +29,10 @@ use Rattle.semantics.proofs.Orders.{fact-ordered}
 use Rattle.semantics.proofs.Cases.{and-first, and-second}
 use Rattle.semantics.proofs.Computes.{everything}
 use Rattle.semantics.proofs.Settling.{close-accepted, close-refused, settle-refuses}
-use Rattle.semantics.proofs.ProvedCases as cases
+use Rattle.semantics.proofs.ProvedCases as rows
 use Rattle.semantics.proofs.ProvedCases.{typ, plainEl, markedEl, types2, downFrom, setFacts, factsBefore, callsFrom, tells, closes, refuses}
 use Rattle.semantics.proofs.ProvedCases.{link, settled, machine, el, flag, whole, _is_, stated, answersOf, outputOf, machineOf, look, shownBy}
-use Rattle.semantics.proofs.ProvedCases.{statedBy, Holds}
+use Rattle.semantics.proofs.ProvedCases.{statedBy, Row, Holds, table, computedRowHolds}
 
 -- A sorted table whose entries a rewriting leaves as they are.
 
@@ -101,15 +103,15 @@ factsAt-append e (f ∷ k) l = go (eqb (f .el) e) (factsAt-append e k l)
 -- A structure with no application and no pair: the round of a close does nothing.
 
 abbrev given : List ℕ → List Bool → List Fact → List Fact → Bool → Structure
-given ls ms fs qs quiet = structure ls ms fs [] [] [] [] [] qs true quiet
+given ls ms fs qs is-settled = structure ls ms fs [] [] [] [] [] qs true is-settled
 
 abbrev ran : List ℕ → List Bool → List Fact → Core → CloseRun
 ran ls ms fs w = close-run (rounds-made (core ls ms fs [] 0 0 none) [] 1) w
 
-no-rounds : (g : Sig) (ls : List ℕ) (ms : List Bool) (fs qs : List Fact) (quiet : Bool)
-    → closeRun g (given ls ms fs qs quiet) ≡ ran ls ms fs (imposeAll qs (core ls ms fs [] 0 0 none))
+no-rounds : (g : Sig) (ls : List ℕ) (ms : List Bool) (fs qs : List Fact) (is-settled : Bool)
+    → closeRun g (given ls ms fs qs is-settled) ≡ ran ls ms fs (imposeAll qs (core ls ms fs [] 0 0 none))
 unfolding everything
-no-rounds g ls ms fs qs quiet = refl
+no-rounds g ls ms fs qs is-settled = refl
 
 -- The two closes. The first merges 1 with 0, the second 2 with 0.
 
@@ -302,7 +304,7 @@ base =
     ∷ downFrom (maxTypes - 3) (λ n. typ plain [])
     ++ (plainEl ∷ markedEl ∷ markedEl ∷ plainEl
     ∷ downFrom maxTypes (λ n. plainEl)
-    ++ (close ∷ cases.impose 0 1 (0 ∷ []) ∷ cases.impose 2 2 (1 ∷ []) ∷ cases.impose 3 1 (2 ∷ []) ∷ []))))
+    ++ (close ∷ rows.impose 0 1 (0 ∷ []) ∷ rows.impose 2 2 (1 ∷ []) ∷ rows.impose 3 1 (2 ∷ []) ∷ []))))
     start
 
 -- 1,020 facts at the elements from 4 on
@@ -353,15 +355,18 @@ settle-step =
     subst (λ (m : Machine). step settle m ≡ refusal m tooManyFacts) (sym crowded-is)
     (settle-refuses (steps.machine sig (before others)) tooManyFacts (ap (λ (r : SettleRun). r .met) (settle-meets others others-are sig)))
 
--- As rows of the table of proved cases.
+-- As rows.
 
-pub second-refused : Holds (record {
+pub second-refused : Row
+second-refused = record {
   source = callsFrom crowded (close ∷ close ∷ []);
   output = tells (closes 1 1 1 ∷ refuses 11 ∷ []);
   claims = link 1 is el 0 ∷ settled is flag false ∷ [];
-})
-unfolding shownBy statedBy outputOf machineOf answersOf stated afterCalls look bit links1
-second-refused =
+}
+
+second-holds : Holds second-refused
+unfolding shownBy statedBy outputOf machineOf answersOf stated afterCalls look bit links1 second-refused
+second-holds =
     ap (λ (x : Step). record {
       output = tells (stated (x .answer) (stated (step close (x .after) .answer) []));
       seen = look (step close (x .after) .after) (link 1) ∷ look (step close (x .after) .after) settled ∷ [];
@@ -371,6 +376,23 @@ second-refused =
       seen = look (x .after) (link 1) ∷ look (x .after) settled ∷ [];
     }) second-step
 
-pub settle-undone : Holds (record { source = callsFrom crowded (settle ∷ []); output = tells (refuses 11 ∷ []); claims = machine is whole crowded ∷ [] })
-unfolding shownBy statedBy outputOf machineOf answersOf stated afterCalls look
-settle-undone = ap (λ (x : Step). record { output = tells (stated (x .answer) []); seen = whole (x .after) ∷ [] }) settle-step
+pub settle-undone : Row
+settle-undone = record { source = callsFrom crowded (settle ∷ []); output = tells (refuses 11 ∷ []); claims = machine is whole crowded ∷ [] }
+
+undone-holds : Holds settle-undone
+unfolding shownBy statedBy outputOf machineOf answersOf stated afterCalls look settle-undone
+undone-holds = ap (λ (x : Step). record { output = tells (stated (x .answer) []); seen = whole (x .after) ∷ [] }) settle-step
+
+-- The table of proved cases: the rows that compute, and these.
+
+pub cases : List Row
+cases = table ++ (second-refused ∷ settle-undone ∷ [])
+
+-- every row of it holds
+pub everyRowHolds : (r : Row) → List·Memᴰ r cases → Holds r
+unfolding cases
+everyRowHolds r m = elim (List·Memᴰ·append-cases table m) [ inl c ↦ computedRowHolds r c | inr c ↦ go c ]
+  where
+    go : List·Memᴰ r (second-refused ∷ settle-undone ∷ []) → Holds r
+    go (List·Memᴰ·head e) = subst Holds (sym e) second-holds
+    go (List·Memᴰ·tail (List·Memᴰ·head e)) = subst Holds (sym e) undone-holds

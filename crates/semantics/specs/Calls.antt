@@ -226,11 +226,11 @@ pub data Call : Type 0 where
   ambient-parents : List ℕ → Call
 
 -- a settle's answer: "the closes run and the merges summed"
-pub record Settled : Type 0 where
+pub record Totals : Type 0 where
   pub closes : ℕ
   pub merges : ℕ
 
-abbrev pub totals : ℕ → ℕ → Settled
+abbrev pub totals : ℕ → ℕ → Totals
 totals closes merges = record { closes = closes; merges = merges }
 
 -- what a call answers, with the number of a refusal
@@ -240,7 +240,7 @@ pub data Answer : Type 0 where
   done : Answer
   closed : Closed → Answer
   conflicting : List Conflict → Answer
-  settled : Settled → Answer
+  summed : Totals → Answer
   found : FindM → Answer
   -- the type with its leading parents, or none
   typed : Option ConcreteType → Answer
@@ -254,7 +254,7 @@ isAccepted (says b) = true
 isAccepted done = true
 isAccepted (closed c) = true
 isAccepted (conflicting l) = true
-isAccepted (settled t) = true
+isAccepted (summed t) = true
 isAccepted (found f) = true
 isAccepted (typed t) = true
 isAccepted (els l) = true
@@ -280,14 +280,14 @@ start = machine signature.empty empty
 
 -- What an accepted call leaves behind.
 
--- "a structure counts as settled when its latest accepted close reported no change"; a settle's closes have said so themselves
+-- "a structure counts as settled when its latest accepted close reported no change"; the closes of a settle have set it
 unfoldable pub settledBy : Answer → Bool → Bool
 settledBy (closed c) was = not (c .changed)
 settledBy (number n) was = was
 settledBy (says b) was = was
 settledBy done was = was
 settledBy (conflicting cs) was = was
-settledBy (settled t) was = was
+settledBy (summed t) was = was
 settledBy (found f) was = was
 settledBy (typed t) was = was
 settledBy (els es) was = was
@@ -340,8 +340,8 @@ unfoldable pub mergesIn : List Closed → ℕ
 mergesIn [] = 0
 mergesIn (c ∷ cs) = c .merges + mergesIn cs
 
-unfoldable pub totalsOf : List Closed → Settled
-totalsOf cs = totals (length cs) (mergesIn cs)
+unfoldable pub sumsOf : List Closed → Totals
+sumsOf cs = totals (length cs) (mergesIn cs)
 
 -- how a call is carried out
 pub record Rule : Type 0 where
@@ -381,7 +381,7 @@ closeRule c m = states (closeCauses c) (closed (reportOf c)) (afterClose c (m .s
 
 -- "If a close meets number 11, settle returns 11 and the structure before the settle."
 unfoldable pub settleRule : SettleRun → Machine → Rule
-settleRule r m = states (metCauses (r .met)) (settled (totalsOf (r .reports))) (r .after) m
+settleRule r m = states (metCauses (r .met)) (summed (sumsOf (r .reports))) (r .after) m
 
 unfoldable pub rule : Call → Machine → Rule
 rule (push-type t) m = declares (typeCauses (m .structure .started) (m .sig) t) (length (m .sig .types)) (withType (m .sig) t) m

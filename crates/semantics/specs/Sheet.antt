@@ -12,8 +12,8 @@ use Rattle.semantics.specs.Structure.{fact, func-app, pred-app, variable
 use Rattle.semantics.specs.Close.{Closed}
 use Rattle.semantics.specs.Conflicts.{Conflict}
 use Rattle.semantics.specs.Calls.{Call, push-type, push-pred, push-func, push-model, push-mor-app, push-el, equate-els, impose-type}
-use Rattle.semantics.specs.Calls.{apply-func, apply-pred, bind-var, bind-ambient, close, type-conflicts, settle, Settled, Answer, number, says}
-use Rattle.semantics.specs.Calls.{done, closed, conflicting, settled, found, typed, els, refuse, Machine, Step, refusal, start, step}
+use Rattle.semantics.specs.Calls.{apply-func, apply-pred, bind-var, bind-ambient, close, type-conflicts, settle, Totals, Answer, number, says}
+use Rattle.semantics.specs.Calls.{done, closed, conflicting, summed, found, typed, els, refuse, Machine, Step, refusal, start, step}
 
 -- "A sheet is 1 to 1,024 records of 32 bytes"
 abbrev pub maxRecords : ℕ
@@ -336,7 +336,7 @@ unfoldable pub conflictsLine : List Conflict → List ℕ
 conflictsLine cs = conflictLines cs ++ (conflicts-word ++ (spaced (length cs ∷ []) ++ (newline ∷ [])))
 
 -- "It prints `settle K M`, the closes run and the merges summed."
-unfoldable pub settleLine : Settled → List ℕ
+unfoldable pub settleLine : Totals → List ℕ
 settleLine t = settle-word ++ (spaced (t .closes ∷ t .merges ∷ []) ++ (newline ∷ []))
 
 -- "A refusal prints `refused N at I` (record index, 0 for number 1)"
@@ -368,7 +368,7 @@ printAnswer (says b) i m rest = rest
 printAnswer done i m rest = rest
 printAnswer (closed c) i m rest = prints (closeLine c) rest
 printAnswer (conflicting cs) i m rest = prints (conflictsLine cs) rest
-printAnswer (settled t) i m rest = prints (settleLine t) rest
+printAnswer (summed t) i m rest = prints (settleLine t) rest
 printAnswer (found f) i m rest = rest
 printAnswer (typed t) i m rest = rest
 printAnswer (els es) i m rest = rest

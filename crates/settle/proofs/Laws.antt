@@ -13,11 +13,11 @@ use Rattle.signature.specs.Model.{Sig}
 use Rattle.semantics.specs.Structure.{Structure}
 use Rattle.semantics.specs.Close.{Closed, closeRun, closeBy, reportOf, afterClose, close, fuel}
 use Rattle.semantics.specs.Calls as calls
-use Rattle.semantics.specs.Calls.{Settled, totals, settled, closed, machine, answers, leaves, SettleRun, settle-run, reportedFirst, settleAfter}
-use Rattle.semantics.specs.Calls.{settleBy, settleFrom, settleRun, mergesIn, totalsOf, rule, settleRule, acceptance, refusal, stepBy, step}
+use Rattle.semantics.specs.Calls.{Totals, totals, summed, closed, machine, answers, leaves, SettleRun, settle-run, reportedFirst, settleAfter}
+use Rattle.semantics.specs.Calls.{settleBy, settleFrom, settleRun, mergesIn, sumsOf, rule, settleRule, acceptance, refusal, stepBy, step}
 use Rattle.semantics.proofs.Judged.{met-first, close-first}
 use Rattle.merging.specs.View.{metOf}
-use Rattle.structure.specs.View.{structureOf, settledOf}
+use Rattle.structure.specs.View.{structureOf, totalsOf}
 use Rattle.close.specs.View.{oneClose}
 use Rattle.settle.specs.declared.SettleRun as code
 use Rattle.settle.specs.View.{SettleRunIs}
@@ -35,11 +35,11 @@ unfolding mergesIn
 merges-last [] c = omega arith
 merges-last (d ∷ ds) c = omega (arith, merges-last ds c)
 
-totals-last : (cs : List Closed) (c : Closed) {t : Settled} → t ≡ totalsOf cs → totals (t .closes + 1) (t .merges + c .merges) ≡ totalsOf (cs ++ (c ∷ []))
-unfolding totalsOf
+totals-last : (cs : List Closed) (c : Closed) {t : Totals} → t ≡ sumsOf cs → totals (t .closes + 1) (t .merges + c .merges) ≡ sumsOf (cs ++ (c ∷ []))
+unfolding sumsOf
 totals-last cs c e =
     let closes : length cs + 1 ≡ length (cs ++ (c ∷ [])) = omega (arith, length-append cs (c ∷ [])) in
-    ap (λ (x : Settled). totals (x .closes + 1) (x .merges + c .merges)) e
+    ap (λ (x : Totals). totals (x .closes + 1) (x .merges + c .merges)) e
     ∙ (λ i. totals (closes i) (sym (merges-last cs c) i))
 
 -- one close more can be counted
@@ -49,16 +49,16 @@ sums-fit l e p q = (omega arith, omega arith)
 
 module _ (g : Sig) where
   -- some closes answered `reports` and left s; with those to come they are the whole settle, which runs at most so many
-  pub record Going (whole : SettleRun) (most : ℕ) (s : Structure) (again : Bool) (t : Settled) (i : ℕ) : Type 0 where
+  pub record Going (whole : SettleRun) (most : ℕ) (s : Structure) (again : Bool) (t : Totals) (i : ℕ) : Type 0 where
     pub reports : List Closed
-    pub totals-are : t ≡ totalsOf reports
+    pub totals-are : t ≡ sumsOf reports
     pub closes-are : t .closes ≡ i
     pub few : i ≤ most
     pub more : again ≡ true → (k : ℕ) → k + i ≡ most → reported reports (settleFrom k g s) ≡ whole
     pub stops : again ≡ false → settle-run reports none s ≡ whole
 
   pub begins : (s : Structure) → Going (settleRun g s) (suc (length (s .links))) s true (totals 0 0) 0
-  unfolding settleRun totalsOf mergesIn
+  unfolding settleRun sumsOf mergesIn
   begins s = record {
     reports = [];
     totals-are = refl;
@@ -68,7 +68,7 @@ module _ (g : Sig) where
     stops = λ e. let z : _≡_ {A = ℕ} 0 1 = cc e in absurd (omega arith);
   }
 
-  module _ {whole : SettleRun} {most : ℕ} {s : Structure} {again : Bool} {t : Settled} {i : ℕ} (so-far : Going whole most s again t i) where
+  module _ {whole : SettleRun} {most : ℕ} {s : Structure} {again : Bool} {t : Totals} {i : ℕ} (so-far : Going whole most s again t i) where
     -- none is to come
     pub ends : most ≤ i → settle-run (so-far .reports) none s ≡ whole
     unfolding settleFrom
@@ -122,11 +122,11 @@ module _ (g : Sig) where
             ∙ next k q
 
         -- it is accepted
-        pub takes : {u : Settled} {b : Bool} → u ≡ totals (t .closes + 1) (t .merges + c .merges) → b ≡ c .changed → Going whole most v b u (i + 1)
+        pub takes : {u : Totals} {b : Bool} → u ≡ totals (t .closes + 1) (t .merges + c .merges) → b ≡ c .changed → Going whole most v b u (i + 1)
         takes counted changed = record {
           reports = now;
           totals-are = counted ∙ totals-last (so-far .reports) c (so-far .totals-are);
-          closes-are = ap (λ (x : Settled). x .closes) counted ∙ ap (λ (n : ℕ). n + 1) (so-far .closes-are);
+          closes-are = ap (λ (x : Totals). x .closes) counted ∙ ap (λ (n : ℕ). n + 1) (so-far .closes-are);
           few = omega arith;
           more = λ e k q. on k (sym changed ∙ e) (omega arith);
           stops = λ e. alone now none v ∙ on (most - suc i) (sym changed ∙ e) (omega arith);
@@ -134,10 +134,10 @@ module _ (g : Sig) where
 
 -- what the code's run is
 pub run-is : (g : Sig) (s : Structure) (r : code.SettleRun) {cs : List Closed} {o : Option ℕ} → settle-run cs o (structureOf (r .structure)) ≡ settleRun g s
-    → metOf (r .met) ≡ o → settledOf (r .totals) ≡ totalsOf cs → SettleRunIs g s r
+    → metOf (r .met) ≡ o → totalsOf (r .totals) ≡ sumsOf cs → SettleRunIs g s r
 run-is g s r e met counted = record {
   met = met ∙ ap (λ (x : SettleRun). x .met) e;
-  totals = counted ∙ ap (λ (x : SettleRun). totalsOf (x .reports)) e;
+  totals = counted ∙ ap (λ (x : SettleRun). sumsOf (x .reports)) e;
   after = ap (λ (x : SettleRun). x .after) e;
 }
 
@@ -146,19 +146,18 @@ module _ (g : Sig) (s : Structure) where
   abbrev run : SettleRun
   run = settleRun g s
 
-  settles : decided (run .met) (refusal (machine g s)) (acceptance (settleRule run (machine g s))) ≡ step calls.settle (machine g s)
-  unfolding step stepBy rule settleRule
-  settles = λ i. decided (sym (met-first (run .met)) i) (refusal (machine g s)) (acceptance (settleRule run (machine g s)))
+  only-met : rule calls.settle (machine g s) .causes ≡ metCauses (run .met)
+  unfolding rule settleRule
+  only-met = refl
 
   -- a close is refused
   pub refuses : {n : ℕ} → run .met ≡ some n → refusal (machine g s) n ≡ step calls.settle (machine g s)
-  refuses e = sym (decided-refuses (refusal (machine g s)) (acceptance (settleRule run (machine g s))) e) ∙ settles
+  refuses e = sym (met-refuses calls.settle (machine g s) (run .met) only-met _ e)
 
   -- none is
-  pub accepts : run .met ≡ none → {t : Settled} {v : Structure} → t ≡ totalsOf (run .reports) → v ≡ run .after
-      → answers (settled t) (machine g (leaves true (settled t) v)) ≡ step calls.settle (machine g s)
-  unfolding acceptance settleRule
+  pub accepts : run .met ≡ none → {t : Totals} {v : Structure} → t ≡ sumsOf (run .reports) → v ≡ run .after
+      → answers (summed t) (machine g (leaves true (summed t) v)) ≡ step calls.settle (machine g s)
+  unfolding rule acceptance settleRule
   accepts e p q =
-      (λ i. answers (settled (p i)) (machine g (leaves true (settled (p i)) (q i))))
-      ∙ sym (decided-accepts (refusal (machine g s)) (acceptance (settleRule run (machine g s))) e)
-      ∙ settles
+      (λ i. answers (summed (p i)) (machine g (leaves true (summed (p i)) (q i))))
+      ∙ sym (met-accepts calls.settle (machine g s) (run .met) only-met e)

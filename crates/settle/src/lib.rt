@@ -2,31 +2,31 @@
 use signature::Signature;
 use structure::Answer;
 use structure::Closed;
-use structure::Settled;
 use structure::Stepped;
 use structure::Structure;
+use structure::Totals;
 ghost use mathlib.Core.Path.{_≡_};
 ghost use Prim.Native.Nat.{_+_, _^_, _<_};
 ghost use Rattle.signature.specs.Model.{sigOf};
 ghost use Rattle.semantics.specs.Calls as calls;
 ghost use Rattle.semantics.specs.Calls.{totals, machine, step};
-ghost use Rattle.structure.specs.View.{structureOf, settledOf, stepOf};
+ghost use Rattle.structure.specs.View.{structureOf, totalsOf, stepOf};
 ghost use Rattle.settle.specs.View.{SettleRunIs};
 
 // What a settle comes to: the number that refused one of its closes, 0 for none, what they reported together, and what
 // they left.
 struct SettleRun {
     met: u16,
-    totals: Settled,
+    totals: Totals,
     structure: Structure,
 }
 
 // One close more is counted.
-fn counted(before: Settled, report: Closed) -> Settled
+fn counted(before: Totals, report: Closed) -> Totals
     requires { ⌜ (before .closes + 1 < 2 ^ 64) × (before .merges + report .merges < 2 ^ 64) ⌝ }
-    ensures { λ r. ⌜ settledOf r ≡ totals (before .closes + 1) (before .merges + report .merges) ⌝ }
+    ensures { λ r. ⌜ totalsOf r ≡ totals (before .closes + 1) (before .merges + report .merges) ⌝ }
 {
-    Settled {
+    Totals {
         closes: before.closes + 1,
         merges: before.merges + report.merges,
     }
@@ -47,7 +47,7 @@ fn settle_run(structure: Structure, signature: Signature) -> SettleRun
     let most = u.size() + 1;
     let mut now = structure;
     let mut again = true;
-    let mut totals = Settled {
+    let mut totals = Totals {
         closes: 0,
         merges: 0,
     };
@@ -90,5 +90,5 @@ pub fn settle(structure: Structure, signature: Signature) -> Stepped
     if number != 0 {
         return structure.refuse(number);
     }
-    reached.accept(Answer::Settled(totals))
+    reached.accept(Answer::Summed(totals))
 }

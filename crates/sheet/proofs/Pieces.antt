@@ -14,7 +14,7 @@ use Rattle.ids.specs.Answers.{badSheet, badChain}
 use Rattle.ids.proofs.Tests.{chosen}
 use Rattle.semantics.specs.Conflicts.{Conflict, typeConflicts}
 use Rattle.semantics.specs.Calls as calls
-use Rattle.semantics.specs.Calls.{Call, Answer, number, says, done, closed, conflicting, settled, found, typed, els, refuse, Machine, Step}
+use Rattle.semantics.specs.Calls.{Call, Answer, number, says, done, closed, conflicting, summed, found, typed, els, refuse, Machine, Step}
 use Rattle.semantics.specs.Calls.{rule, acceptance, step}
 use Rattle.semantics.specs.Sheet.{recordBytes, maxSheet, Record, recordAt, callOf, carryOut, Ran, prints, stops, chainBroken, visit}
 use Rattle.semantics.specs.Sheet.{carried, printAnswer, runRecords, badLength, runSheet, conflictLine, conflictLines}
@@ -148,7 +148,7 @@ module _ (bytes : List ℕ) where
     answer-on i (closed c) = line-on _
     answer-on i (conflicting cs) =
         record { rest = ap (λ (t : List ℕ). prints t (following bytes n next k m)) (conflicts-printed cs); one = refl }
-    answer-on i (settled t) = line-on _
+    answer-on i (summed t) = line-on _
     answer-on i (found f) = line-on []
     answer-on i (typed t) = line-on []
     answer-on i (els es) = line-on []

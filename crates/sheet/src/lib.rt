@@ -190,7 +190,7 @@ fn after_record(carried: Carried, count: u16, index: u16, next: u16, done: u16) 
             };
             Piece { line, progress }
         }
-        Answer::Settled(t) => {
+        Answer::Summed(t) => {
             let line = lines::settle_line(t.closes, t.merges);
             let progress = follow(machine, count, next, done);
             Piece { line, progress }

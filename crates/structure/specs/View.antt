@@ -24,7 +24,7 @@ use Rattle.structure.specs.declared.Structure.{Structure}
 use Rattle.structure.specs.declared.Answer.{Answer}
 use Rattle.structure.specs.declared.Answer.the-variants as variants
 use Rattle.structure.specs.declared.Closed.{Closed}
-use Rattle.structure.specs.declared.Settled.{Settled}
+use Rattle.structure.specs.declared.Totals.{Totals}
 use Rattle.structure.specs.declared.Stepped.{Stepped}
 use Rattle.structure.specs.declared.Machine.{Machine}
 use Rattle.structure.specs.declared.Looked.{Looked}
@@ -58,8 +58,8 @@ machineOf m = machine (sigOf (m .signature)) (structureOf (m .structure))
 abbrev pub closedOf : Closed → closing.Closed
 closedOf c = report (c .changed) (c .merges) (c .rounds)
 
-abbrev pub settledOf : Settled → calls.Settled
-settledOf t = totals (t .closes) (t .merges)
+abbrev pub totalsOf : Totals → calls.Totals
+totalsOf t = totals (t .closes) (t .merges)
 
 -- with the conflicts that stand beside it
 abbrev pub answerOf : List Conflict → Answer → calls.Answer
@@ -68,7 +68,7 @@ answerOf cs (variants.Says b) = calls.says b
 answerOf cs variants.Done = calls.done
 answerOf cs (variants.Closed c) = calls.closed (closedOf c)
 answerOf cs variants.Conflicting = calls.conflicting cs
-answerOf cs (variants.Settled t) = calls.settled (settledOf t)
+answerOf cs (variants.Summed t) = calls.summed (totalsOf t)
 answerOf cs (variants.Refused n) = calls.refuse n
 
 -- what a call on the structure makes of a machine whose signature is g
@@ -104,7 +104,7 @@ elsIn (calls.says b) = []
 elsIn calls.done = []
 elsIn (calls.closed c) = []
 elsIn (calls.conflicting cs) = []
-elsIn (calls.settled t) = []
+elsIn (calls.summed t) = []
 elsIn (calls.found f) = []
 elsIn (calls.typed t) = parentsIn t
 elsIn (calls.els es) = es

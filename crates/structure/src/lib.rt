@@ -63,7 +63,7 @@ pub enum Answer {
     Done,
     Closed(Closed),
     Conflicting,
-    Settled(Settled),
+    Summed(Totals),
     Refused(u16),
 }
 
@@ -75,7 +75,7 @@ pub struct Closed {
 }
 
 // What a settle reports: the closes run and the merges summed.
-pub struct Settled {
+pub struct Totals {
     pub closes: u64,
     pub merges: u64,
 }

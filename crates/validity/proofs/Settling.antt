@@ -7,8 +7,8 @@ use Prim.Native.Nat.{ℕ, _+_}
 use native.Mathlib.Omega.{arith}
 use lib.ListN.{length}
 use Rattle.semantics.specs.Close.{Closed, closeRun, reportOf, afterClose}
-use Rattle.semantics.specs.Calls.{close, settle, Settled, closed, settled, refuse, isAccepted, Machine, Step, refusal, leaves, closeRule, rule, acceptance, step}
-use Rattle.semantics.specs.Calls.{settleRun, mergesIn, totalsOf}
+use Rattle.semantics.specs.Calls.{close, settle, Totals, closed, summed, refuse, isAccepted, Machine, Step, refusal, leaves, closeRule, rule, acceptance, step}
+use Rattle.semantics.specs.Calls.{settleRun, mergesIn, sumsOf}
 use Rattle.semantics.proofs.Counts.{roots}
 use Rattle.semantics.proofs.Judged.{accepted-leaves}
 use Rattle.semantics.proofs.Settling.{Closes, closesLeave, run-closes, run-refused, settle-by, settle-closes, settle-totals}
@@ -18,8 +18,8 @@ use Rattle.validity.proofs.Calls.{ValidMachine, step-valid}
 
 -- how many elements and how many roots a machine has
 
-abbrev pub elsOf : Machine → ℕ
-elsOf m = length (m .structure .links)
+abbrev pub elementCount : Machine → ℕ
+elementCount m = length (m .structure .links)
 
 abbrev pub rootsOf : Machine → ℕ
 rootsOf m = roots (m .structure .links)
@@ -27,7 +27,7 @@ rootsOf m = roots (m .structure .links)
 -- what closes that are accepted one after the other lead to
 pub record Reaches (m : Machine) (cs : List Closed) (z : Machine) : Type 0 where
   pub valid : ValidMachine z
-  pub els : elsOf z ≡ elsOf m
+  pub els : elementCount z ≡ elementCount m
   pub sum : rootsOf z + mergesIn cs ≡ rootsOf m
 
 module _ (m : Machine) (v : ValidMachine m) (c : Closed) (q : step close m .answer ≡ closed c) where
@@ -44,7 +44,7 @@ module _ (m : Machine) (v : ValidMachine m) (c : Closed) (q : step close m .answ
   unfolding rule closeRule acceptance
   merges = let e = sym q ∙ ap (λ (s : Step). s .answer) left in cc
 
-  pub close-step-els : elsOf (step close m .after) ≡ elsOf m
+  pub close-step-els : elementCount (step close m .after) ≡ elementCount m
   close-step-els = ap length links ∙ after-els (m .sig) (m .structure) v
 
   pub close-step-roots : rootsOf (step close m .after) + c .merges ≡ rootsOf m
@@ -70,15 +70,15 @@ module _ (m : Machine) (v : ValidMachine m) where
   reached = closes-reach reports m (closesLeave m) v (run-closes m)
 
   -- a settle adds no element
-  pub settle-els : elsOf (step settle m .after) ≡ elsOf m
-  settle-els = settle-by m (λ s. elsOf (s .after) ≡ elsOf m) (λ e. reached .els) (λ n e. refl)
+  pub settle-els : elementCount (step settle m .after) ≡ elementCount m
+  settle-els = settle-by m (λ s. elementCount (s .after) ≡ elementCount m) (λ e. reached .els) (λ n e. refl)
 
   -- an accepted one makes one root fewer for each merge
-  pub settle-roots : (t : Settled) → step settle m .answer ≡ settled t → rootsOf (step settle m .after) + t .merges ≡ rootsOf m
-  unfolding totalsOf
+  pub settle-roots : (t : Totals) → step settle m .answer ≡ summed t → rootsOf (step settle m .after) + t .merges ≡ rootsOf m
+  unfolding sumsOf
   settle-roots t q =
       let r = closes-reach reports m (step settle m .after) v (settle-closes m t q) in
-      omega (arith, r .sum, ap (λ (x : Settled). x .merges) (settle-totals m t q))
+      omega (arith, r .sum, ap (λ (x : Totals). x .merges) (settle-totals m t q))
 
   -- the number that refuses a settle refuses a close
   listed : (n : ℕ) → step close (closesLeave m) .answer ≡ refuse n → List·Memᴰ n closeNumbers
@@ -94,7 +94,7 @@ module _ (m : Machine) (v : ValidMachine m) where
   ]
 
   -- a settle is refused with a number that refuses a close, and everything as it was, or accepted
-  pub settle-step-answers : ((n : ℕ) × List·Memᴰ n closeNumbers × (step settle m ≡ refusal m n)) ⊎ ((t : Settled) × (step settle m .answer ≡ settled t))
+  pub settle-step-answers : ((n : ℕ) × List·Memᴰ n closeNumbers × (step settle m ≡ refusal m n)) ⊎ ((t : Totals) × (step settle m .answer ≡ summed t))
   settle-step-answers =
-      settle-by m (λ s. ((n : ℕ) × List·Memᴰ n closeNumbers × (s ≡ refusal m n)) ⊎ ((t : Settled) × (s .answer ≡ settled t)))
-      (λ e. inr (totalsOf reports, refl)) (λ n e. inl (n, listed n (run-refused m n e), refl))
+      settle-by m (λ s. ((n : ℕ) × List·Memᴰ n closeNumbers × (s ≡ refusal m n)) ⊎ ((t : Totals) × (s .answer ≡ summed t)))
+      (λ e. inr (sumsOf reports, refl)) (λ n e. inl (n, listed n (run-refused m n e), refl))

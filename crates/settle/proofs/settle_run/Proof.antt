@@ -7,8 +7,8 @@ use lib.ListN.{length}
 use borrow.Author.Tests.{not-true, not-false}
 use Rattle.unification.specs.Roots.{maxEls}
 use Rattle.signature.specs.Model.{sigOf}
-use Rattle.semantics.specs.Calls.{Settled, closed, leaves, settleRun, Step}
-use Rattle.structure.specs.View.{structureOf, closedOf, settledOf}
+use Rattle.semantics.specs.Calls.{Totals, closed, leaves, settleRun, Step}
+use Rattle.structure.specs.View.{structureOf, closedOf, totalsOf}
 use Rattle.close.specs.View.{oneClose}
 use Rattle.close.proofs.Laws.{met-none, met-some}
 use Rattle.settle.proofs.Laws.{Going, begins, takes, refused-by, ends, run-is, sums-fit}
@@ -18,7 +18,7 @@ use Rattle.settle.proofs.settle_run.Tie as tie
 
 abbrev Inv-loop : tie.InvT-loop
 Inv-loop signature most now₀ again₀ totals₀ i₀ now again totals i =
-    Going (sigOf signature) (settleRun (sigOf signature) (structureOf now₀)) (suc (length (structureOf now₀ .links))) (structureOf now) again (settledOf totals) i
+    Going (sigOf signature) (settleRun (sigOf signature) (structureOf now₀)) (suc (length (structureOf now₀ .links))) (structureOf now) again (totalsOf totals) i
     × (totals .merges ≤ i * oneClose)
 
 abbrev μ-loop : tie.MeasureT-loop
@@ -88,7 +88,7 @@ loop-again c =
     let left = ap (λ (s : Step). s .after .structure) (accepting .accept .ensures (sigOf (a .signature))) ∙ ap (leaves true (closed (closedOf (ran .close-run .result .report)))) (is .after) in (
       takes _ (inv .0) (not-false _ (else1 .if1 .left)) (omega (arith, test .loop-test .taken, sized .size .ensures .is))
           (sym (is .met) ∙ met-none (else2 .if2 .left)) (is .report) left counted (going .goes-on .ensures),
-      omega (arith, inv .1, is .merges-most, ap (λ (t : Settled). t .merges) counted),
+      omega (arith, inv .1, is .merges-most, ap (λ (t : Totals). t .merges) counted),
     )
 
 returns-2 : tie.Need-returns-2 Inv-loop μ-loop

@@ -30,7 +30,7 @@ other (variants.Says b) k = refl
 other variants.Done k = refl
 other (variants.Closed c) k = absurd (miss (0 ∷ 1 ∷ 2 ∷ 4 ∷ 5 ∷ 6 ∷ []) 3 tt k)
 other variants.Conflicting k = refl
-other (variants.Settled t) k = refl
+other (variants.Summed t) k = refl
 other (variants.Refused n) k = refl
 
 returns-2 : tie.Need-returns-2
