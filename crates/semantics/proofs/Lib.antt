@@ -12,3 +12,5 @@ pub mod Stages
 pub mod Pairs
 pub mod Computes
 pub mod ProvedCases
+pub mod RefusedSettle
+pub mod WrongSettles

@@ -337,7 +337,7 @@ table =
       output = tells (closes 1 1 2 ∷ closes 1 1 3 ∷ closes 0 0 1 ∷ []);
       claims = settled is flag true ∷ [];
     }
-    -- settle: "repeats close until one reports no change"; with no element that is the first
+    -- P1 as a settle: "repeats close until one reports no change", and with no element that is the first
     ∷ record { source = calls (settle ∷ []); output = tells (settles 1 0 ∷ []); claims = settled is flag true ∷ [] }
     ∷ record { source = sheet (entry 0 15 0 0 [] []); output = prints (lines ("settle 1 0" ∷ "end 1" ∷ [])); claims = [] }
     -- P4 as settles
@@ -616,7 +616,7 @@ table =
       claims = machine is whole (afterCalls (typ model [] ∷ typ model [] ∷ plainEl ∷ ambientEl 0 0 ∷ []) start) ∷ [];
     }
     -- number 11: "the close would at some moment hold 1,025 facts": 1,024 are held, and the next refuses the close; a fact that is
-    -- there is no other one
+    -- there is no other one; a settle that meets 11 in its second close is `settle-undone` (RefusedSettle)
     ∷ record {
       source = callsFrom (holding (maxFacts - 1)) (impose 0 0 (1 ∷ []) ∷ close ∷ []);
       output = tells (closes 1 0 1 ∷ []);

@@ -42,9 +42,20 @@ close-starts m c e = ap (λ (s : Step). s .after .structure .started) (accepted-
 
 -- A settle's run.
 
+-- every close but the last reported a change
+abbrev pub UntilQuiet : List Closed → Type 0
+UntilQuiet [] = Unit {0}
+UntilQuiet (c ∷ []) = Unit {0}
+UntilQuiet (c ∷ d ∷ cs) = (c .changed ≡ true) × UntilQuiet (d ∷ cs)
+
+until-more : (c : Closed) (cs : List Closed) → c .changed ≡ true → UntilQuiet cs → UntilQuiet (c ∷ cs)
+until-more c [] e u = tt
+until-more c (d ∷ cs) e u = (e, u)
+
 -- what a run that begins at m comes to
 record Ran (m : Machine) (r : SettleRun) : Type 0 where
   closes : Closes m (r .reports) (machine (m .sig) (r .after))
+  until : UntilQuiet (r .reports)
   -- the number that it met refuses the next close
   refused : (n : ℕ) → r .met ≡ some n → step close (machine (m .sig) (r .after)) .answer ≡ refuse n
 
@@ -56,24 +67,24 @@ not-settled e = let z : _≡_ {A = ℕ} 0 1 = cc in absurd (omega arith)
 
 -- no close ran
 ran-none : (m : Machine) → Ran m (settle-run [] none (m .structure))
-ran-none m = record { closes = refl; refused = λ n e. no-number e }
+ran-none m = record { closes = refl; until = tt; refused = λ n e. no-number e }
 
 module _ (m : Machine) where
   -- the close of the structure
   abbrev o : Outcome Closed Structure
   o = closing.close (m .sig) (m .structure)
 
-  refused-step : (n : ℕ) → o .answer ≡ refused n → step close m ≡ refusal m n
+  pub close-refused : (n : ℕ) → o .answer ≡ refused n → step close m ≡ refusal m n
   unfolding closedAnswer
-  refused-step n e = sym (close-steps m) ∙ ap (closedAnswer m (o .after)) e
+  close-refused n e = sym (close-steps m) ∙ ap (closedAnswer m (o .after)) e
 
   -- what an accepted close leaves
   abbrev left : Closed → Machine
   left c = machine (m .sig) (leaves true (closed c) (o .after))
 
-  accepted-step : (c : Closed) → o .answer ≡ accepted c → step close m ≡ answers (closed c) (left c)
+  pub close-accepted : (c : Closed) → o .answer ≡ accepted c → step close m ≡ answers (closed c) (left c)
   unfolding closedAnswer
-  accepted-step c e = sym (close-steps m) ∙ ap (closedAnswer m (o .after)) e
+  close-accepted c e = sym (close-steps m) ∙ ap (closedAnswer m (o .after)) e
 
   refused-left : (n : ℕ) → o .answer ≡ refused n → o .after ≡ m .structure
   unfolding closing.close closeBy
@@ -84,16 +95,18 @@ module _ (m : Machine) where
   ran-refused : (n : ℕ) → o .answer ≡ refused n → Ran m (settle-run [] (some n) (o .after))
   ran-refused n e = subst (λ (s : Structure). Ran m (settle-run [] (some n) s)) (sym (refused-left n e)) (record {
     closes = refl;
-    refused = λ k q. (let same : n ≡ k = cc in ap (λ (s : Step). s .answer) (refused-step n e) ∙ ap refuse same);
+    until = tt;
+    refused = λ k q. (let same : n ≡ k = cc in ap (λ (s : Step). s .answer) (close-refused n e) ∙ ap refuse same);
   })
 
-  ran-first : (c : Closed) (r : SettleRun) → o .answer ≡ accepted c → Ran (left c) r → Ran m (reportedFirst c r)
+  ran-first : (c : Closed) (r : SettleRun) → o .answer ≡ accepted c → Ran (left c) r → UntilQuiet (c ∷ r .reports) → Ran m (reportedFirst c r)
   unfolding reportedFirst
-  ran-first c r e h = record {
+  ran-first c r e h u = record {
     closes = (
-      ap (λ (s : Step). s .answer) (accepted-step c e),
-      subst (λ (x : Machine). Closes x (r .reports) (machine (m .sig) (r .after))) (sym (ap (λ (s : Step). s .after) (accepted-step c e))) (h .closes),
+      ap (λ (s : Step). s .answer) (close-accepted c e),
+      subst (λ (x : Machine). Closes x (r .reports) (machine (m .sig) (r .after))) (sym (ap (λ (s : Step). s .after) (close-accepted c e))) (h .closes),
     );
+    until = u;
     refused = h .refused;
   }
 
@@ -101,14 +114,16 @@ module _ (m : Machine) where
   unfolding settleBy settleAfter
   ran-by k rest = go (o .answer) refl
     where
-      after : (c : Closed) (b : Bool)
-          → Ran (left c) (elim b [ true ↦ settleFrom k (m .sig) (left c .structure) | false ↦ settle-run [] none (left c .structure) ])
-      after c true = rest (left c)
-      after c false = ran-none (left c)
+      after : (c : Closed) → o .answer ≡ accepted c → (b : Bool) → c .changed ≡ b
+          → Ran m (reportedFirst c (elim b [ true ↦ settleFrom k (m .sig) (left c .structure) | false ↦ settle-run [] none (left c .structure) ]))
+      after c e true q =
+          let r = settleFrom k (m .sig) (left c .structure) in
+          ran-first c r e (rest (left c)) (until-more c (r .reports) q (rest (left c) .until))
+      after c e false q = ran-first c _ e (ran-none (left c)) tt
 
       go : (a : Answered Closed) → o .answer ≡ a → Ran m (settleAfter a (o .after) (settleFrom k (m .sig)))
       go (refused n) e = ran-refused n e
-      go (accepted c) e = ran-first c _ e (after c (c .changed))
+      go (accepted c) e = after c e (c .changed) refl
 
 settle-ran : (k : ℕ) (m : Machine) → Ran m (settleFrom k (m .sig) (m .structure))
 unfolding settleFrom
@@ -130,6 +145,10 @@ module _ (m : Machine) where
 
   pub run-closes : Closes m (run .reports) closesLeave
   run-closes = run-ran .closes
+
+  -- "repeats close until one reports no change": none follows that one
+  pub run-until : UntilQuiet (run .reports)
+  run-until = run-ran .until
 
   pub run-refused : (n : ℕ) → run .met ≡ some n → step close closesLeave .answer ≡ refuse n
   run-refused = run-ran .refused
@@ -167,15 +186,15 @@ module _ (m : Machine) where
   unfolding leaves settledBy
   same-flags e = ap (λ (b : Bool). with-flags b (run .after .settled) (run .after)) (sym (started e))
 
-  accepts : run .met ≡ none → step settle m ≡ answers (settled (totalsOf (run .reports))) closesLeave
+  pub settle-accepts : run .met ≡ none → step settle m ≡ answers (settled (totalsOf (run .reports))) closesLeave
   unfolding decided acceptance settleRule
-  accepts e =
+  settle-accepts e =
       settle-decides ∙ ap (λ (x : Option ℕ). decided x (refusal m) (acceptance (settleRule run m))) e
       ∙ ap (λ (s : Structure). answers (settled (totalsOf (run .reports))) (machine (m .sig) s)) (same-flags e)
 
-  refuses : (n : ℕ) → run .met ≡ some n → step settle m ≡ refusal m n
+  pub settle-refuses : (n : ℕ) → run .met ≡ some n → step settle m ≡ refusal m n
   unfolding decided
-  refuses n e = settle-decides ∙ ap (λ (x : Option ℕ). decided x (refusal m) (acceptance (settleRule run m))) e
+  settle-refuses n e = settle-decides ∙ ap (λ (x : Option ℕ). decided x (refusal m) (acceptance (settleRule run m))) e
 
   -- a settle by the number that its run meets: the answers of its closes summed and what they leave, or that number
   pub settle-by {ℓ} : (P : Step → Type ℓ) → (run .met ≡ none → P (answers (settled (totalsOf (run .reports))) closesLeave))
@@ -183,8 +202,8 @@ module _ (m : Machine) where
   settle-by P done met = go (run .met) refl
     where
       go : (x : Option ℕ) → run .met ≡ x → P (step settle m)
-      go none e = subst P (sym (accepts e)) (done e)
-      go (some n) e = subst P (sym (refuses n e)) (met n e)
+      go none e = subst P (sym (settle-accepts e)) (done e)
+      go (some n) e = subst P (sym (settle-refuses n e)) (met n e)
 
   -- an accepted settle is its closes ..
   pub settle-closes : (t : Settled) → step settle m .answer ≡ settled t → Closes m (run .reports) (step settle m .after)
