@@ -7,8 +7,6 @@ use Prim.Native.Nat.{ℕ, zero, suc, _+_, _*_, _-_, _≤_, _<_}
 use native.Mathlib.Omega.{arith}
 use lib.Dec.{eqb, ltb}
 use borrow.Author.Tests.{lt-ltb, le-ltb, ltb-true, ltb-false, ne-eqb}
-use Rattle.ids.specs.Answers.{decided}
-use Rattle.ids.proofs.Judging.{decided-refuses, decided-accepts}
 use Rattle.unification.specs.Roots.{maxEls}
 use Rattle.signature.specs.Model.{Sig}
 use Rattle.semantics.specs.Structure as model
@@ -17,10 +15,10 @@ use Rattle.semantics.specs.Types as types
 use Rattle.semantics.specs.Types.{imposeAll, grew}
 use Rattle.semantics.specs.Close as closing
 use Rattle.semantics.specs.Close.{fuel, turn, rounds-made, isNone, lastRound, oneMore, roundsFrom, CloseRun, imposedAfter, closeRun, reportOf, close-run}
-use Rattle.semantics.specs.Close.{afterClose}
+use Rattle.semantics.specs.Close.{afterClose, metCauses}
 use Rattle.semantics.specs.Calls as calls
-use Rattle.semantics.specs.Calls.{machine, answers, closed, rule, closeRule, leaves, acceptance, refusal, stepBy, step}
-use Rattle.semantics.proofs.Judged.{close-first}
+use Rattle.semantics.specs.Calls.{machine, answers, closed, rule, closeRule, leaves, acceptance, refusal, step}
+use Rattle.semantics.proofs.Judged.{met-refuses, met-accepts}
 use Rattle.apps.specs.View.{funcAppsOf}
 use Rattle.merging.specs.declared.Core.{Core}
 use Rattle.close.specs.declared.Turn.{Turn}

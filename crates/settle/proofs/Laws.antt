@@ -6,16 +6,16 @@ use mathlib.Core.List.{List, [], _∷_, _++_, append-nil, append-assoc}
 use mathlib.Core.Option.{Option, none, some}
 use native.Mathlib.Omega.{arith}
 use lib.ListN.{length, length-append}
-use Rattle.ids.specs.Answers.{decided, Outcome, outcome, refusing, accepting}
+use Rattle.ids.specs.Answers.{Outcome, outcome, refusing, accepting}
 use Rattle.ids.proofs.Judging.{decided-refuses, decided-accepts}
 use Rattle.unification.specs.Roots.{maxEls}
 use Rattle.signature.specs.Model.{Sig}
 use Rattle.semantics.specs.Structure.{Structure}
-use Rattle.semantics.specs.Close.{Closed, closeRun, closeBy, reportOf, afterClose, close, fuel}
+use Rattle.semantics.specs.Close.{Closed, closeRun, closeBy, reportOf, afterClose, metCauses, close, fuel}
 use Rattle.semantics.specs.Calls as calls
 use Rattle.semantics.specs.Calls.{Totals, totals, summed, closed, machine, answers, leaves, SettleRun, settle-run, reportedFirst, settleAfter}
-use Rattle.semantics.specs.Calls.{settleBy, settleFrom, settleRun, mergesIn, sumsOf, rule, settleRule, acceptance, refusal, stepBy, step}
-use Rattle.semantics.proofs.Judged.{met-first, close-first}
+use Rattle.semantics.specs.Calls.{settleBy, settleFrom, settleRun, mergesIn, sumsOf, rule, settleRule, acceptance, refusal, step}
+use Rattle.semantics.proofs.Judged.{close-first, met-refuses, met-accepts}
 use Rattle.merging.specs.View.{metOf}
 use Rattle.structure.specs.View.{structureOf, totalsOf}
 use Rattle.close.specs.View.{oneClose}
