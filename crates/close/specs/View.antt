@@ -9,7 +9,8 @@ use Rattle.semantics.specs.Close.{fuel}
 use Rattle.apps.specs.View.{funcAppsOf}
 use Rattle.merging.specs.declared.Core.{Core}
 use Rattle.merging.specs.View.{coreOf, metOf}
-use Rattle.structure.specs.View.{structureOf, closedOf}
+use Rattle.semantics.specs.Calls.{close, machine, rule, acceptance}
+use Rattle.structure.specs.View.{closedOf, stepOf}
 use Rattle.typing.specs.Bounds.{allDemands}
 use Rattle.close.specs.declared.Turn.{Turn}
 use Rattle.close.specs.declared.Ran.{Ran}
@@ -46,5 +47,5 @@ oneClose = suc (suc fuel) * oneRound
 pub record CloseRunIs (g : Sig) (s : Structure) (r : CloseRun) : Type 0 where
   pub met : metOf (r .met) ≡ closing.closeRun g s .core .met
   pub report : closedOf (r .report) ≡ closing.reportOf (closing.closeRun g s)
-  pub after : structureOf (r .structure) ≡ closing.afterClose (closing.closeRun g s) s
+  pub accepted : stepOf g (r .accepted) ≡ acceptance (rule close (machine g s))
   pub merges-most : r .report .merges ≤ oneClose

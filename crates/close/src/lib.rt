@@ -173,11 +173,11 @@ fn with_core(structure: Structure, core: Core, apps: FuncApps) -> Structure
     next
 }
 
-// What a close comes to: the number first met, 0 for none, and what it reports and leaves where none refuses it.
+// What a close comes to: the number first met, 0 for none, what it reports, and its acceptance where none refuses it.
 pub struct CloseRun {
     pub met: u16,
     pub report: Closed,
-    pub structure: Structure,
+    pub accepted: Stepped,
 }
 
 // The close, before it is decided whether a number refuses it.
@@ -199,14 +199,16 @@ pub fn close_run(structure: Structure, signature: Signature) -> CloseRun
     let merges = ran.merges + imposed.merges;
     let rounds = ran.count;
     let met = core.met;
+    let report = Closed {
+        changed,
+        merges,
+        rounds,
+    };
+    let closed = canonicalise_refs(with_core(structure, core, rewritten));
     CloseRun {
         met,
-        report: Closed {
-            changed,
-            merges,
-            rounds,
-        },
-        structure: canonicalise_refs(with_core(structure, core, rewritten)),
+        report,
+        accepted: closed.accept(Answer::Closed(report)),
     }
 }
 
@@ -219,7 +221,5 @@ pub fn close(structure: Structure, signature: Signature) -> Stepped
     if number != 0 {
         return structure.refuse(number);
     }
-    let closed = run.structure;
-    let report = run.report;
-    closed.accept(Answer::Closed(report))
+    run.accepted
 }

@@ -13,8 +13,8 @@ use Rattle.signature.specs.Model.{Sig}
 use Rattle.semantics.specs.Structure.{Structure}
 use Rattle.semantics.specs.Close.{Closed, closeRun, closeBy, reportOf, afterClose, metCauses, close, fuel}
 use Rattle.semantics.specs.Calls as calls
-use Rattle.semantics.specs.Calls.{Totals, totals, summed, closed, machine, answers, leaves, SettleRun, settle-run, reportedFirst, settleAfter}
-use Rattle.semantics.specs.Calls.{settleBy, settleFrom, settleRun, mergesIn, sumsOf, rule, settleRule, acceptance, refusal, step}
+use Rattle.semantics.specs.Calls.{Totals, totals, summed, closed, Answer, machine, Step, answers, leaves, SettleRun, settle-run, reportedFirst, settleAfter}
+use Rattle.semantics.specs.Calls.{settleBy, settleFrom, settleRun, mergesIn, sumsOf, rule, closeRule, settleRule, acceptance, refusal, step}
 use Rattle.semantics.proofs.Judged.{close-first, met-refuses, met-accepts}
 use Rattle.merging.specs.View.{metOf}
 use Rattle.structure.specs.View.{structureOf, totalsOf}
@@ -95,8 +95,14 @@ module _ (g : Sig) where
           (decided-refuses (refusing s) (accepting (reportOf r) (afterClose r s)) (close-first r ∙ e)))
           ∙ next k (omega arith)
 
-      module _ (met : closeRun g s .core .met ≡ none) {c : Closed} {v : Structure} (answered : c ≡ reportOf (closeRun g s))
-          (left : v ≡ leaves true (closed c) (afterClose (closeRun g s) s)) where
+      module _ (met : closeRun g s .core .met ≡ none) {c : Closed} {x : Answer} {v : Structure} (answered : c ≡ reportOf (closeRun g s))
+          (accepted : answers x (machine g v) ≡ acceptance (rule calls.close (machine g s))) where
+        left : v ≡ leaves true (closed c) (afterClose (closeRun g s) s)
+        unfolding rule closeRule acceptance
+        left =
+            ap (λ (y : Step). y .after .structure) accepted
+            ∙ ap (λ (d : Closed). leaves true (closed d) (afterClose (closeRun g s) s)) (sym answered)
+
         -- what follows a close that left x, whether it reported a change
         abbrev then : ℕ → Bool → Structure → SettleRun
         then k b x = elim b [ true ↦ settleFrom k g x | false ↦ settle-run [] none x ]

@@ -65,9 +65,8 @@ fn settle_run(structure: Structure, signature: Signature) -> SettleRun
             };
         }
         let report = run.report;
-        let closed = run.structure;
-        let stepped = closed.accept(Answer::Closed(report));
-        let reached = stepped.structure;
+        let accepted = run.accepted;
+        let reached = accepted.structure;
         now = reached;
         again = goes_on(report);
         totals = counted(totals, report);

@@ -2,7 +2,7 @@
 use mathlib.Core.Path.{sym, _∙_}
 use Rattle.signature.specs.Model.{sigOf}
 use Rattle.structure.specs.View.{structureOf}
-use Rattle.close.proofs.Laws.{met-none, met-some, refuses, accepts}
+use Rattle.close.proofs.Laws.{met-none, met-some, refuses, accepted-step}
 use borrow.Author.Needs.{needs}
 use Rattle.close.proofs.close.Statement.{statement}
 use Rattle.close.proofs.close.Tie as tie
@@ -21,17 +21,13 @@ returns c =
     c .refuse .ensures (sigOf (a .signature))
     ∙ refuses (sigOf (a .signature)) (structureOf (a .structure)) (sym (is .met) ∙ met-some _ (c .before .if1 .taken))
 
-accept-requires : tie.Need-accept-requires
-accept-requires c κs = search needs
-
 returns-2 : tie.Need-returns-2
 returns-2 c =
-    let else1 = c .before .before .before in
+    let else1 = c .before in
     let ran = else1 .before in
     let a = ran .before .args in
     let is = ran .close-run .ensures in
-    c .accept .ensures (sigOf (a .signature))
-    ∙ accepts (sigOf (a .signature)) (structureOf (a .structure)) (sym (is .met) ∙ met-none (else1 .if1 .left)) (is .report) (is .after)
+    is .accepted ∙ accepted-step (sigOf (a .signature)) (structureOf (a .structure)) (sym (is .met) ∙ met-none (else1 .if1 .left))
 
 pub close-spec : {M : Type 1} → statement M
-close-spec = tie.close (tie.spec close-run-requires refuse-requires returns accept-requires returns-2)
+close-spec = tie.close (tie.spec close-run-requires refuse-requires returns returns-2)

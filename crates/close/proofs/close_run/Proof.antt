@@ -12,7 +12,7 @@ use Rattle.apps.specs.View.{funcAppsOf, predAppsOf}
 use Rattle.structure.specs.View.{structureOf}
 use Rattle.merging.specs.View.{coreOf}
 use Rattle.close.specs.View.{ranOf, oneClose}
-use Rattle.close.proofs.Laws.{fuel-is, grew-more, run-is}
+use Rattle.close.proofs.Laws.{fuel-is, grew-more, run-is, accepts}
 use borrow.Author.Needs.{needs}
 use Rattle.close.proofs.close_run.Statement.{statement}
 use Rattle.close.proofs.close_run.Tie as tie
@@ -76,10 +76,14 @@ with-core-requires c κs = search needs
 canonicalise-refs-requires : tie.Need-canonicalise-refs-requires
 canonicalise-refs-requires c κs = search needs
 
+accept-requires : tie.Need-accept-requires
+accept-requires c κs = search needs
+
 returns : tie.Need-returns
 unfolding reportOf afterClose withCore
 returns c =
-    let cored = c .before in
+    let refs = c .before in
+    let cored = refs .before in
     let changing = cored .before .before .before in
     let at = changing .before .before .before in
     let a = start at .before .args in
@@ -91,11 +95,13 @@ returns c =
     let sum : r .merges + w .merges ≡ m = omega arith in
     let grows = grew-more (ranOf r .core) (coreOf (w .core) m b) (w .merges) (w .added) refl refl in
     let changes = changing .or .ensures ∙ (λ i. ltb 1 (r .count) || (changing .before .counted .ensures ∙ sym grows) i) in
-    let after = c .canonicalise-refs .ensures ∙ (λ i. canonicaliseRefs (cored .with-core .ensures i .links) (cored .with-core .ensures i)) in
+    let after = refs .canonicalise-refs .ensures ∙ (λ i. canonicaliseRefs (cored .with-core .ensures i .links) (cored .with-core .ensures i)) in
+    let reports = (λ i. report (changes i) (sum i) (r .count)) ∙ ap reportOf is in
     record {
       met = ap (λ (x : closing.CloseRun). x .core .met) is;
-      report = (λ i. report (changes i) (sum i) (r .count)) ∙ ap reportOf is;
-      after = after ∙ ap (λ (x : closing.CloseRun). afterClose x (structureOf (a .structure))) is;
+      report = reports;
+      accepted = c .accept .ensures (sigOf (a .signature))
+          ∙ accepts (sigOf (a .signature)) (structureOf (a .structure)) reports (after ∙ ap (λ (x : closing.CloseRun). afterClose x (structureOf (a .structure))) is);
       merges-most = most at;
     }
 
@@ -111,4 +117,5 @@ close-run-spec =
     add-merges
     with-core-requires
     canonicalise-refs-requires
+    accept-requires
     returns)

@@ -1,14 +1,13 @@
 -- `settle_run` meets its contract. The invariant: with those to come, the closes that ran are the definition's settle.
 use Prim.Native.Nat.{suc, _-_, _*_, _≤_}
 use mathlib.Core.Path.{refl, sym, ap, _∙_}
-use mathlib.Core.Bool.{true}
 use native.Mathlib.Omega.{arith}
 use lib.ListN.{length}
 use borrow.Author.Tests.{not-true, not-false}
 use Rattle.unification.specs.Roots.{maxEls}
 use Rattle.signature.specs.Model.{sigOf}
-use Rattle.semantics.specs.Calls.{Totals, closed, leaves, settleRun, Step}
-use Rattle.structure.specs.View.{structureOf, closedOf, totalsOf}
+use Rattle.semantics.specs.Calls.{Totals, settleRun}
+use Rattle.structure.specs.View.{structureOf, totalsOf}
 use Rattle.close.specs.View.{oneClose}
 use Rattle.close.proofs.Laws.{met-none, met-some}
 use Rattle.settle.proofs.Laws.{Going, begins, takes, refused-by, ends, run-is, sums-fit}
@@ -50,15 +49,12 @@ returns c =
     (refused-by _ inv (not-false _ (else1 .if1 .left)) (omega (arith, test .loop-test .taken, sized .size .ensures .is)) _ (sym (ran .close-run .ensures .met) ∙ number))
     number (inv .totals-are)
 
-accept-requires : tie.Need-accept-requires Inv-loop μ-loop
-accept-requires c κs = search needs
-
 goes-on-requires : tie.Need-goes-on-requires Inv-loop μ-loop
 goes-on-requires c κs = search needs
 
 counted-requires : tie.Need-counted-requires Inv-loop μ-loop
 counted-requires c κs =
-    let ran = c .before .before .before .before .before .before in
+    let ran = c .before .before .before .before .before in
     let test = ran .before .before in
     let inv = test .before .loop .inv in
     let few : test .before .loop .i ≤ maxEls = omega (arith, test .loop-test .taken, test .before .before .size .ensures .most) in
@@ -69,14 +65,13 @@ add-i c = search needs
 
 loop-less : tie.Need-loop-less Inv-loop μ-loop
 loop-less c =
-    let test = c .before .before .before .before .before .before .before .before .before in
+    let test = c .before .before .before .before .before .before .before .before in
     omega (arith, test .loop-test .taken)
 
 loop-again : tie.Need-loop-again Inv-loop μ-loop
 loop-again c =
     let going = c .before in
-    let accepting = going .before .before in
-    let else2 = accepting .before .before .before in
+    let else2 = going .before .before .before .before in
     let ran = else2 .before in
     let else1 = ran .before in
     let test = else1 .before in
@@ -84,10 +79,9 @@ loop-again c =
     let a = sized .before .before .args in
     let is = ran .close-run .ensures in
     let inv = test .before .loop .inv in
-    let counted = c .counted .ensures in
-    let left = ap (λ (s : Step). s .after .structure) (accepting .accept .ensures (sigOf (a .signature))) ∙ ap (leaves true (closed (closedOf (ran .close-run .result .report)))) (is .after) in (
+    let counted = c .counted .ensures in (
       takes _ (inv .0) (not-false _ (else1 .if1 .left)) (omega (arith, test .loop-test .taken, sized .size .ensures .is))
-          (sym (is .met) ∙ met-none (else2 .if2 .left)) (is .report) left counted (going .goes-on .ensures),
+          (sym (is .met) ∙ met-none (else2 .if2 .left)) (is .report) (is .accepted) counted (going .goes-on .ensures),
       omega (arith, inv .1, is .merges-most, ap (λ (t : Totals). t .merges) counted),
     )
 
@@ -113,7 +107,6 @@ settle-run-spec =
     loop-holds
     close-run-requires
     returns
-    accept-requires
     goes-on-requires
     counted-requires
     add-i
