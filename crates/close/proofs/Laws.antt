@@ -151,10 +151,9 @@ module _ (g : Sig) (s : model.Structure) where
   refuses e = sym (met-refuses calls.close (machine g s) (run .core .met) only-met _ e)
 
   -- none is met
-  pub accepted-step : run .core .met ≡ none → acceptance (rule calls.close (machine g s)) ≡ step calls.close (machine g s)
-  accepted-step e = sym (met-accepts calls.close (machine g s) (run .core .met) only-met e)
-
-  pub accepts : {a : closing.Closed} {t : model.Structure} → a ≡ reportOf run → t ≡ afterClose run s
-      → answers (closed a) (machine g (leaves true (closed a) t)) ≡ acceptance (rule calls.close (machine g s))
+  pub accepts : run .core .met ≡ none → {a : closing.Closed} {t : model.Structure} → a ≡ reportOf run → t ≡ afterClose run s
+      → answers (closed a) (machine g (leaves true (closed a) t)) ≡ step calls.close (machine g s)
   unfolding rule acceptance closeRule
-  accepts p q = λ i. answers (closed (p i)) (machine g (leaves true (closed (p i)) (q i)))
+  accepts e p q =
+      (λ i. answers (closed (p i)) (machine g (leaves true (closed (p i)) (q i))))
+      ∙ sym (met-accepts calls.close (machine g s) (run .core .met) only-met e)

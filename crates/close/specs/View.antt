@@ -9,7 +9,7 @@ use Rattle.semantics.specs.Close.{fuel}
 use Rattle.apps.specs.View.{funcAppsOf}
 use Rattle.merging.specs.declared.Core.{Core}
 use Rattle.merging.specs.View.{coreOf, metOf}
-use Rattle.semantics.specs.Calls.{close, machine, rule, acceptance}
+use Rattle.semantics.specs.Calls.{close, machine, step}
 use Rattle.structure.specs.View.{closedOf, stepOf}
 use Rattle.typing.specs.Bounds.{allDemands}
 use Rattle.close.specs.declared.Turn.{Turn}
@@ -43,9 +43,9 @@ pub record RoundsAre (g : Sig) (preds : List PredApp) (apps : List FuncApp) (bef
 abbrev pub oneClose : ℕ
 oneClose = suc (suc fuel) * oneRound
 
--- what a close comes to, whether a number refuses it or not
+-- what a close comes to
 pub record CloseRunIs (g : Sig) (s : Structure) (r : CloseRun) : Type 0 where
   pub met : metOf (r .met) ≡ closing.closeRun g s .core .met
   pub report : closedOf (r .report) ≡ closing.reportOf (closing.closeRun g s)
-  pub accepted : stepOf g (r .accepted) ≡ acceptance (rule close (machine g s))
+  pub step-is : stepOf g (r .stepped) ≡ step close (machine g s)
   pub merges-most : r .report .merges ≤ oneClose

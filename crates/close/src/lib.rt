@@ -173,14 +173,14 @@ fn with_core(structure: Structure, core: Core, apps: FuncApps) -> Structure
     next
 }
 
-// What a close comes to: the number first met, 0 for none, what it reports, and its acceptance where none refuses it.
+// A close as a step, with the number first met, 0 for none, and what it reports where none refuses it.
 pub struct CloseRun {
     pub met: u16,
     pub report: Closed,
-    pub accepted: Stepped,
+    pub stepped: Stepped,
 }
 
-// The close, before it is decided whether a number refuses it.
+// The number first met refuses, and the structure before the close is handed back.
 pub fn close_run(structure: Structure, signature: Signature) -> CloseRun
     ensures { λ r. ⌜ CloseRunIs (sigOf signature) (structureOf structure) r ⌝ }
 {
@@ -198,28 +198,31 @@ pub fn close_run(structure: Structure, signature: Signature) -> CloseRun
     let changed = ids::or(again, grew);
     let merges = ran.merges + imposed.merges;
     let rounds = ran.count;
-    let met = core.met;
+    let number = core.met;
     let report = Closed {
         changed,
         merges,
         rounds,
     };
+    if number != 0 {
+        return CloseRun {
+            met: number,
+            report,
+            stepped: structure.refuse(number),
+        };
+    }
     let closed = canonicalise_refs(with_core(structure, core, rewritten));
     CloseRun {
-        met,
+        met: number,
         report,
-        accepted: closed.accept(Answer::Closed(report)),
+        stepped: closed.accept(Answer::Closed(report)),
     }
 }
 
-// Kind 13. The number first met refuses, and the structure before the close is handed back.
+// Kind 13.
 pub fn close(structure: Structure, signature: Signature) -> Stepped
     ensures { λ r. ⌜ stepOf (sigOf signature) r ≡ step calls.close (machine (sigOf signature) (structureOf structure)) ⌝ }
 {
     let run = close_run(structure, signature);
-    let number = run.met;
-    if number != 0 {
-        return structure.refuse(number);
-    }
-    run.accepted
+    run.stepped
 }

@@ -96,11 +96,11 @@ module _ (g : Sig) where
           ∙ next k (omega arith)
 
       module _ (met : closeRun g s .core .met ≡ none) {c : Closed} {x : Answer} {v : Structure} (answered : c ≡ reportOf (closeRun g s))
-          (accepted : answers x (machine g v) ≡ acceptance (rule calls.close (machine g s))) where
+          (stepped : answers x (machine g v) ≡ step calls.close (machine g s)) where
         left : v ≡ leaves true (closed c) (afterClose (closeRun g s) s)
         unfolding rule closeRule acceptance
         left =
-            ap (λ (y : Step). y .after .structure) accepted
+            ap (λ (y : Step). y .after .structure) (stepped ∙ met-accepts calls.close (machine g s) (closeRun g s .core .met) refl met)
             ∙ ap (λ (d : Closed). leaves true (closed d) (afterClose (closeRun g s) s)) (sym answered)
 
         -- what follows a close that left x, whether it reported a change

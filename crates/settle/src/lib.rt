@@ -65,8 +65,8 @@ fn settle_run(structure: Structure, signature: Signature) -> SettleRun
             };
         }
         let report = run.report;
-        let accepted = run.accepted;
-        let reached = accepted.structure;
+        let stepped = run.stepped;
+        let reached = stepped.structure;
         now = reached;
         again = goes_on(report);
         totals = counted(totals, report);

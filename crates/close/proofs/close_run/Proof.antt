@@ -4,15 +4,18 @@ use mathlib.Core.Bool.{_||_}
 use Prim.Native.Nat.{_+_, _≤_}
 use native.Mathlib.Omega.{arith}
 use lib.Dec.{ltb}
-use Rattle.signature.specs.Model.{sigOf}
-use Rattle.semantics.specs.Types.{imposeAll}
+use Rattle.signature.specs.Model.{Sig, sigOf}
+use Rattle.semantics.specs.Structure.{Structure}
+use Rattle.semantics.specs.Types.{Core, imposeAll}
 use Rattle.semantics.specs.Close as closing
-use Rattle.semantics.specs.Close.{report, canonicaliseRefs, withCore, reportOf, afterClose}
+use Rattle.semantics.specs.Close.{report, canonicaliseRefs, withCore, close-run, closeRun, reportOf, afterClose}
 use Rattle.apps.specs.View.{funcAppsOf, predAppsOf}
 use Rattle.structure.specs.View.{structureOf}
-use Rattle.merging.specs.View.{coreOf}
+use Rattle.merging.specs.declared.Worked.{Worked}
+use Rattle.merging.specs.View.{coreOf, metOf}
+use Rattle.close.specs.declared.Ran.{Ran}
 use Rattle.close.specs.View.{ranOf, oneClose}
-use Rattle.close.proofs.Laws.{fuel-is, grew-more, run-is, accepts}
+use Rattle.close.proofs.Laws.{met-none, met-some, fuel-is, grew-more, run-is, refuses, accepts}
 use borrow.Author.Needs.{needs}
 use Rattle.close.proofs.close_run.Statement.{statement}
 use Rattle.close.proofs.close_run.Tie as tie
@@ -70,6 +73,53 @@ most c =
 add-merges : tie.Need-add-merges
 add-merges c = search (needs, most (c .before .before .before .before .before), fuel-is)
 
+-- the run of the definition, and what its report is
+module _ (c : tie.After-or) where
+  abbrev at : tie.After-core
+  at = c .before .before .before
+
+  abbrev g : Sig
+  g = sigOf (start at .before .args .signature)
+
+  abbrev s : Structure
+  s = structureOf (start at .before .args .structure)
+
+  abbrev r : Ran
+  r = running at .rounds .result
+
+  abbrev w : Worked
+  w = imposing at .apply-pending-type-impositions .result
+
+  abbrev reached : Core
+  reached = coreOf (w .core) (w .merges + r .merges) (w .added + r .added)
+
+  is : close-run (ranOf r) reached ≡ closeRun g s
+  is = run-is g s (ranOf r) reached (ran at) (imposed at)
+
+  reports : report (c .or .result) (r .merges + w .merges) (r .count) ≡ reportOf (closeRun g s)
+  unfolding reportOf
+  reports =
+      let sum : r .merges + w .merges ≡ w .merges + r .merges = omega arith in
+      let grows = grew-more (ranOf r .core) reached (w .merges) (w .added) refl refl in
+      let changes = c .or .ensures ∙ (λ i. ltb 1 (r .count) || (c .before .counted .ensures ∙ sym grows) i) in
+      (λ i. report (changes i) (sum i) (r .count)) ∙ ap reportOf is
+
+  met : metOf (w .core .met) ≡ closeRun g s .core .met
+  met = ap (λ (x : closing.CloseRun). x .core .met) is
+
+refuse-requires : tie.Need-refuse-requires
+refuse-requires c κs = search needs
+
+returns : tie.Need-returns
+returns c =
+    let or = c .before .before .before .before in
+    record {
+      met = met or;
+      report = reports or;
+      step-is = c .refuse .ensures (g or) ∙ refuses (g or) (s or) (sym (met or) ∙ met-some _ (c .before .if1 .taken));
+      merges-most = most (at or);
+    }
+
 with-core-requires : tie.Need-with-core-requires
 with-core-requires c κs = search needs
 
@@ -79,30 +129,20 @@ canonicalise-refs-requires c κs = search needs
 accept-requires : tie.Need-accept-requires
 accept-requires c κs = search needs
 
-returns : tie.Need-returns
-unfolding reportOf afterClose withCore
-returns c =
+returns-2 : tie.Need-returns-2
+unfolding afterClose withCore
+returns-2 c =
     let refs = c .before in
     let cored = refs .before in
-    let changing = cored .before .before .before in
-    let at = changing .before .before .before in
-    let a = start at .before .args in
-    let r = running at .rounds .result in
-    let w = imposing at .apply-pending-type-impositions .result in
-    let m = w .merges + r .merges in
-    let b = w .added + r .added in
-    let is = run-is (sigOf (a .signature)) (structureOf (a .structure)) (ranOf r) (coreOf (w .core) m b) (ran at) (imposed at) in
-    let sum : r .merges + w .merges ≡ m = omega arith in
-    let grows = grew-more (ranOf r .core) (coreOf (w .core) m b) (w .merges) (w .added) refl refl in
-    let changes = changing .or .ensures ∙ (λ i. ltb 1 (r .count) || (changing .before .counted .ensures ∙ sym grows) i) in
+    let else1 = cored .before in
+    let or = else1 .before .before .before in
     let after = refs .canonicalise-refs .ensures ∙ (λ i. canonicaliseRefs (cored .with-core .ensures i .links) (cored .with-core .ensures i)) in
-    let reports = (λ i. report (changes i) (sum i) (r .count)) ∙ ap reportOf is in
     record {
-      met = ap (λ (x : closing.CloseRun). x .core .met) is;
-      report = reports;
-      accepted = c .accept .ensures (sigOf (a .signature))
-          ∙ accepts (sigOf (a .signature)) (structureOf (a .structure)) reports (after ∙ ap (λ (x : closing.CloseRun). afterClose x (structureOf (a .structure))) is);
-      merges-most = most at;
+      met = met or;
+      report = reports or;
+      step-is = c .accept .ensures (g or)
+          ∙ accepts (g or) (s or) (sym (met or) ∙ met-none (else1 .if1 .left)) (reports or) (after ∙ ap (λ (x : closing.CloseRun). afterClose x (s or)) (is or));
+      merges-most = most (at or);
     }
 
 pub close-run-spec : {M : Type 1} → statement M
@@ -115,7 +155,9 @@ close-run-spec =
     counted-requires
     or-requires
     add-merges
+    refuse-requires
+    returns
     with-core-requires
     canonicalise-refs-requires
     accept-requires
-    returns)
+    returns-2)

@@ -81,7 +81,7 @@ loop-again c =
     let inv = test .before .loop .inv in
     let counted = c .counted .ensures in (
       takes _ (inv .0) (not-false _ (else1 .if1 .left)) (omega (arith, test .loop-test .taken, sized .size .ensures .is))
-          (sym (is .met) ∙ met-none (else2 .if2 .left)) (is .report) (is .accepted) counted (going .goes-on .ensures),
+          (sym (is .met) ∙ met-none (else2 .if2 .left)) (is .report) (is .step-is) counted (going .goes-on .ensures),
       omega (arith, inv .1, is .merges-most, ap (λ (t : Totals). t .merges) counted),
     )
 
