@@ -16,7 +16,9 @@ use Rattle.structure.specs.declared.Machine.{Machine}
 use Rattle.structure.specs.View.{structureOf, machineOf, Looking}
 use Rattle.history.specs.Book.{Book, blank, History, reached, noted, next, run, history, begin, fed, mergesOf}
 use Rattle.history.specs.Book.{RanCloses, closes, settles, Conserved, Conservation}
-use Rattle.history.proofs.Histories.{history-goes-on}
+use Rattle.validity.proofs.Calls.{ValidMachine}
+use Rattle.history.proofs.Settling.{SettleEnds, settle-ends}
+use Rattle.history.proofs.Histories.{history-valid, history-goes-on}
 use Rattle.history.proofs.Conservation.{conservation}
 use Rattle.conserved.specs.Run.{Made, push-type, push-pred, push-func, push-model, push-mor-app-func, push-el}
 use Rattle.conserved.specs.Run.{equate, impose-type, insert-func-app-or-equate, insert-pred-app, insert-var-el}
@@ -85,3 +87,12 @@ code-conserves {w = w} {z = z} {d = d} {before = before} {k = k} {a = a} {cs = c
     subst (λ (h : History). Conserved (h .book) (h .machine .structure .links) cs) (sym comes)
     (conservation before k cs (subst (λ (h : History). RanCloses (h .machine) k cs) was ran)
     (ap (λ (h : History). anyMarked (h .book .marks)) (sym comes) ∙ unmarked))
+
+-- For every list of calls that the code makes from fresh values, marks or not, and every settle after it that is accepted: it ran at most one close
+-- more than there are elements, its last close reported no change, and the structure that it hands back is settled.
+pub code-settles : {v w z : Machine} {d : Book} {before : List Call} {t : Totals} → Fresh v → Run v blank before w d
+    → Made w calls.settle (summed t) z → SettleEnds (machineOf w) t × (structureOf (z .structure) .settled ≡ true)
+code-settles {w = w} {before = before} {t = t} f r m =
+    let valid = subst (λ (h : History). ValidMachine (h .machine)) (sym (run-history f r)) (history-valid before .valid) in
+    let ends = settle-ends (machineOf w) valid t (sym (ap (λ (s : Step). s .answer) (made-step m))) in
+    (ends, ap (λ (s : Step). s .after .structure .settled) (made-step m) ∙ ends .settled)

@@ -366,8 +366,7 @@ closeMerges (refuse n) = 0
 abbrev noSettles : Feeds
 noSettles k a b = fed k (isAccepted a) (closeMerges a) b
 
--- the merges of the last of some closes
--- all so far, but of the last close or settle those
+-- all so far, but of the last close or settle the merges of its last close
 abbrev lastOfSettle : Book → List Closed → ℕ
 lastOfSettle b cs = b .merges - mergesIn cs + lastMerges cs
 

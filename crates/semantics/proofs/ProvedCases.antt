@@ -639,8 +639,8 @@ table =
       claims = [];
     }
     ∷ record {
-      source = callsFrom (holding maxFacts) (impose 0 0 (1 ∷ []) ∷ close ∷ []);
-      output = tells (refuses 11 ∷ []);
+      source = callsFrom (holding maxFacts) (impose 0 0 (1 ∷ []) ∷ close ∷ settle ∷ []);
+      output = tells (refuses 11 ∷ refuses 11 ∷ []);
       claims = [];
     }
     -- number 3: ".. or an unused word outside the above": of a settle these are all but the first two
