@@ -1,7 +1,7 @@
 -- The conservation rule for the code's own values.
 use mathlib.Core.Path.{_≡_, refl, sym, ap, _∙_, subst}
 use mathlib.Core.List.{List, [], _∷_, _++_}
-use mathlib.Core.Bool.{false}
+use mathlib.Core.Bool.{true, false}
 use Rattle.ids.specs.Answers.{Answered}
 use Rattle.ids.specs.Ids.{givenEls, Handed}
 use Rattle.unification.specs.Roots.{linksOf}
