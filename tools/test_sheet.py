@@ -22,14 +22,14 @@ loader = importlib.machinery.SourceFileLoader("sheet", str(TOOL))
 sheet = importlib.util.module_from_spec(importlib.util.spec_from_loader("sheet", loader))
 loader.exec_module(sheet)
 
-# Document 01's records, apart from the tool: for each kind the most that A and B
-# may be, the most parents, and the least and most arguments.
+# Document 01's records and settle, apart from the tool: for each kind the most that A
+# and B may be, the most parents, and the least and most arguments.
 ANY = 65535
 SHAPES = {1: (3, ANY, 4, 0, 0), 2: (0, 0, 4, 0, 4), 3: (0, ANY, 4, 0, 4),
           4: (ANY, ANY, 0, 4, 4), 5: (ANY, 0, 0, 2, 2), 6: (1, 0, 0, 0, 0),
           7: (ANY, ANY, 0, 0, 0), 8: (ANY, ANY, 4, 0, 0), 9: (ANY, ANY, 4, 0, 4),
           10: (ANY, 0, 4, 0, 4), 11: (63, ANY, 0, 0, 0), 12: (ANY, ANY, 0, 0, 0),
-          13: (0, 0, 0, 0, 0), 14: (0, 0, 0, 0, 0)}
+          13: (0, 0, 0, 0, 0), 14: (0, 0, 0, 0, 0), 15: (0, 0, 0, 0, 0)}
 
 # P2 of document 01, word by word.
 P2 = [
@@ -110,6 +110,7 @@ class Assembling(unittest.TestCase):
         self.assert_record("ambient 1 2", 12, 1, 2)
         self.assert_record("close", 13)
         self.assert_record("conflicts", 14)
+        self.assert_record("settle", 15)
 
     def test_raw(self):
         words = tuple(range(65520, 65536))
@@ -216,6 +217,7 @@ class Errors(unittest.TestCase):
         ("holds 0 [1 2 3 4 5]", "line 1: '5' is one too many in a list of at most four"),
         ("element drum maked", "line 1: 'maked' is not expected here"),
         ("close now", "line 1: 'now' is not expected here"),
+        ("settle 3", "line 1: '3' is not expected here"),
         ("close next 1 2", "line 1: '2' is not expected here"),
         ("element 3", "line 1: '3' is not a name"),
         ("element 3rd", "line 1: '3rd' is not a name"),
@@ -307,7 +309,7 @@ class RoundTrips(unittest.TestCase):
         rng = random.Random(4)
         for kind in SHAPES:
             for place in range(16):
-                for value in (0, 1, 2, 3, 4, 5, 15, 63, 64, 65535):
+                for value in (0, 1, 2, 3, 4, 5, 15, 16, 63, 64, 65535):
                     words = list(random_record(rng, kind, 0, 2))
                     words[place] = value
                     self.assert_round_trip(pack([words]))
@@ -330,18 +332,27 @@ class RoundTrips(unittest.TestCase):
     def test_text_of_what_is_not_plain(self):
         """An undeclared number, a chain that skips and a malformed record."""
         data = pack([record(6, 1, next_index=2), record(7, 0, 1),
-                     record(12, 4, 0, next_index=3), record(15)])
+                     record(12, 4, 0, next_index=3), record(16)])
         self.assertEqual(sheet.disassemble(data),
                          "element e0 marked next 2                # 0\n"
                          "equal e0 1 next 0                       # 1\n"
                          "ambient 4 e0                            # 2\n"
-                         "raw 0 15 0 0 0 0 0 0 0 0 0 0 0 0 0 0    # 3\n")
+                         "raw 0 16 0 0 0 0 0 0 0 0 0 0 0 0 0 0    # 3\n")
+
+    def test_text_of_a_settle(self):
+        """With its chain, and with a word that it may not have."""
+        data = pack([record(15, next_index=1), record(15, next_index=0), record(15, 1)])
+        self.assertEqual(sheet.disassemble(data),
+                         "settle                                  # 0\n"
+                         "settle next 0                           # 1\n"
+                         "raw 0 15 1 0 0 0 0 0 0 0 0 0 0 0 0 0    # 2\n")
 
 
 class Samples(unittest.TestCase):
     def test_each_text_gives_its_sheet_and_back(self):
         names = sorted(path.stem for path in SAMPLES.glob("*.txt"))
-        for wanted in ("p1", "p2", "p5", "two-names", "unnamed-box", "refused-element"):
+        for wanted in ("p1", "p2", "p5", "p5-settled", "two-names", "unnamed-box",
+                       "unnamed-box-settled", "refused-element"):
             self.assertIn(wanted, names)
         self.assertEqual(names, sorted(path.stem for path in SAMPLES.glob("*.sheet")))
         self.assertEqual(sorted([*names, *LENGTHS]), sorted(path.stem for path in SAMPLES.glob("*.out")))
@@ -376,6 +387,24 @@ class Samples(unittest.TestCase):
         self.assertEqual((SAMPLES / "p1.out").read_text(), "close 0 0 1\nend 1\n")
         self.assertEqual((SAMPLES / "p5.out").read_text(),
                          "close 1 1 2\nclose 1 1 3\nclose 0 0 1\nend 15\n")
+
+    def test_a_settle_stands_for_the_closes(self):
+        """The samples told with a settle are the others but for how they close."""
+        for name, closing, lines in (
+                ("p5", ["close"] * 3, "settle 3 2\nend 13\n"),
+                ("unnamed-box", ["close", "conflicts", "close", "close", "conflicts"],
+                 "settle 3 2\nconflicts 0\nend 43\n")):
+            with self.subTest(name=name):
+                by_closes, by_settle = (
+                    [line.split("#")[0].split() for line in sheet.disassemble(
+                        (SAMPLES / f"{sample}.sheet").read_bytes()).splitlines()]
+                    for sample in (name, f"{name}-settled"))
+                start = by_closes[:-len(closing)]
+                self.assertEqual(by_closes[len(start):], [[word] for word in closing])
+                self.assertEqual(by_settle[:len(start)], start)
+                self.assertEqual(by_settle[len(start):],
+                                 [["settle"]] + [["conflicts"]] * ("conflicts" in closing))
+                self.assertEqual((SAMPLES / f"{name}-settled.out").read_text(), lines)
 
 
 class Commands(unittest.TestCase):

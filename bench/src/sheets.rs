@@ -1,4 +1,4 @@
-//! The sheets that are timed. Each is at most 1,024 records and ends with its close.
+//! The sheets that are timed. Each is at most 1,024 records and ends with its close or settle.
 
 /// The most elements of a structure.
 const ELS: u16 = 256;
@@ -44,6 +44,12 @@ impl Sheet {
         }
     }
 
+    fn marked_elements(&mut self, count: u16) {
+        for _ in 0..count {
+            self.record(6, 1, 0, &[], &[]);
+        }
+    }
+
     /// The same sheet with every element marked.
     fn marked(mut self) -> Sheet {
         for words in self.records.iter_mut().filter(|words| words[1] == 6) {
@@ -70,9 +76,22 @@ impl Sheet {
         }
     }
 
+    fn impose(&mut self, el: u16, typ: u16, parent: u16) {
+        self.record(8, el, typ, &[parent], &[]);
+    }
+
     /// The bytes, with a close at the end.
-    fn closed(mut self) -> Vec<u8> {
-        self.record(13, 0, 0, &[], &[]);
+    fn closed(self) -> Vec<u8> {
+        self.ended(13)
+    }
+
+    /// The bytes, with a settle at the end.
+    fn settled(self) -> Vec<u8> {
+        self.ended(15)
+    }
+
+    fn ended(mut self, kind: u16) -> Vec<u8> {
+        self.record(kind, 0, 0, &[], &[]);
         let count = self.records.len();
         assert!(count <= 1024);
         for (index, words) in self.records.iter_mut().enumerate() {
@@ -107,11 +126,11 @@ fn four_types() -> Sheet {
 }
 
 /// Two chains of 128 whose heads are equal: each round merges the next two.
-fn two_chains(mut sheet: Sheet) -> Vec<u8> {
+fn two_chains(mut sheet: Sheet) -> Sheet {
     sheet.chain(0, ELS / 2 - 1);
     sheet.chain(ELS / 2, ELS - 1);
     sheet.equal(0, ELS / 2);
-    sheet.closed()
+    sheet
 }
 
 /// One chain of 256 whose first two are equal: each round merges the next one into the first.
@@ -122,15 +141,41 @@ fn one_chain(mut sheet: Sheet) -> Vec<u8> {
 }
 
 pub fn two_chains_250() -> Vec<u8> {
-    two_chains(one_type())
+    two_chains(one_type()).closed()
 }
 
 pub fn two_chains_990() -> Vec<u8> {
-    two_chains(four_types())
+    two_chains(four_types()).closed()
 }
 
 pub fn two_chains_marked() -> Vec<u8> {
-    two_chains(four_types().marked())
+    two_chains(four_types().marked()).closed()
+}
+
+pub fn two_chains_settled() -> Vec<u8> {
+    two_chains(four_types()).settled()
+}
+
+/// 33 elements, all but the first marked: each close but the last merges one of them with 0 by the impositions, which
+/// brings the next one to disagree with 0 in a parent.
+pub fn merged_one_by_one() -> Vec<u8> {
+    const COUNT: u16 = 33;
+    let mut sheet = Sheet::default();
+    sheet.model_type();
+    for _ in 1..COUNT - 1 {
+        sheet.plain_type(&[0]);
+    }
+    sheet.elements(1);
+    sheet.marked_elements(COUNT - 1);
+    let merged = |close: u16| COUNT - close;
+    for close in (3..COUNT).rev() {
+        sheet.impose(0, close - 1, merged(close));
+        sheet.impose(merged(close - 1), close - 1, 0);
+    }
+    sheet.impose(0, 1, merged(1));
+    sheet.impose(merged(1), 1, merged(2));
+    sheet.impose(0, 1, 0);
+    sheet.settled()
 }
 
 pub fn one_chain_250() -> Vec<u8> {

@@ -1,4 +1,4 @@
-// A sheet built up to its first close, and that close run many times, for bench/ to time. It is no part of the port.
+// A sheet built up to its first close or settle, and that one run many times, for bench/ to time. It is no part of the port.
 use apps::FuncApp;
 use apps::PredApp;
 use bindings::AmbientEl;
@@ -194,12 +194,20 @@ fn step(run: Machine, bytes: &[u8], index: u16) -> Machine {
     }
 }
 
-// The records of a sheet before its first close, carried out.
+// A close or a settle.
+fn is_timed(kind: u16) -> bool {
+    match kind {
+        13 | 15 => true,
+        _ => false,
+    }
+}
+
+// The records of a sheet before its first close or settle, carried out.
 fn build(bytes: &[u8]) -> Machine {
     let mut run = Machine::new();
     let mut index: u16 = 0;
     for _visited in 0..1024u16 {
-        if word(bytes, index, 1) == 13 {
+        if is_timed(word(bytes, index, 1)) {
             return run;
         }
         let next = step(run, bytes, index);
@@ -212,7 +220,7 @@ fn build(bytes: &[u8]) -> Machine {
     run
 }
 
-// Changed, merges, rounds and facts; a refusal's number with 2 for changed.
+// Changed, merges, rounds and facts, or closes, merges, 0 and facts; a refusal's number with 2 for changed.
 fn report(stepped: Stepped, out: &mut [u64; 4]) {
     let answer = stepped.answer;
     out[3] = stepped.structure.els.len as u64;
@@ -222,12 +230,17 @@ fn report(stepped: Stepped, out: &mut [u64; 4]) {
             out[1] = c.merges;
             out[2] = c.rounds;
         }
+        Answer::Summed(t) => {
+            out[0] = t.closes;
+            out[1] = t.merges;
+            out[2] = 0;
+        }
         Answer::Refused(n) => {
             out[0] = 2;
             out[1] = n as u64;
             out[2] = 0;
         }
-        // A close gives no other answer.
+        // A close or settle gives no other answer.
         _ => {}
     }
 }
@@ -241,6 +254,19 @@ pub extern "C" fn bench_close(bytes: &[u8], times: u64, out: &mut [u64; 4]) {
     for i in 0..times {
         structure.settled = i % 2 == 1;
         let stepped = close::close(structure, signature);
+        report(stepped, out);
+    }
+}
+
+// The same with settles.
+#[no_mangle]
+pub extern "C" fn bench_settle(bytes: &[u8], times: u64, out: &mut [u64; 4]) {
+    let run = build(bytes);
+    let signature = run.signature;
+    let mut structure = run.structure;
+    for i in 0..times {
+        structure.settled = i % 2 == 1;
+        let stepped = settle::settle(structure, signature);
         report(stepped, out);
     }
 }

@@ -44,6 +44,7 @@ none-beside (variants.Says b) = refl
 none-beside variants.Done = refl
 none-beside (variants.Closed c) = refl
 none-beside variants.Conflicting = refl
+none-beside (variants.Summed t) = refl
 none-beside (variants.Refused n) = refl
 
 -- the step of a record that is carried out, with the conflicts as they are held
@@ -66,10 +67,10 @@ pub low : {k : ℕ} → k < 1 → none ≡ formOf k
 unfolding formOf forms
 low {k} h = let e : k ≡ 0 = omega arith in ap formOf (sym e)
 
--- nor has one from 15 on
-pub past : {k : ℕ} → 13 ≤ k → (k ≡ 13 → ⊥) → (k ≡ 14 → ⊥) → none ≡ formOf k
+-- nor has one from 16 on
+pub past : {k : ℕ} → 13 ≤ k → (k ≡ 13 → ⊥) → (k ≡ 14 → ⊥) → (k ≡ 15 → ⊥) → none ≡ formOf k
 unfolding formOf forms
-past {k} h n13 n14 = sym (List·getD-eq-default forms none {n = k} (omega arith))
+past {k} h n13 n14 n15 = sym (List·getD-eq-default forms none {n = k} (omega arith))
 
 module _ (r : Record) (m : Machine) where
   -- a record is of the form of the kind that it has

@@ -21,6 +21,7 @@ conflictsBeside (calls.says b) = []
 conflictsBeside calls.done = []
 conflictsBeside (calls.closed c) = []
 conflictsBeside (calls.conflicting cs) = cs
+conflictsBeside (calls.summed t) = []
 conflictsBeside (calls.found f) = []
 conflictsBeside (calls.typed t) = []
 conflictsBeside (calls.els es) = []

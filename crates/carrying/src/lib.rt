@@ -353,6 +353,15 @@ fn find_conflicts(machine: Machine) -> Carried
     after_conflicting(machine, conflicts::type_conflicts(structure))
 }
 
+// Kind 15.
+fn run_settle(machine: Machine) -> Carried
+    ensures { λ r. ⌜ carriedOf r ≡ withConflicts (calls.step calls.settle (machineOf machine)) ⌝ }
+{
+    let signature = machine.signature;
+    let structure = machine.structure;
+    after_step(machine, settle::settle(structure, signature))
+}
+
 // The kinds that declare.
 fn declare(machine: Machine, given: Record) -> Carried
     requires { ⌜ (1 ≤ given .kind) × (given .kind ≤ 5) ⌝ }
@@ -398,6 +407,7 @@ pub fn carry_out(machine: Machine, given: Record) -> Carried
         6..=12 => state(machine, given),
         13 => run_close(machine),
         14 => find_conflicts(machine),
+        15 => run_settle(machine),
         _ => answered(machine, Answer::Refused(Refusal::MALFORMED)),
     }
 }

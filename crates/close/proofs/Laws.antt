@@ -7,8 +7,6 @@ use Prim.Native.Nat.{ℕ, zero, suc, _+_, _*_, _-_, _≤_, _<_}
 use native.Mathlib.Omega.{arith}
 use lib.Dec.{eqb, ltb}
 use borrow.Author.Tests.{lt-ltb, le-ltb, ltb-true, ltb-false, ne-eqb}
-use Rattle.ids.specs.Answers.{decided}
-use Rattle.ids.proofs.Judging.{decided-refuses, decided-accepts}
 use Rattle.unification.specs.Roots.{maxEls}
 use Rattle.signature.specs.Model.{Sig}
 use Rattle.semantics.specs.Structure as model
@@ -17,10 +15,10 @@ use Rattle.semantics.specs.Types as types
 use Rattle.semantics.specs.Types.{imposeAll, grew}
 use Rattle.semantics.specs.Close as closing
 use Rattle.semantics.specs.Close.{fuel, turn, rounds-made, isNone, lastRound, oneMore, roundsFrom, CloseRun, imposedAfter, closeRun, reportOf, close-run}
-use Rattle.semantics.specs.Close.{afterClose}
+use Rattle.semantics.specs.Close.{afterClose, metCauses}
 use Rattle.semantics.specs.Calls as calls
-use Rattle.semantics.specs.Calls.{machine, answers, closed, rule, closeRule, leaves, acceptance, refusal, stepBy, step}
-use Rattle.semantics.proofs.Judged.{close-first}
+use Rattle.semantics.specs.Calls.{machine, answers, closed, rule, closeRule, leaves, acceptance, refusal, step}
+use Rattle.semantics.proofs.Judged.{met-refuses, met-accepts}
 use Rattle.apps.specs.View.{funcAppsOf}
 use Rattle.merging.specs.declared.Core.{Core}
 use Rattle.close.specs.declared.Turn.{Turn}
@@ -133,30 +131,29 @@ module _ (g : Sig) (preds : List PredApp) where
 
 -- A close: r is what the rounds came to, and w what the impositions come to after them.
 
-module _ (g : Sig) (s : model.Structure) (r : closing.Rounds) (w : types.Core)
-    (ran : r ≡ closing.rounds g (s .pred-apps) (s .func-apps) (closing.coreAtStart s)) (imposed : w ≡ imposeAll (s .impositions) (r .core)) where
+pub run-is : (g : Sig) (s : model.Structure) (r : closing.Rounds) (w : types.Core)
+    → r ≡ closing.rounds g (s .pred-apps) (s .func-apps) (closing.coreAtStart s) → w ≡ imposeAll (s .impositions) (r .core)
+    → close-run r w ≡ closeRun g s
+unfolding closeRun imposedAfter
+run-is g s r w ran imposed = (λ i. close-run r (imposed i)) ∙ (λ i. imposedAfter (ran i) s)
+
+-- The call.
+module _ (g : Sig) (s : model.Structure) where
   abbrev run : CloseRun
-  run = close-run r w
+  run = closeRun g s
 
-  run-is : run ≡ closeRun g s
-  unfolding closeRun imposedAfter
-  run-is = (λ i. close-run r (imposed i)) ∙ (λ i. imposedAfter (ran i) s)
-
-  closes : decided (w .met) (refusal (machine g s)) (acceptance (closeRule run (machine g s))) ≡ step calls.close (machine g s)
-  unfolding step stepBy rule closeRule
-  closes =
-      (λ i. decided (sym (close-first run) i) (refusal (machine g s)) (acceptance (closeRule run (machine g s))))
-      ∙ (λ i. stepBy (closeRule (run-is i) (machine g s)) (machine g s))
+  only-met : rule calls.close (machine g s) .causes ≡ metCauses (run .core .met)
+  unfolding rule closeRule
+  only-met = refl
 
   -- a number is met
-  pub refuses : {n : ℕ} → w .met ≡ some n → refusal (machine g s) n ≡ step calls.close (machine g s)
-  refuses e = sym (decided-refuses (refusal (machine g s)) (acceptance (closeRule run (machine g s))) e) ∙ closes
+  pub refuses : {n : ℕ} → run .core .met ≡ some n → refusal (machine g s) n ≡ step calls.close (machine g s)
+  refuses e = sym (met-refuses calls.close (machine g s) (run .core .met) only-met _ e)
 
   -- none is met
-  pub accepts : w .met ≡ none → {a : closing.Closed} {t : model.Structure} → a ≡ reportOf run → t ≡ afterClose run s
+  pub accepts : run .core .met ≡ none → {a : closing.Closed} {t : model.Structure} → a ≡ reportOf run → t ≡ afterClose run s
       → answers (closed a) (machine g (leaves true (closed a) t)) ≡ step calls.close (machine g s)
-  unfolding acceptance closeRule
+  unfolding rule acceptance closeRule
   accepts e p q =
       (λ i. answers (closed (p i)) (machine g (leaves true (closed (p i)) (q i))))
-      ∙ sym (decided-accepts (refusal (machine g s)) (acceptance (closeRule run (machine g s))) e)
-      ∙ closes
+      ∙ sym (met-accepts calls.close (machine g s) (run .core .met) only-met e)

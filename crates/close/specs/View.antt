@@ -3,15 +3,18 @@ use Prim.Native.Nat.{ℕ, suc, _+_, _*_, _≤_}
 use mathlib.Core.Path.{_≡_}
 use mathlib.Core.List.{List}
 use Rattle.signature.specs.Model.{Sig}
-use Rattle.semantics.specs.Structure.{FuncApp, PredApp, maxPairs}
+use Rattle.semantics.specs.Structure.{FuncApp, PredApp, Structure, maxPairs}
 use Rattle.semantics.specs.Close as closing
 use Rattle.semantics.specs.Close.{fuel}
 use Rattle.apps.specs.View.{funcAppsOf}
 use Rattle.merging.specs.declared.Core.{Core}
-use Rattle.merging.specs.View.{coreOf}
+use Rattle.merging.specs.View.{coreOf, metOf}
+use Rattle.semantics.specs.Calls.{close, machine, step}
+use Rattle.structure.specs.View.{closedOf, stepOf}
 use Rattle.typing.specs.Bounds.{allDemands}
 use Rattle.close.specs.declared.Turn.{Turn}
 use Rattle.close.specs.declared.Ran.{Ran}
+use Rattle.close.specs.declared.CloseRun.{CloseRun}
 
 -- How many merges and additions are counted at most, for every structure, so that no count overflows.
 
@@ -35,3 +38,14 @@ pub record RoundsAre (g : Sig) (preds : List PredApp) (apps : List FuncApp) (bef
   pub count-most : r .count ≤ suc fuel
   pub merges-most : r .merges ≤ r .count * oneRound
   pub added-most : r .added ≤ r .count * oneRound
+
+-- the merges of a close are at most this
+abbrev pub oneClose : ℕ
+oneClose = suc (suc fuel) * oneRound
+
+-- what a close comes to
+pub record CloseRunIs (g : Sig) (s : Structure) (r : CloseRun) : Type 0 where
+  pub met : metOf (r .met) ≡ closing.closeRun g s .core .met
+  pub report : closedOf (r .report) ≡ closing.reportOf (closing.closeRun g s)
+  pub step-is : stepOf g (r .stepped) ≡ step close (machine g s)
+  pub merges-most : r .report .merges ≤ oneClose

@@ -20,7 +20,7 @@ ghost use Rattle.merging.specs.View.{coreOf, metOf};
 ghost use Rattle.semantics.specs.Calls as calls;
 ghost use Rattle.semantics.specs.Calls.{machine, step};
 ghost use Rattle.structure.specs.View.{structureOf, stepOf};
-ghost use Rattle.close.specs.View.{RoundIs, RoundsAre};
+ghost use Rattle.close.specs.View.{RoundIs, RoundsAre, CloseRunIs};
 
 // What a round leaves, what it counted, and whether one of its passes reported work.
 pub struct Turn {
@@ -173,9 +173,16 @@ fn with_core(structure: Structure, core: Core, apps: FuncApps) -> Structure
     next
 }
 
-// Kind 13. The number first met refuses, and the structure before the close is handed back.
-pub fn close(structure: Structure, signature: Signature) -> Stepped
-    ensures { λ r. ⌜ stepOf (sigOf signature) r ≡ step calls.close (machine (sigOf signature) (structureOf structure)) ⌝ }
+// A close as a step, with the number first met, 0 for none, and what it reports where none refuses it.
+pub struct CloseRun {
+    pub met: u16,
+    pub report: Closed,
+    pub stepped: Stepped,
+}
+
+// The number first met refuses, and the structure before the close is handed back.
+pub fn close_run(structure: Structure, signature: Signature) -> CloseRun
+    ensures { λ r. ⌜ CloseRunIs (sigOf signature) (structureOf structure) r ⌝ }
 {
     let start = core_of(structure);
     let preds = structure.pred_apps;
@@ -186,19 +193,36 @@ pub fn close(structure: Structure, signature: Signature) -> Stepped
     let rewritten = ran.func_apps;
     let imposed = imposing::apply_pending_type_impositions(reached, impositions);
     let core = imposed.core;
-    let number = core.met;
-    if number != 0 {
-        return structure.refuse(number);
-    }
     let again = 1 < ran.count;
     let grew = counted(imposed.merges, imposed.added);
     let changed = ids::or(again, grew);
     let merges = ran.merges + imposed.merges;
     let rounds = ran.count;
-    let closed = canonicalise_refs(with_core(structure, core, rewritten));
-    closed.accept(Answer::Closed(Closed {
+    let number = core.met;
+    let report = Closed {
         changed,
         merges,
         rounds,
-    }))
+    };
+    if number != 0 {
+        return CloseRun {
+            met: number,
+            report,
+            stepped: structure.refuse(number),
+        };
+    }
+    let closed = canonicalise_refs(with_core(structure, core, rewritten));
+    CloseRun {
+        met: number,
+        report,
+        stepped: closed.accept(Answer::Closed(report)),
+    }
+}
+
+// Kind 13.
+pub fn close(structure: Structure, signature: Signature) -> Stepped
+    ensures { λ r. ⌜ stepOf (sigOf signature) r ≡ step calls.close (machine (sigOf signature) (structureOf structure)) ⌝ }
+{
+    let run = close_run(structure, signature);
+    run.stepped
 }

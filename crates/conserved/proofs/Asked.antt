@@ -30,6 +30,7 @@ use Rattle.structure.proofs.Structure.insert_var_el.Reads as insert-var-el-fn
 use Rattle.structure.proofs.Structure.insert_ambient_model_el.Reads as insert-ambient-fn
 use Rattle.close.proofs.close.Reads as close-fn
 use Rattle.conflicts.proofs.type_conflicts.Reads as type-conflicts-fn
+use Rattle.settle.proofs.settle.Reads as settle-fn
 use Rattle.structure.proofs.Structure.root.Reads as root-fn
 use Rattle.structure.proofs.Structure.root_const.Reads as root-const-fn
 use Rattle.signature.proofs.Signature.lookup_type.Reads as lookup-type-fn
@@ -96,6 +97,9 @@ module _ (s : Structure) (g : Signature) where
 
   pub close-asked : close-fn.Asked tt (s, (g, tt))
   close-asked = tt
+
+  pub settle-asked : settle-fn.Asked tt (s, (g, tt))
+  settle-asked = tt
 
   pub ambient-parents-asked : (ts : TypeIds) → ambient-parents-fn.Asked tt (s, (g, (ts, tt)))
   ambient-parents-asked ts = tt

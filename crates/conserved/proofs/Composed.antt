@@ -10,17 +10,19 @@ use Rattle.signature.specs.Calls.{TypedM}
 use Rattle.semantics.specs.Types.{anyMarked}
 use Rattle.semantics.specs.Close.{Closed}
 use Rattle.semantics.specs.Calls as calls
-use Rattle.semantics.specs.Calls.{Call, Answer, closed, isAccepted, machine, Step, answers, step}
+use Rattle.semantics.specs.Calls.{Call, Totals, Answer, closed, summed, isAccepted, settleRun, machine, Step, answers, step}
 use Rattle.semantics.proofs.Judged.{lookedUp, lookup-steps}
 use Rattle.structure.specs.declared.Machine.{Machine}
-use Rattle.structure.specs.View.{machineOf, Looking}
-use Rattle.history.specs.Book.{Book, blank, History, reached, noted, next, run, history, begin, taken, fed, mergesOf}
-use Rattle.history.specs.Book.{Conserved, Conservation}
-use Rattle.history.proofs.Histories.{history-goes-on}
+use Rattle.structure.specs.View.{structureOf, machineOf, Looking}
+use Rattle.history.specs.Book.{Book, blank, History, reached, noted, next, run, history, begin, fed, mergesOf}
+use Rattle.history.specs.Book.{RanCloses, closes, settles, Conserved, Conservation}
+use Rattle.validity.proofs.Calls.{ValidMachine}
+use Rattle.history.proofs.Settling.{SettleEnds, settle-ends}
+use Rattle.history.proofs.Histories.{history-valid, history-goes-on}
 use Rattle.history.proofs.Conservation.{conservation}
 use Rattle.conserved.specs.Run.{Made, push-type, push-pred, push-func, push-model, push-mor-app-func, push-el}
 use Rattle.conserved.specs.Run.{equate, impose-type, insert-func-app-or-equate, insert-pred-app, insert-var-el}
-use Rattle.conserved.specs.Run.{insert-ambient-model-el, close, type-conflicts, root, root-const, lookup-type, ambient-parents, Run}
+use Rattle.conserved.specs.Run.{insert-ambient-model-el, close, type-conflicts, settle, root, root-const, lookup-type, ambient-parents, Run}
 use Rattle.conserved.specs.Run.{none, more, Fresh}
 
 -- a call that was made is a step of the definitions
@@ -39,6 +41,7 @@ made-step {v} (insert-var-el x r e) = e (sigOf (v .signature))
 made-step (insert-ambient-model-el x r e) = e
 made-step (close r e) = e
 made-step {v} (type-conflicts r e) = ap (λ (h : Handed Step). h .given) (e (sigOf (v .signature)))
+made-step (settle r e) = e
 made-step {v} (root x r e) = e (sigOf (v .signature))
 made-step {v} (root-const x r e) = e (sigOf (v .signature))
 made-step {v} (lookup-type t ps r e) = ap (λ (x : Answered TypedM). answers (lookedUp (givenEls ps) x) (machineOf v)) e ∙ lookup-steps (machineOf v) (t .0) (givenEls ps)
@@ -62,17 +65,34 @@ pub run-history : {v z : Machine} {d : Book} {ks : List Call} → Fresh v → Ru
 unfolding history begin calls.start
 run-history {ks = ks} f r = run-comes r ∙ ap (λ (m : calls.Machine). run ks (reached m blank)) (λ i. machine (f .sig i) (f .str i))
 
--- For every list of calls that the code makes from fresh values, and every close after it that is accepted, with no element marked up to then:
--- what `Conserved` says of the book and of the links of the structure that this close hands back.
-pub code-conserves : {v w z : Machine} {d : Book} {before : List Call} {c : Closed} → Fresh v → Run v blank before w d → Made w calls.close (closed c) z
-    → anyMarked (d .marks) ≡ false → Conserved (fed calls.close true (c .merges) d) (linksOf (z .structure .unification)) c
-unfolding fed taken isAccepted mergesOf run Conservation
-code-conserves {w = w} {z = z} {d = d} {before = before} {c = c} f r m unmarked =
+-- an accepted close, and an accepted settle, ran closes
+module _ {w z : Machine} where
+  pub close-ran : {c : Closed} → Made w calls.close (closed c) z → RanCloses (machineOf w) calls.close (c ∷ [])
+  close-ran m = closes (sym (ap (λ (s : Step). s .answer) (made-step m)))
+
+  pub settle-ran : {t : Totals} → Made w calls.settle (summed t) z
+      → RanCloses (machineOf w) calls.settle (settleRun (sigOf (w .signature)) (structureOf (w .structure)) .reports)
+  settle-ran m = settles (sym (ap (λ (s : Step). s .answer) (made-step m)))
+
+-- For every list of calls that the code makes from fresh values, and every close or settle after it that is accepted, with no element marked up to
+-- then: what `Conserved` says of the book, of the links of the structure that this call hands back, and of the answers of the closes that it ran.
+pub code-conserves : {v w z : Machine} {d : Book} {before : List Call} {k : Call} {a : Answer} {cs : List Closed} → Fresh v → Run v blank before w d
+    → Made w k a z → RanCloses (machineOf w) k cs → anyMarked (fed k (isAccepted a) (mergesOf a) d .marks) ≡ false
+    → Conserved (fed k (isAccepted a) (mergesOf a) d) (linksOf (z .structure .unification)) cs
+unfolding run Conservation
+code-conserves {w = w} {z = z} {d = d} {before = before} {k = k} {a = a} {cs = cs} f r m ran unmarked =
     let was : come w d ≡ history before = run-history f r in
-    let comes : come z (fed calls.close true (c .merges) d) ≡ history (before ++ (calls.close ∷ [])) =
-    made-next d m ∙ ap (next calls.close) was ∙ sym (history-goes-on before (calls.close ∷ [])) in
-    let reports : step calls.close (history before .machine) .answer ≡ closed c =
-    ap (λ (h : History). step calls.close (h .machine) .answer) (sym was) ∙ sym (ap (λ (s : Step). s .answer) (made-step m)) in
-    let plain : anyMarked (history (before ++ (calls.close ∷ [])) .book .marks) ≡ false =
-    ap (λ (h : History). anyMarked (h .book .marks)) (sym comes) ∙ unmarked in
-    subst (λ (h : History). Conserved (h .book) (h .machine .structure .links) c) (sym comes) (conservation before c reports plain)
+    let comes : come z (fed k (isAccepted a) (mergesOf a) d) ≡ history (before ++ (k ∷ [])) =
+    made-next d m ∙ ap (next k) was ∙ sym (history-goes-on before (k ∷ [])) in
+    subst (λ (h : History). Conserved (h .book) (h .machine .structure .links) cs) (sym comes)
+    (conservation before k cs (subst (λ (h : History). RanCloses (h .machine) k cs) was ran)
+    (ap (λ (h : History). anyMarked (h .book .marks)) (sym comes) ∙ unmarked))
+
+-- For every list of calls that the code makes from fresh values, marks or not, and every settle after it that is accepted: it ran at most one close
+-- more than there are elements, its last close reported no change, and the structure that it hands back is settled.
+pub code-settles : {v w z : Machine} {d : Book} {before : List Call} {t : Totals} → Fresh v → Run v blank before w d
+    → Made w calls.settle (summed t) z → SettleEnds (machineOf w) t × (structureOf (z .structure) .settled ≡ true)
+code-settles {w = w} {before = before} {t = t} f r m =
+    let valid = subst (λ (h : History). ValidMachine (h .machine)) (sym (run-history f r)) (history-valid before .valid) in
+    let ends = settle-ends (machineOf w) valid t (sym (ap (λ (s : Step). s .answer) (made-step m))) in
+    (ends, ap (λ (s : Step). s .after .structure .settled) (made-step m) ∙ ends .settled)

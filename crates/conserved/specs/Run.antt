@@ -51,6 +51,7 @@ use Rattle.structure.proofs.Structure.insert_var_el.Reads as insert-var-el-fn
 use Rattle.structure.proofs.Structure.insert_ambient_model_el.Reads as insert-ambient-fn
 use Rattle.close.proofs.close.Reads as close-fn
 use Rattle.conflicts.proofs.type_conflicts.Reads as type-conflicts-fn
+use Rattle.settle.proofs.settle.Reads as settle-fn
 use Rattle.structure.proofs.Structure.root.Reads as root-fn
 use Rattle.structure.proofs.Structure.root_const.Reads as root-const-fn
 use Rattle.signature.proofs.Signature.lookup_type.Reads as lookup-type-fn
@@ -103,6 +104,8 @@ pub data Made (v : Machine) : Call → Answer → Machine → Type 0 where
       → Made v calls.close (answerOf [] (r .answer)) (with-structure (r .structure) v)
   type-conflicts : (r : Conflicting) → type-conflicts-fn.Learnt tt (v .structure, tt) r (v .structure, tt)
       → Made v calls.type-conflicts (conflicting (givenConflicts (r .conflicts))) (with-structure (r .structure) v)
+  settle : (r : Stepped) → settle-fn.Learnt tt (v .structure, (v .signature, tt)) r (v .structure, (v .signature, tt))
+      → Made v calls.settle (answerOf [] (r .answer)) (with-structure (r .structure) v)
   root : (e : ElId) (r : Rooting) → root-fn.Learnt tt (one v e) r (one v e)
       → Made v (calls.root (e .0)) (foundOf (r .find)) (with-structure (r .structure) v)
   root-const : (e : ElId) (r : Finding) → root-const-fn.Learnt tt (one v e) r (one v e)

@@ -80,7 +80,7 @@ fn model_ids_are_declared(signature: Signature, ids: ModelIds) -> bool
     ids::and(signature.is_type(ids.type_), known)
 }
 
-// Kind 1. `started` says that a call of kinds 6 to 14 was accepted.
+// Kind 1. `started` says that a call of kinds 6 to 15 was accepted.
 pub fn push_type(signature: Signature, started: bool, t: Type) -> Declaring
     ensures { λ r. ⌜ declared r ≡ pushType started (sigOf signature) (givenType t) ⌝ }
 {

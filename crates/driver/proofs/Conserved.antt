@@ -3,26 +3,34 @@ use Prim.Native.Nat.{ℕ, zero, suc}
 use mathlib.Core.Path.{_≡_, refl, sym, ap, _∙_, subst}
 use mathlib.Core.List.{List, [], _∷_, _++_}
 use mathlib.Core.Option.{Option, none, some}
-use mathlib.Core.Bool.{Bool, true, false}
-use native.Mathlib.Omega.{arith}
+use mathlib.Core.Bool.{true, false}
 use contract.Lifetimes.{Lfts}
 use denote.Ref.{now}
-use Rattle.ids.proofs.Sorted.{no-test}
+use Rattle.ids.specs.Ids.{givenEls}
 use Rattle.unification.specs.Roots.{linksOf}
+use Rattle.signature.specs.declared.Signature.{Signature}
 use Rattle.signature.specs.Model.{sigOf}
 use Rattle.semantics.specs.Types.{anyMarked}
 use Rattle.semantics.specs.Close.{Closed}
 use Rattle.semantics.specs.Calls as calls
-use Rattle.semantics.specs.Calls.{Call, Answer, number, says, done, closed, conflicting, found, typed, els, refuse, isAccepted, Machine, Step}
-use Rattle.semantics.specs.Calls.{answers, start, rule, equalityRule, impositionRule, applicationRule, closeRule, acceptance, step}
+use Rattle.semantics.specs.Calls.{Call, Totals, Answer, number, says, done, closed, conflicting, summed, found, typed, els, refuse, isAccepted}
+use Rattle.semantics.specs.Calls.{Machine, Step, answers, settleRun, sumsOf, start, rule, equalityRule, impositionRule, applicationRule}
+use Rattle.semantics.specs.Calls.{closeRule, settleRule, acceptance, step}
 use Rattle.semantics.specs.Sheet.{recordAt, carryOut}
+use Rattle.semantics.proofs.Cases.{none-some}
 use Rattle.semantics.proofs.Judged.{accepted-leaves}
+use Rattle.semantics.proofs.Settling.{settle-totals}
+use Rattle.structure.specs.declared.Answer as code-answer
 use Rattle.structure.specs.declared.Answer.the-variants as answer
 use Rattle.structure.specs.declared.Closed as code
+use Rattle.structure.specs.declared.Totals as code-totals
+use Rattle.structure.specs.declared.Structure.{Structure}
 use Rattle.structure.specs.declared.Stepped.{Stepped}
-use Rattle.structure.specs.View.{closedOf, answerOf, stepOf}
+use Rattle.structure.specs.View.{structureOf, machineOf, closedOf, totalsOf, answerOf, stepOf}
+use Rattle.conflicts.specs.View.{conflictsOf}
 use Rattle.close.proofs.close.Reads as close-fn
-use Rattle.history.specs.Book.{History, history, Conserved, Conservation, next, noted}
+use Rattle.settle.proofs.settle.Reads as settle-fn
+use Rattle.history.specs.Book.{History, history, RanCloses, closes, settles, Conserved, Conservation, next, noted}
 use Rattle.history.proofs.Histories.{history-next}
 use Rattle.history.proofs.Conservation.{conservation}
 use Rattle.driver.specs.Calls.{listCallOf, wholeRecords, callList, callsBefore, callsIn, lastAnswer, listBefore}
@@ -32,71 +40,109 @@ use Rattle.driver.specs.declared.Responded.{Responded}
 use Rattle.driver.proofs.Laws.{after-history}
 use Rattle.driver.proofs.run.Reads as run-fn
 
--- Only a close answers as a close does.
+-- Only a close answers as a close does, and only a settle as a settle does.
 
-isClosed : Answer → Bool
-isClosed (closed c) = true
-isClosed (number n) = false
-isClosed (says b) = false
-isClosed done = false
-isClosed (conflicting cs) = false
-isClosed (found f) = false
-isClosed (typed t) = false
-isClosed (els es) = false
-isClosed (refuse n) = false
+-- the call that answers so, where it is one that closes
+closingCall : Answer → Option Call
+closingCall (closed c) = some calls.close
+closingCall (summed t) = some calls.settle
+closingCall (number n) = none
+closingCall (says b) = none
+closingCall done = none
+closingCall (conflicting cs) = none
+closingCall (found f) = none
+closingCall (typed t) = none
+closingCall (els es) = none
+closingCall (refuse n) = none
 
-other : {a : Answer} {c : Closed} → isClosed a ≡ false → a ≡ closed c → ⊥
-unfolding isClosed
-other f e = no-test (ap isClosed e) f
+closing-effect : (k : Call) (m : Machine) (j : Call) → closingCall (rule k m .answer) ≡ some j → k ≡ j
+unfolding rule equalityRule impositionRule applicationRule closeRule settleRule closingCall
+closing-effect (calls.push-type t) m j e = none-some e
+closing-effect (calls.push-pred p) m j e = none-some e
+closing-effect (calls.push-func f) m j e = none-some e
+closing-effect (calls.push-model x) m j e = none-some e
+closing-effect (calls.push-mor-app x) m j e = none-some e
+closing-effect (calls.push-el mark) m j e = none-some e
+closing-effect (calls.equate-els a b) m j e = none-some e
+closing-effect (calls.impose-type f) m j e = none-some e
+closing-effect (calls.apply-func x) m j e = none-some e
+closing-effect (calls.apply-pred x) m j e = none-some e
+closing-effect (calls.bind-var v) m j e = none-some e
+closing-effect (calls.bind-ambient a) m j e = none-some e
+closing-effect calls.close m j e = cc
+closing-effect calls.type-conflicts m j e = none-some e
+closing-effect calls.settle m j e = cc
+closing-effect (calls.root x) m j e = none-some e
+closing-effect (calls.root-const x) m j e = none-some e
+closing-effect (calls.lookup-type t ps) m j e = none-some e
+closing-effect (calls.ambient-parents ts) m j e = none-some e
 
-closed-effect : (k : Call) (m : Machine) (c : Closed) → rule k m .answer ≡ closed c → k ≡ calls.close
-unfolding rule equalityRule impositionRule applicationRule closeRule isClosed
-closed-effect (calls.push-type t) m c e = absurd (other refl e)
-closed-effect (calls.push-pred p) m c e = absurd (other refl e)
-closed-effect (calls.push-func f) m c e = absurd (other refl e)
-closed-effect (calls.push-model x) m c e = absurd (other refl e)
-closed-effect (calls.push-mor-app x) m c e = absurd (other refl e)
-closed-effect (calls.push-el mark) m c e = absurd (other refl e)
-closed-effect (calls.equate-els a b) m c e = absurd (other refl e)
-closed-effect (calls.impose-type f) m c e = absurd (other refl e)
-closed-effect (calls.apply-func x) m c e = absurd (other refl e)
-closed-effect (calls.apply-pred x) m c e = absurd (other refl e)
-closed-effect (calls.bind-var v) m c e = absurd (other refl e)
-closed-effect (calls.bind-ambient a) m c e = absurd (other refl e)
-closed-effect calls.close m c e = refl
-closed-effect calls.type-conflicts m c e = absurd (other refl e)
-closed-effect (calls.root x) m c e = absurd (other refl e)
-closed-effect (calls.root-const x) m c e = absurd (other refl e)
-closed-effect (calls.lookup-type t ps) m c e = absurd (other refl e)
-closed-effect (calls.ambient-parents ts) m c e = absurd (other refl e)
+-- an answer of a call that closes is no refusal
+closing-accepted : (a : Answer) (j : Call) → closingCall a ≡ some j → isAccepted a ≡ true
+unfolding closingCall isAccepted
+closing-accepted (closed c) j e = refl
+closing-accepted (summed t) j e = refl
+closing-accepted (number n) j e = refl
+closing-accepted (says b) j e = refl
+closing-accepted done j e = refl
+closing-accepted (conflicting cs) j e = refl
+closing-accepted (found f) j e = refl
+closing-accepted (typed t) j e = refl
+closing-accepted (els es) j e = refl
+closing-accepted (refuse n) j e = none-some e
 
-pub closed-call : (k : Call) (m : Machine) (c : Closed) → step k m .answer ≡ closed c → k ≡ calls.close
-unfolding acceptance isAccepted
-closed-call k m c e =
-    let leaves : step k m ≡ acceptance (rule k m) = accepted-leaves k m (ap isAccepted e) .1 in
-    closed-effect k m c (ap (λ (s : Step). s .answer) (sym leaves) ∙ e)
+closing-call : (k : Call) (m : Machine) (j : Call) → closingCall (step k m .answer) ≡ some j → k ≡ j
+unfolding acceptance
+closing-call k m j e =
+    let leaves : step k m ≡ acceptance (rule k m) = accepted-leaves k m (closing-accepted (step k m .answer) j e) .1 in
+    closing-effect k m j (ap (λ (s : Step). closingCall (s .answer)) (sym leaves) ∙ e)
 
--- a list of calls ends in a close that is accepted with c
-pub record Ends (ks : List Call) (c : Closed) : Type 0 where
+-- a list of calls ends in a close or settle that is accepted, whose closes answered cs
+pub record Ends (ks : List Call) (cs : List Closed) : Type 0 where
   pub before : List Call
-  pub is : ks ≡ before ++ (calls.close ∷ [])
-  pub answers : step calls.close (history before .machine) .answer ≡ closed c
+  pub call : Call
+  pub is : ks ≡ before ++ (call ∷ [])
+  pub ran : RanCloses (history before .machine) call cs
 
--- where the last record answers as an accepted close does, the list ends in one
-pub ends-closed : (bytes : List ℕ) (n : ℕ) (c : Closed) → lastAnswer start bytes n ≡ closed c → Ends (callsBefore bytes n) c
-unfolding lastAnswer callsBefore carryOut callList
-ends-closed bytes zero c e = let z : _≡_ {A = ℕ} 0 1 = cc in absurd (omega arith)
-ends-closed bytes (suc n) c e =
-    go (listCallOf (recordAt bytes n)) (subst (λ (m : Machine). carryOut (listCallOf (recordAt bytes n)) m .answer ≡ closed c) (after-history (callsBefore bytes n)) e) where
-      go : (o : Option Call) → carryOut o (history (callsBefore bytes n) .machine) .answer ≡ closed c → Ends (callsBefore bytes n ++ callList o) c
-      go none e = let z : _≡_ {A = ℕ} 0 1 = cc in absurd (omega arith)
-      go (some k) e =
-          let is-close : k ≡ calls.close = closed-call k (history (callsBefore bytes n) .machine) c e in
-          record {
-            before = callsBefore bytes n;
-            is = ap (λ (x : Call). callsBefore bytes n ++ (x ∷ [])) is-close;
-            answers = subst (λ (x : Call). step x (history (callsBefore bytes n) .machine) .answer ≡ closed c) is-close e;
-          }
+-- where the last record answers as such a call does, the list ends in one
+record LastCall (bytes : List ℕ) (n : ℕ) (j : Call) : Type 0 where
+  before : List Call
+  is : callsBefore bytes n ≡ before ++ (j ∷ [])
+  answers : step j (history before .machine) .answer ≡ lastAnswer start bytes n
+
+last-call : (bytes : List ℕ) (n : ℕ) (j : Call) → closingCall (lastAnswer start bytes n) ≡ some j → LastCall bytes n j
+unfolding lastAnswer callsBefore carryOut callList closingCall
+last-call bytes zero j e = none-some e
+last-call bytes (suc n) j e =
+    go (listCallOf (recordAt bytes n)) refl (sym (ap closingCall after) ∙ e)
+  where
+    after : lastAnswer start bytes (suc n) ≡ carryOut (listCallOf (recordAt bytes n)) (history (callsBefore bytes n) .machine) .answer
+    after = ap (λ (m : Machine). carryOut (listCallOf (recordAt bytes n)) m .answer) (after-history (callsBefore bytes n))
+
+    go : (o : Option Call) → listCallOf (recordAt bytes n) ≡ o → closingCall (carryOut o (history (callsBefore bytes n) .machine) .answer) ≡ some j
+        → LastCall bytes (suc n) j
+    go none q e = none-some e
+    go (some k) q e =
+        let is-j : k ≡ j = closing-call k (history (callsBefore bytes n) .machine) j e in
+        record {
+          before = callsBefore bytes n;
+          is = ap (λ (x : Option Call). callsBefore bytes n ++ callList x) (q ∙ ap some is-j);
+          answers = sym (after ∙ ap (λ (x : Option Call). carryOut x (history (callsBefore bytes n) .machine) .answer) (q ∙ ap some is-j));
+        }
+
+pub ends-closed : (bytes : List ℕ) (n : ℕ) (c : Closed) → lastAnswer start bytes n ≡ closed c → Ends (callsBefore bytes n) (c ∷ [])
+unfolding closingCall
+ends-closed bytes n c e =
+    let l = last-call bytes n calls.close (ap closingCall e) in
+    record { before = l .before; call = calls.close; is = l .is; ran = closes (l .answers ∙ e) }
+
+pub ends-settled : (bytes : List ℕ) (n : ℕ) (t : Totals) → lastAnswer start bytes n ≡ summed t
+    → (cs : List Closed) × Ends (callsBefore bytes n) cs × (t ≡ sumsOf cs)
+unfolding closingCall
+ends-settled bytes n t e =
+    let l = last-call bytes n calls.settle (ap closingCall e) in
+    let m = history (l .before) .machine in
+    (settleRun (m .sig) (m .structure) .reports, record { before = l .before; call = calls.settle; is = l .is; ran = settles (l .answers ∙ e) }, settle-totals m t (l .answers ∙ e))
 
 -- `run` asks nothing of the bytes
 pub run-asked : (κs : Lfts 1) (bytes : _) → run-fn.Asked κs (bytes, tt)
@@ -109,38 +155,62 @@ module _ (κs : Lfts 1) (bytes : _) (r : Responded) (ran : run-fn.Learnt κs (by
       ap (λ (x : RespondedM). x .step) ran
       ∙ ap (answers (lastAnswer start (now bytes) (wholeRecords (now bytes)))) (after-history (callsIn (now bytes)))
 
-  -- For every slice of bytes whose calls end in a close that is accepted, with no element marked up to then:
-  -- what `Conserved` says of the book of these calls and of the links of the machine that `run` hands back.
-  pub run-conserves : (c : Closed) → Ends (callsIn (now bytes)) c → anyMarked (history (callsIn (now bytes)) .book .marks) ≡ false
-      → Conserved (history (callsIn (now bytes)) .book) (linksOf (r .machine .structure .unification)) c
+  -- For every slice of bytes whose calls end in a close or settle that is accepted, with no element marked up to then: what `Conserved` says of the
+  -- book of these calls, of the links of the machine that `run` hands back, and of the answers of the closes that the last call ran.
+  pub run-conserves : (cs : List Closed) → Ends (callsIn (now bytes)) cs → anyMarked (history (callsIn (now bytes)) .book .marks) ≡ false
+      → Conserved (history (callsIn (now bytes)) .book) (linksOf (r .machine .structure .unification)) cs
   unfolding Conservation
-  run-conserves c e unmarked =
+  run-conserves cs e unmarked =
       let ks = callsIn (now bytes) in
-      let whole : Conserved (history ks .book) (history ks .machine .structure .links) c =
-      subst (λ (l : List Call). Conserved (history l .book) (history l .machine .structure .links) c) (sym (e .is))
-      (conservation (e .before) c (e .answers) (subst (λ (l : List Call). anyMarked (history l .book .marks) ≡ false) (e .is) unmarked)) in
-      subst (λ (l : List ℕ). Conserved (history ks .book) l c) (ap (λ (s : Step). s .after .structure .links) (sym stepped)) whole
+      let whole : Conserved (history ks .book) (history ks .machine .structure .links) cs =
+      subst (λ (l : List Call). Conserved (history l .book) (history l .machine .structure .links) cs) (sym (e .is))
+      (conservation (e .before) (e .call) cs (e .ran) (subst (λ (l : List Call). anyMarked (history l .book .marks) ≡ false) (e .is) unmarked)) in
+      subst (λ (l : List ℕ). Conserved (history ks .book) l cs) (ap (λ (s : Step). s .after .structure .links) (sym stepped)) whole
 
-  -- The same by what `run` answers: that the last record was a close that was accepted.
+  -- what `run` answers is the last answer
+  answered : {a : code-answer.Answer} → r .response ≡ response.Answered a → lastAnswer start (now bytes) (wholeRecords (now bytes)) ≡ answerOf (conflictsOf (r .conflicts)) a
+  answered e = ap (λ (s : Step). s .answer) (sym stepped) ∙ ap (responseOf (conflictsOf (r .conflicts)) (givenEls (r .els))) e
+
+  -- The same by what `run` answers: that the last record was an accepted close or settle.
+
   pub run-closed-conserves : (c : code.Closed) → r .response ≡ response.Answered (answer.Closed c)
       → anyMarked (history (callsIn (now bytes)) .book .marks) ≡ false
-      → Conserved (history (callsIn (now bytes)) .book) (linksOf (r .machine .structure .unification)) (closedOf c)
-  run-closed-conserves c e unmarked =
-      run-conserves (closedOf c) (ends-closed (now bytes) (wholeRecords (now bytes)) (closedOf c)
-      (ap (λ (s : Step). s .answer) (sym stepped) ∙ ap (responseOf _ _) e)) unmarked
+      → Conserved (history (callsIn (now bytes)) .book) (linksOf (r .machine .structure .unification)) (closedOf c ∷ [])
+  run-closed-conserves c e = run-conserves (closedOf c ∷ []) (ends-closed (now bytes) (wholeRecords (now bytes)) (closedOf c) (answered e))
 
-  -- The same of a `close` of the machine that `run` hands back, by that function's own contract.
-  pub run-then-close-conserves : (z : Stepped) (c : Closed)
-      → close-fn.Learnt tt (r .machine .structure, (r .machine .signature, tt)) z (r .machine .structure, (r .machine .signature, tt))
-      → answerOf [] (z .answer) ≡ closed c
-      → anyMarked (history (callsIn (now bytes) ++ (calls.close ∷ [])) .book .marks) ≡ false
-      → Conserved (history (callsIn (now bytes) ++ (calls.close ∷ [])) .book) (linksOf (z .structure .unification)) c
+  pub run-settled-conserves : (t : code-totals.Totals) → r .response ≡ response.Answered (answer.Summed t)
+      → anyMarked (history (callsIn (now bytes)) .book .marks) ≡ false
+      → (cs : List Closed) × Ends (callsIn (now bytes)) cs × (totalsOf t ≡ sumsOf cs)
+      × Conserved (history (callsIn (now bytes)) .book) (linksOf (r .machine .structure .unification)) cs
+  run-settled-conserves t e unmarked =
+      let s = ends-settled (now bytes) (wholeRecords (now bytes)) (totalsOf t) (answered e) in
+      (s .0, s .1, s .2, run-conserves (s .0) (s .1) unmarked)
+
+  -- The same of a close or settle of the machine that `run` hands back, by that function's own contract.
+
+  then-conserves : (k : Call) (cs : List Closed) (z : Stepped) → stepOf (sigOf (r .machine .signature)) z ≡ step k (machineOf (r .machine))
+      → RanCloses (machineOf (r .machine)) k cs → anyMarked (history (callsIn (now bytes) ++ (k ∷ [])) .book .marks) ≡ false
+      → Conserved (history (callsIn (now bytes) ++ (k ∷ [])) .book) (linksOf (z .structure .unification)) cs
   unfolding Conservation next noted
-  run-then-close-conserves z c did ok unmarked =
+  then-conserves k cs z did ran unmarked =
       let ks = callsIn (now bytes) in
-      let made : step calls.close (history ks .machine) ≡ stepOf (sigOf (r .machine .signature)) z =
-      sym (did ∙ ap (λ (s : Step). step calls.close (s .after)) stepped) in
-      let links : history (ks ++ (calls.close ∷ [])) .machine .structure .links ≡ linksOf (z .structure .unification) =
-      ap (λ (h : History). h .machine .structure .links) (history-next ks calls.close) ∙ ap (λ (s : Step). s .after .structure .links) made in
-      subst (λ (l : List ℕ). Conserved (history (ks ++ (calls.close ∷ [])) .book) l c) links
-      (conservation ks c (ap (λ (s : Step). s .answer) made ∙ ok) unmarked)
+      let was : machineOf (r .machine) ≡ history ks .machine = ap (λ (s : Step). s .after) stepped in
+      let links : history (ks ++ (k ∷ [])) .machine .structure .links ≡ linksOf (z .structure .unification) =
+      ap (λ (h : History). h .machine .structure .links) (history-next ks k)
+      ∙ ap (λ (s : Step). s .after .structure .links) (sym (did ∙ ap (step k) was)) in
+      subst (λ (l : List ℕ). Conserved (history (ks ++ (k ∷ [])) .book) l cs) links
+      (conservation ks k cs (subst (λ (m : Machine). RanCloses m k cs) was ran) unmarked)
+
+  abbrev given : Structure × (Signature × Unit {0})
+  given = (r .machine .structure, (r .machine .signature, tt))
+
+  pub run-then-close-conserves : (z : Stepped) (c : Closed) → close-fn.Learnt tt given z given → answerOf [] (z .answer) ≡ closed c
+      → anyMarked (history (callsIn (now bytes) ++ (calls.close ∷ [])) .book .marks) ≡ false
+      → Conserved (history (callsIn (now bytes) ++ (calls.close ∷ [])) .book) (linksOf (z .structure .unification)) (c ∷ [])
+  run-then-close-conserves z c did ok = then-conserves calls.close (c ∷ []) z did (closes (ap (λ (s : Step). s .answer) (sym did) ∙ ok))
+
+  pub run-then-settle-conserves : (z : Stepped) (t : Totals) → settle-fn.Learnt tt given z given → answerOf [] (z .answer) ≡ summed t
+      → anyMarked (history (callsIn (now bytes) ++ (calls.settle ∷ [])) .book .marks) ≡ false
+      → Conserved (history (callsIn (now bytes) ++ (calls.settle ∷ [])) .book) (linksOf (z .structure .unification))
+      (settleRun (sigOf (r .machine .signature)) (structureOf (r .machine .structure)) .reports)
+  run-then-settle-conserves z t did ok = then-conserves calls.settle _ z did (settles (ap (λ (s : Step). s .answer) (sym did) ∙ ok))

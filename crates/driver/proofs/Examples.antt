@@ -1,4 +1,4 @@
--- A list of calls as bytes for which each hypothesis of `run-conserves` holds, computed: the example of oracle/FORMAT.md with a record that is no call, a find, a refused find and bytes that are no whole record.
+-- Lists of calls as bytes, one that ends in a close and one that ends in a settle, for which each hypothesis of `run-conserves` holds, computed: the example of oracle/FORMAT.md with a record that is no call, a find, a refused find and bytes that are no whole record.
 use Prim.Native.Nat.{ℕ, zero, suc}
 use mathlib.Core.Path.{_≡_, refl, subst, sym}
 use mathlib.Core.Bool.{true, false}
@@ -9,10 +9,10 @@ use Rattle.ids.specs.Ids.{padded}
 use Rattle.unification.specs.Roots.{linksOf}
 use Rattle.semantics.specs.Types.{anyMarked}
 use Rattle.semantics.specs.Close.{Closed, report}
-use Rattle.semantics.specs.Calls.{push-el, equate-els, root, close, closed, isAccepted}
+use Rattle.semantics.specs.Calls.{Call, push-el, equate-els, root, close, settle, totals, Answer, closed, summed, isAccepted}
 use Rattle.semantics.proofs.Computes.{everything}
 use Rattle.history.specs.Book as book
-use Rattle.history.specs.Book.{history, Conserved}
+use Rattle.history.specs.Book.{history, closes, settles, Conserved}
 use Rattle.driver.specs.Calls.{rootKind, callAt, callList, callsBefore, callsIn, lastAnswer, listBefore, runList}
 use Rattle.driver.specs.declared.Responded.{Responded}
 use Rattle.driver.proofs.run.Reads as run-fn
@@ -26,51 +26,62 @@ zeros (suc n) = 0 ∷ zeros n
 abbrev recorded : ℕ → ℕ → ℕ → List ℕ → List ℕ
 recorded kind a b rest = 0 ∷ 0 ∷ kind ∷ 0 ∷ a ∷ 0 ∷ b ∷ 0 ∷ (zeros 24 ++ rest)
 
--- two elements; a kind that there is none of; the equality of both; the root of 1; that of 9, which is no element; a close; three bytes
-unfoldable pub worked : List ℕ
-worked =
+-- two elements; a kind that there is none of; the equality of both; the root of 1; that of 9, which is no element; a record of the kind that is
+-- given; three bytes
+unfoldable pub worked : ℕ → List ℕ
+worked kind =
     recorded 6 0 0
     (recorded 6 0 0
     (recorded 0 0 0
     (recorded 7 0 1
     (recorded rootKind 1 0
     (recorded rootKind 9 0
-    (recorded 13 0 0 (1 ∷ 2 ∷ 3 ∷ [])))))))
+    (recorded kind 0 0 (1 ∷ 2 ∷ 3 ∷ [])))))))
 
 -- the definitions that a list of bytes computes with
 computed : ℕ
 unfolding everything anyMarked isAccepted worked zeros callAt callList callsBefore lastAnswer listBefore padded book.blank book.taken book.fed book.mergesOf book.noted book.next book.run book.begin book.history
 computed = 0
 
--- the calls that it is
-pub worked-calls : callsIn worked ≡ push-el false ∷ push-el false ∷ equate-els 0 1 ∷ root 1 ∷ root 9 ∷ close ∷ []
-unfolding computed
-worked-calls = refl
+-- the calls before the last
+abbrev pub first : List Call
+first = push-el false ∷ push-el false ∷ equate-els 0 1 ∷ root 1 ∷ root 9 ∷ []
 
--- "close 1 1 2"
-abbrev answered : Closed
-answered = report true 1 2
+-- the list with a record of some kind at its end: the call that this is, what it answers, and the answers of the closes that it runs
+pub record Worked (kind : ℕ) (k : Call) (a : Answer) (cs : List Closed) : Type 0 where
+  pub calls : callsIn (worked kind) ≡ first ++ (k ∷ [])
+  pub answers : runList (worked kind) .answer ≡ a
+  pub links : runList (worked kind) .after .structure .links ≡ 0 ∷ 0 ∷ []
+  pub ends : Ends (callsIn (worked kind)) cs
+  pub unmarked : anyMarked (history (callsIn (worked kind)) .book .marks) ≡ false
 
-pub worked-answers : runList worked .answer ≡ closed answered
+-- a close: "close 1 1 2"
+pub with-close : Worked 13 close (closed (report true 1 2)) (report true 1 2 ∷ [])
 unfolding computed
-worked-answers = refl
+with-close = record {
+  calls = refl;
+  answers = refl;
+  links = refl;
+  ends = record { before = first; call = close; is = refl; ran = closes refl };
+  unmarked = refl;
+}
 
-pub worked-links : runList worked .after .structure .links ≡ 0 ∷ 0 ∷ []
+-- a settle: "settle 2 1", whose closes are "close 1 1 2" and "close 0 0 1"
+pub with-settle : Worked 15 settle (summed (totals 2 1)) (report true 1 2 ∷ report false 0 1 ∷ [])
 unfolding computed
-worked-links = refl
-
-pub worked-ends : Ends (callsIn worked) answered
-unfolding computed
-worked-ends = record { before = push-el false ∷ push-el false ∷ equate-els 0 1 ∷ root 1 ∷ root 9 ∷ []; is = refl; answers = refl }
-
-pub worked-unmarked : anyMarked (history (callsIn worked) .book .marks) ≡ false
-unfolding computed
-worked-unmarked = refl
+with-settle = record {
+  calls = refl;
+  answers = refl;
+  links = refl;
+  ends = record { before = first; call = settle; is = refl; ran = settles refl };
+  unmarked = refl;
+}
 
 -- so the rule holds of what `run` hands back for these bytes
-pub worked-conserved : (κs : Lfts 1) (bytes : _) (r : Responded) → run-fn.Learnt κs (bytes, tt) r (bytes, tt) → now bytes ≡ worked
-    → Conserved (history (callsIn worked) .book) (linksOf (r .machine .structure .unification)) answered
-worked-conserved κs bytes r ran e =
-    subst (λ (l : List ℕ). Conserved (history (callsIn l) .book) (linksOf (r .machine .structure .unification)) answered) e
-    (run-conserves κs bytes r ran answered (subst (λ (l : List ℕ). Ends (callsIn l) answered) (sym e) worked-ends)
-    (subst (λ (l : List ℕ). anyMarked (history (callsIn l) .book .marks) ≡ false) (sym e) worked-unmarked))
+pub worked-conserved : {kind : ℕ} {k : Call} {a : Answer} {cs : List Closed} → Worked kind k a cs
+    → (κs : Lfts 1) (bytes : _) (r : Responded) → run-fn.Learnt κs (bytes, tt) r (bytes, tt) → now bytes ≡ worked kind
+    → Conserved (history (callsIn (worked kind)) .book) (linksOf (r .machine .structure .unification)) cs
+worked-conserved {cs = cs} w κs bytes r ran e =
+    subst (λ (l : List ℕ). Conserved (history (callsIn l) .book) (linksOf (r .machine .structure .unification)) cs) e
+    (run-conserves κs bytes r ran cs (subst (λ (l : List ℕ). Ends (callsIn l) cs) (sym e) (w .ends))
+    (subst (λ (l : List ℕ). anyMarked (history (callsIn l) .book .marks) ≡ false) (sym e) (w .unmarked)))

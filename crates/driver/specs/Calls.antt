@@ -28,7 +28,7 @@ abbrev pub when : Bool → Call → Option Call → Option Call
 when b k other = elim b [ true ↦ some k | false ↦ other ]
 
 -- the call that a record of some kind is, or none: "A, an element", "A, a type; parents in words 6 to 9, their count in word 4",
--- "types in words 10 to 13, their count in word 5", and "Other words of these four kinds are not looked at"; "Kinds 1 to 14 are the records of document 01"
+-- "types in words 10 to 13, their count in word 5", and "Other words of these four kinds are not looked at"; "Kinds 1 to 14 are the records of document 01, kind 15 is that of settle"
 unfoldable pub callAt : ℕ → Record → Option Call
 callAt kind r =
     when (eqb kind rootKind) (root (r .a))

@@ -1,5 +1,5 @@
 -- What ties the book to the structure, where no element is marked, what holds of it with marks too, and that every call keeps both.
-use mathlib.Core.Path.{_≡_, refl, sym, ap, subst, _∙_}
+use mathlib.Core.Path.{_≡_, refl, sym, subst, _∙_}
 use mathlib.Core.Logic.{_≢_, ⊎-elim}
 use mathlib.Core.Bool.{Bool, true, false, _&&_}
 use mathlib.Core.List.{List, [], _∷_, _++_}
@@ -10,10 +10,9 @@ use lib.ListN.{length, length-append, List·getD-append, List·getD-eq-default}
 use lib.Seq.{getD-append-seam}
 use lib.Dec.{eqb}
 use borrow.Author.Tests.{eqb-true, ltb-true, leb-false, not-false}
-use Rattle.ids.specs.Answers.{Outcome, outcome, refusing, accepting}
 use Rattle.ids.specs.Table.{placed, lookupOf}
 use Rattle.ids.proofs.Answers.{or-neither}
-use Rattle.ids.proofs.Judging.{NoneApplies, decided-accepts}
+use Rattle.ids.proofs.Judging.{NoneApplies}
 use Rattle.ids.proofs.Sorted.{All, all-map, all-at, lookup-sound, lookup-none, placed-all, placed-own, placed-rest}
 use Rattle.unification.specs.Roots.{maxEls, rootOf, shortOf, addedOf, findCauses}
 use Rattle.unification.proofs.Numbers.{less-or, same-or}
@@ -24,28 +23,28 @@ use Rattle.semantics.specs.Structure as structure
 use Rattle.semantics.specs.Structure.{Fact, FuncApp, Pair, pair, Structure, compareFuncApp, canonicalFuncApp}
 use Rattle.semantics.specs.Types.{Core, with-links, with-marks, with-pairs, anyMarked}
 use Rattle.semantics.specs.Valid.{Below}
-use Rattle.semantics.specs.Close as closing
-use Rattle.semantics.specs.Close.{Closed, CloseRun, closeRun, reportOf, afterClose, closeCauses, closeBy, coreAtStart, fuel}
+use Rattle.semantics.specs.Close.{Closed, CloseRun, closeRun, reportOf, afterClose, coreAtStart, fuel}
 use Rattle.semantics.specs.Calls.{isEl, areEls, elCauses, withEl, equate, equalityCauses, withEquality, withImposition, Applied, applied}
 use Rattle.semantics.specs.Calls.{appliedEqual, applyAt, insertFuncAppOrEquate, appliedTo, applicationCauses, withApplied, withPredApp}
 use Rattle.semantics.specs.Calls.{withVar, withAmbient, Call, push-type, push-pred, push-func, push-model, push-mor-app, push-el, equate-els}
-use Rattle.semantics.specs.Calls.{impose-type, apply-func, apply-pred, bind-var, bind-ambient, close, type-conflicts, root, root-const}
+use Rattle.semantics.specs.Calls.{impose-type, apply-func, apply-pred, bind-var, bind-ambient, close, type-conflicts, settle, root, root-const}
 use Rattle.semantics.specs.Calls.{lookup-type, ambient-parents, isAccepted, Machine, Step, equalityRule, impositionRule, applicationRule}
-use Rattle.semantics.specs.Calls.{closeRule, rule, leaves, acceptance, step}
-use Rattle.history.specs.Book.{Book, elements, taken, fed, mergesOf}
+use Rattle.semantics.specs.Calls.{closeRule, settleRule, rule, closed, mergesIn, sumsOf, leaves, acceptance, step}
+use Rattle.history.specs.Book.{Book, with-merges, elements, taken, fed, mergesOf}
 use Rattle.semantics.proofs.Links.{length-push}
-use Rattle.semantics.proofs.Judged.{step-by, effect-accepted, close-first, below-if}
+use Rattle.semantics.proofs.Judged.{step-by, effect-accepted, below-if}
+use Rattle.semantics.proofs.Settling.{Closes, closesLeave, run-closes}
 use Rattle.semantics.proofs.Cases.{and-first, and-second, or-first, or-second}
 use Rattle.semantics.proofs.Counts.{roots, roots-alike}
-use Rattle.validity.proofs.Closing.{close-els}
-use Rattle.validity.proofs.Calls.{ValidMachine}
+use Rattle.validity.proofs.Closing.{after-els}
+use Rattle.validity.proofs.Calls.{ValidMachine, step-valid}
 use Rattle.history.proofs.Relation.{Equivalence, Respects, says-image, image-says}
 use Rattle.history.proofs.Elements.{Named, pair-more, app-more}
 use Rattle.history.proofs.Counts.{roots-added, added-length, added-root}
 use Rattle.history.proofs.Drain.{HoldsOfPair, Unmarked}
 use Rattle.history.proofs.Functionality.{found-agrees, found-says}
 use Rattle.history.proofs.Passes.{HoldsOfCore, Ready, Sound}
-use Rattle.history.proofs.Closing.{ClosedSoundly, unmet, run-soundly}
+use Rattle.history.proofs.Closing.{ClosedSoundly, unmet, closed-step, run-soundly}
 
 -- a partition and a claim on applications hold of a book: the elements of each equality are together, and each application has the claim
 abbrev pub HoldsOfBook : (ℕ → ℕ → Type 0) → (FuncApp → Type 0) → Book → Type 0
@@ -316,6 +315,37 @@ pub record Agreeing (b : Book) (w : Core) (xs : List FuncApp) : Type 1 where
 abbrev pub AgreesWith : Book → Structure → Type 1
 AgreesWith b s = Agreeing b (coreAtStart s) (s .func-apps)
 
+-- A close, and some one after the other.
+
+module _ (m : Machine) (b : Book) (v : ValidMachine m) (g : AgreesWith b (m .structure)) where
+  abbrev c : CloseRun
+  c = closeRun (m .sig) (m .structure)
+
+  close-agrees : c .core .met ≡ none → AgreesWith (taken close (reportOf c .merges) b) (afterClose c (m .structure))
+  unfolding coreAtStart taken
+  close-agrees met = record {
+    long = after-els (m .sig) (m .structure) v ∙ g .long;
+    named = record { equalities = g .named .equalities; apps = g .named .apps };
+    tied = λ u. close-tied b m (g .tied u) met;
+  }
+
+  closed-agrees : (a : Closed) → step close m .answer ≡ closed a → AgreesWith (taken close (a .merges) b) (step close m .after .structure)
+  unfolding coreAtStart
+  closed-agrees a e =
+      let q = closed-step m a e in
+      subst (λ (z : Machine). AgreesWith (taken close (a .merges) b) (z .structure)) (sym (q .after))
+      (subst (λ (x : Closed). AgreesWith (taken close (x .merges) b) (afterClose c (m .structure))) (sym (q .answer)) (close-agrees (q .met)))
+
+-- a settle is its closes, and the book takes their merges
+closes-agree : (cs : List Closed) (m z : Machine) (b : Book) → ValidMachine m → AgreesWith b (m .structure) → Closes m cs z
+    → AgreesWith (taken settle (mergesIn cs) b) (z .structure)
+unfolding mergesIn taken
+closes-agree [] m z b v g h =
+    subst (λ (n : ℕ). AgreesWith (with-merges n b) (z .structure)) (omega arith) (subst (λ (x : Machine). AgreesWith b (x .structure)) h g)
+closes-agree (c ∷ cs) m z b v g h =
+    subst (λ (n : ℕ). AgreesWith (with-merges n b) (z .structure)) (omega arith)
+    (closes-agree cs (step close m .after) z (taken close (c .merges) b) (step-valid close m v) (closed-agrees m b v g c (h .0)) (h .1))
+
 module _ (m : Machine) (b : Book) (v : ValidMachine m) (g : AgreesWith b (m .structure)) where
   abbrev s : Structure
   s = m .structure
@@ -391,26 +421,6 @@ module _ (m : Machine) (b : Book) (v : ValidMachine m) (g : AgreesWith b (m .str
         tied = λ e. application-tied b (coreAtStart s) (s .func-apps) x (g .tied e) hx;
       }
 
-  close-agrees : NoneApplies (closeCauses (closeRun (m .sig) s))
-      → AgreesWith (taken close (reportOf (closeRun (m .sig) s) .merges) b) (afterClose (closeRun (m .sig) s) s)
-  unfolding coreAtStart taken
-  close-agrees clear = record {
-    long = close-long ∙ g .long;
-    named = record { equalities = g .named .equalities; apps = g .named .apps };
-    tied = λ u. close-tied b m (g .tied u) (unmet (closeRun (m .sig) s) clear);
-  }
-    where
-      c : CloseRun
-      c = closeRun (m .sig) s
-
-      accepts : closing.close (m .sig) s ≡ accepting (reportOf c) (afterClose c s)
-      accepts =
-          (unfold closing.close closeBy outcome in
-          decided-accepts (refusing s) (accepting (reportOf c) (afterClose c s)) (close-first c ∙ unmet c clear))
-
-      close-long : length (afterClose (closeRun (m .sig) s) s .links) ≡ length ls
-      close-long = sym (ap (λ (o : Outcome Closed Structure). length (o .after .links)) accepts) ∙ close-els (m .sig) s v
-
   root-agrees : (e : ℕ) → NoneApplies (findCauses ls e) → AgreesWith b (structure.with-links (shortOf ls e) s)
   unfolding findCauses coreAtStart
   root-agrees e clear = record {
@@ -420,7 +430,7 @@ module _ (m : Machine) (b : Book) (v : ValidMachine m) (g : AgreesWith b (m .str
   }
 
   effect-agrees : (k : Call) → NoneApplies (rule k m .causes) → AgreesWith (taken k (mergesOf (rule k m .answer)) b) (rule k m .after .structure)
-  unfolding rule equalityRule impositionRule applicationRule closeRule withPredApp withVar withAmbient taken mergesOf coreAtStart
+  unfolding rule equalityRule impositionRule applicationRule closeRule settleRule sumsOf withPredApp withVar withAmbient taken mergesOf coreAtStart
   effect-agrees (push-type t) clear = g
   effect-agrees (push-pred p) clear = g
   effect-agrees (push-func f) clear = g
@@ -433,8 +443,9 @@ module _ (m : Machine) (b : Book) (v : ValidMachine m) (g : AgreesWith b (m .str
   effect-agrees (apply-pred x) clear = g
   effect-agrees (bind-var x) clear = g
   effect-agrees (bind-ambient a) clear = g
-  effect-agrees close clear = close-agrees clear
+  effect-agrees close clear = close-agrees m b v g (unmet _ clear)
   effect-agrees type-conflicts clear = g
+  effect-agrees settle clear = closes-agree _ m (closesLeave m) b v g (run-closes m)
   effect-agrees (root e) clear = root-agrees e clear
   effect-agrees (root-const e) clear = g
   effect-agrees (lookup-type t ps) clear = g

@@ -1,18 +1,18 @@
 -- A close, where no element is marked.
 use mathlib.Core.Path.{_≡_, refl, sym, subst, ap, _∙_}
 use mathlib.Core.Bool.{true, not}
-use mathlib.Core.List.{[], _∷_}
+use mathlib.Core.List.{[]}
 use mathlib.Core.Option.{Option, none, some}
 use Prim.Native.Nat.{ℕ, _+_, _≤_, _<_}
 use native.Mathlib.Omega.{arith}
-use Rattle.ids.specs.Answers.{Outcome, outcome, accepted, refusing, accepting, _if_}
+use Rattle.ids.specs.Answers.{Outcome, outcome, accepted, refusing, accepting}
 use Rattle.ids.proofs.Judging.{NoneApplies, decided-by}
 use Rattle.ids.proofs.Sorted.{All, Sorted, no-test}
 use Rattle.signature.specs.Model.{Sig}
 use Rattle.semantics.specs.Structure.{Structure, compareFuncApp, with-flags}
 use Rattle.semantics.specs.Types.{Core, imposeAll}
 use Rattle.semantics.specs.Close.{Rounds, rounds, fuel, Closed, coreAtStart, canonicaliseRefs, withCore, CloseRun, imposedAfter, closeRun, reportOf}
-use Rattle.semantics.specs.Close.{afterClose, closeCauses, closeBy, close}
+use Rattle.semantics.specs.Close.{afterClose, metCauses, closeCauses, closeBy, close}
 use Rattle.semantics.specs.Calls as calls
 use Rattle.semantics.specs.Calls.{closed, Machine, machine, Step, closeRule, acceptance, leaves, settledBy}
 use Rattle.semantics.proofs.Counts.{roots}
@@ -22,14 +22,11 @@ use Rattle.history.proofs.Imposing.{OnlyFactsGrew}
 use Rattle.history.proofs.Passes.{Ready, Sound, sound-then, Passed, passed-then, grown-passed, unmarked-grown}
 use Rattle.history.proofs.Rounds.{RoundsLeave, rounds-law}
 
--- a close that no cause refuses met no number
-pub unmet : (c : CloseRun) → NoneApplies (closeCauses c) → c .core .met ≡ none
-unfolding closeCauses
-unmet c = go (c .core .met)
-  where
-    go : (o : Option ℕ) → NoneApplies (elim o [ none ↦ [] | some n ↦ n if true ∷ [] ]) → o ≡ none
-    go none h = refl
-    go (some n) h = no-test refl (h .0)
+-- what no cause refuses met no number
+pub unmet : (o : Option ℕ) → NoneApplies (metCauses o) → o ≡ none
+unfolding metCauses
+unmet none h = refl
+unmet (some n) h = no-test refl (h .0)
 
 -- an accepted close, which answered a: it met no number, and v is its effect
 pub record AcceptedClose {X : Type 0} (c : CloseRun) (a : Closed) (effect v : X) : Type 0 where
@@ -43,7 +40,7 @@ unfolding close closeBy outcome
 accepted-close g s a =
     decided-by (λ (o : Outcome Closed Structure). o .answer ≡ accepted a → AcceptedClose run a (afterClose run s) (o .after)) (closeCauses run)
     (refusing s) (accepting (reportOf run) (afterClose run s)) (λ n q e. let z : _≡_ {A = ℕ} 0 1 = cc in absurd (omega arith))
-    (λ none-applies e. record { met = unmet run none-applies; answer = cc; after = refl })
+    (λ none-applies e. record { met = unmet (run .core .met) none-applies; answer = cc; after = refl })
   where
     run : CloseRun
     run = closeRun g s
@@ -60,7 +57,7 @@ closed-step m a =
     (λ n q e. let z : _≡_ {A = ℕ} 0 1 = cc in absurd (omega arith))
     (λ none-applies e.
     let same : a ≡ reportOf run = cc in
-    record { met = unmet run none-applies; answer = same; after = ap (closedMachine m) (sym same) })
+    record { met = unmet (run .core .met) none-applies; answer = same; after = ap (closedMachine m) (sym same) })
   where
     run : CloseRun
     run = closeRun (m .sig) (m .structure)

@@ -1,4 +1,4 @@
--- A list of calls for which each hypothesis of the rule holds, computed: P3 of 01 with a refused call, a find and a second close.
+-- A list of calls for which each hypothesis of the rule holds, computed, with a close and with a settle after it: P3 of 01 with a refused call and a find.
 use mathlib.Core.Path.{_≡_, refl}
 use mathlib.Core.Bool.{true, false}
 use mathlib.Core.List.{List, [], _∷_, _++_}
@@ -9,11 +9,12 @@ use Rattle.signature.specs.Model.{plain}
 use Rattle.semantics.specs.Structure.{pair}
 use Rattle.semantics.specs.Types.{anyMarked}
 use Rattle.semantics.specs.Close.{Closed, report}
-use Rattle.semantics.specs.Calls.{Call, equate-els, close, root, closed, isAccepted, step}
+use Rattle.semantics.specs.Calls.{Call, equate-els, close, settle, root, closed, totals, isAccepted, step}
 use Rattle.semantics.proofs.Computes.{everything}
 use Rattle.semantics.proofs.ProvedCases.{typ, func, plainEl, app}
 use Rattle.history.specs.Book.{blank, elements, taken, fed, mergesOf, noted, next, run, begin, History, history, Shared}
-use Rattle.history.specs.Book.{Classes, Conserved, Conservation}
+use Rattle.history.specs.Book.{Classes, RanCloses, closes, settles, Conserved, Conservation}
+use Rattle.history.proofs.SecondClose.{noChange}
 use Rattle.history.proofs.Conservation.{conservation}
 
 -- the definitions that a list and its book compute with
@@ -37,54 +38,61 @@ worked =
     ∷ root 3
     ∷ []
 
+-- where the list has come to when the close or settle after it returns
+abbrev after : Call → History
+after k = history (worked ++ (k ∷ []))
+
+-- each hypothesis of the rule, and what the book and the links then are
+record Worked (k : Call) (cs : List Closed) : Type 0 where
+  ran : RanCloses (history worked .machine) k cs
+  unmarked : anyMarked (after k .book .marks) ≡ false
+  -- four elements, one equality, since the other was refused, and two merges
+  four : elements (after k .book) ≡ 4
+  one-equality : after k .book .equalities ≡ pair 0 1 ∷ []
+  two-merges : after k .book .merges ≡ 2
+  same-root : rootOf (after k .machine .structure .links) 2 ≡ rootOf (after k .machine .structure .links) 3
+  -- a close after it reports no change
+  next-unchanged : step close (after k .machine) .answer ≡ closed noChange
+
 -- "close 1 2 3"
-answered : Closed
-answered = report true 2 3
+with-close : Worked close (report true 2 3 ∷ [])
+unfolding computed worked
+with-close = record {
+  ran = closes refl;
+  unmarked = refl;
+  four = refl;
+  one-equality = refl;
+  two-merges = refl;
+  same-root = refl;
+  next-unchanged = refl;
+}
 
-is-accepted : step close (history worked .machine) .answer ≡ closed answered
-unfolding computed worked answered
-is-accepted = refl
+-- "settle 2 2": its closes answer "close 1 2 3" and "close 0 0 1"
+with-settle : Worked settle (report true 2 3 ∷ noChange ∷ [])
+unfolding computed worked
+with-settle = record {
+  ran = settles {t = totals 2 2} refl;
+  unmarked = refl;
+  four = refl;
+  one-equality = refl;
+  two-merges = refl;
+  same-root = refl;
+  next-unchanged = refl;
+}
 
--- where the list has come to when that close returns
-after : History
-after = history (worked ++ (close ∷ []))
+-- so the rule says of each what it says
+module _ {k : Call} {cs : List Closed} (w : Worked k cs) where
+  conserves : Conserved (after k .book) (after k .machine .structure .links) cs
+  unfolding Conservation
+  conserves = conservation worked k cs (w .ran) (w .unmarked)
 
-is-unmarked : anyMarked (after .book .marks) ≡ false
-unfolding computed worked after
-is-unmarked = refl
+  -- there are two classes
+  two-classes : Classes (after k .book) 2
+  two-classes = rw two at (conserves .counted)
+    where
+      two : conserves .classes ≡ 2
+      two = omega (arith, conserves .sum, w .four, w .two-merges)
 
--- so the rule says of it what it says
-conserves : Conserved (after .book) (after .machine .structure .links) answered
-conserves = (unfold Conservation after in conservation worked answered is-accepted is-unmarked)
-
--- the book, computed: four elements, one equality, since the other was refused, and two merges
-four : elements (after .book) ≡ 4
-unfolding computed worked after
-four = refl
-
-one-equality : after .book .equalities ≡ pair 0 1 ∷ []
-unfolding computed worked after
-one-equality = refl
-
-two-merges : after .book .merges ≡ 2
-unfolding computed worked after
-two-merges = refl
-
--- there are two classes
-two-classes : Classes (after .book) 2
-two-classes = rw two at (conserves .counted)
-  where
-    two : conserves .classes ≡ 2
-    two = omega (arith, conserves .sum, four, two-merges)
-
--- 2 and 3 share one, by the two applications
-two-three : Shared (after .book) 2 3
-two-three = conserves .one-root 2 3 (omega (arith, four)) (omega (arith, four)) .0 same
-  where
-    same : rootOf (after .machine .structure .links) 2 ≡ rootOf (after .machine .structure .links) 3
-    same = (unfold computed worked after in refl)
-
--- the second close reports no change
-second : step close (after .machine) .answer ≡ closed (report false 0 1)
-unfolding computed worked after
-second = refl
+  -- 2 and 3 share one, by the two applications
+  two-three : Shared (after k .book) 2 3
+  two-three = conserves .one-root 2 3 (omega (arith, w .four)) (omega (arith, w .four)) .0 (w .same-root)

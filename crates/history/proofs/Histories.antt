@@ -1,5 +1,5 @@
--- Lists of calls: what holds of the book at each moment, and at the return of an accepted close.
-use mathlib.Core.Path.{_≡_, refl, sym, subst, _∙_}
+-- Lists of calls: what holds of the book at each moment, and at the return of an accepted close or settle.
+use mathlib.Core.Path.{_≡_, refl, sym, ap, subst, _∙_}
 use mathlib.Core.Logic.{_↔_}
 use mathlib.Core.Bool.{Bool, true, false}
 use mathlib.Core.List.{List, [], _∷_, _++_}
@@ -12,17 +12,19 @@ use Rattle.unification.specs.Roots.{rootOf}
 use Rattle.unification.proofs.Theorems.{none-formed}
 use Rattle.unification.proofs.Laws.{root-stop}
 use Rattle.unification.proofs.Arrays.{link-past}
-use Rattle.semantics.specs.Structure.{empty, compareFuncApp}
+use Rattle.semantics.specs.Structure.{Structure, empty, compareFuncApp}
 use Rattle.semantics.specs.Types.{anyMarked}
 use Rattle.semantics.specs.Close.{Closed, coreAtStart}
-use Rattle.semantics.specs.Calls.{Call, push-el, close, number, closed, Machine, Step, start, rule, acceptance, step}
-use Rattle.history.specs.Book.{Book, blank, elements, taken, fed, History, noted, next, run, begin, history, Shared}
+use Rattle.semantics.specs.Calls.{Call, push-el, close, number, closed, isAccepted, Machine, Step, start, rule, acceptance, step}
+use Rattle.history.specs.Book.{blank, elements, taken, fed, mergesOf, History, noted, next, run, begin, history, Shared, RanCloses, closes, settles}
 use Rattle.semantics.proofs.Counts.{roots}
 use Rattle.semantics.proofs.Judged.{step-by}
+use Rattle.semantics.proofs.Settling.{Closes, settle-closes}
 use Rattle.validity.proofs.Calls.{ValidMachine, start-valid, step-valid}
 use Rattle.history.proofs.Elements.{Named, SharedAmongAll, shared-among-all}
 use Rattle.history.proofs.Functionality.{Canon}
 use Rattle.history.proofs.Closing.{closed-step}
+use Rattle.history.proofs.Settling.{last-some, settle-ends}
 use Rattle.history.proofs.Calls.{TiedTo, AgreesWith, close-soundly, fed-agrees}
 
 -- what holds at each moment of a list
@@ -101,44 +103,76 @@ pub history-next : (ks : List Call) (k : Call) → history (ks ++ (k ∷ [])) �
 unfolding run
 history-next ks k = history-goes-on ks (k ∷ [])
 
--- The return of an accepted close, with no element marked up to then.
+-- The return of an accepted close or settle, with no element marked up to then.
 
-pub record Returned (h : History) (c : Closed) : Type 1 where
+-- what the last of some accepted closes leaves, and the rounds of each
+pub record LeftBy (cs : List Closed) (s : Structure) : Type 0 where
+  pub pairs : s .pairs ≡ []
+  pub sorted : Sorted compareFuncApp (s .func-apps)
+  pub canon : All (Canon (s .links)) (s .func-apps)
+  pub few : All (λ (c : Closed). c .rounds ≤ c .merges + 2) cs
+
+pub record Returned (h : History) (cs : List Closed) : Type 1 where
   pub long : length (h .machine .structure .links) ≡ elements (h .book)
   pub named : Named (h .book)
   pub tied : TiedTo (h .book) (h .machine .structure)
-  pub pairs : h .machine .structure .pairs ≡ []
-  pub sorted : Sorted compareFuncApp (h .machine .structure .func-apps)
-  pub canon : All (Canon (h .machine .structure .links)) (h .machine .structure .func-apps)
-  pub few : c .rounds ≤ c .merges + 2
+  pub left : LeftBy cs (h .machine .structure)
 
--- a close marks nothing
-close-marks : (t : Bool) (n : ℕ) (b : Book) → fed close t n b .marks ≡ b .marks
-unfolding fed taken
-close-marks true n b = refl
-close-marks false n b = refl
+-- neither marks anything
+ran-marks : {k : Call} {cs : List Closed} (h : History) → RanCloses (h .machine) k cs → next k h .book .marks ≡ h .book .marks
+unfolding next noted fed taken
+ran-marks {k} h ran = go ran (isAccepted (step k (h .machine) .answer))
+  where
+    go : {k : Call} {cs : List Closed} → RanCloses (h .machine) k cs → (t : Bool) → fed k t (mergesOf (step k (h .machine) .answer)) (h .book) .marks ≡ h .book .marks
+    go (closes e) true = refl
+    go (closes e) false = refl
+    go (settles e) true = refl
+    go (settles e) false = refl
 
-next-returned : (h : History) → ValidHistory h → (c : Closed) → step close (h .machine) .answer ≡ closed c
-    → anyMarked (next close h .book .marks) ≡ false → Returned (next close h) c
-unfolding next noted coreAtStart
-next-returned h valid c e unmarked =
-    let after = next-valid close h valid .book in
+-- both run closes, one after the other, and at least one
+ran-some : {k : Call} {cs : List Closed} (m : Machine) → ValidMachine m → RanCloses m k cs → Closes m cs (step k m .after) × (0 < length cs)
+ran-some m v (closes e) = ((e, refl), omega arith)
+ran-some m v (settles {t} e) = (settle-closes m t e, last-some (settle-ends m v t e .unchanged))
+
+-- one close
+close-leaves : (h : History) (c : Closed) → ValidHistory h → anyMarked (h .book .marks) ≡ false → step close (h .machine) .answer ≡ closed c
+    → LeftBy (c ∷ []) (step close (h .machine) .after .structure)
+close-leaves h c valid unmarked e =
     let a = closed-step (h .machine) c e in
-    let tied = valid .book .tied (rw (close-marks _ _ (h .book)) at unmarked) in
-    let s = close-soundly (h .book) (h .machine) tied (a .met) in
+    let s = close-soundly (h .book) (h .machine) (valid .book .tied unmarked) (a .met) in
+    subst (λ (m : Machine). LeftBy (c ∷ []) (m .structure)) (sym (a .after)) (record {
+      pairs = s .pairs;
+      sorted = s .sorted;
+      canon = s .canon;
+      few = (subst (λ (d : Closed). d .rounds ≤ d .merges + 2) (sym (a .answer)) (s .few), tt);
+    })
+
+closes-leave : (cs : List Closed) (h : History) (z : Machine) → ValidHistory h → anyMarked (h .book .marks) ≡ false → Closes (h .machine) cs z → 0 < length cs
+    → LeftBy cs (z .structure)
+closes-leave [] h z valid unmarked run some = absurd (omega arith)
+closes-leave (c ∷ []) h z valid unmarked run some =
+    subst (λ (m : Machine). LeftBy (c ∷ []) (m .structure)) (run .1) (close-leaves h c valid unmarked (run .0))
+closes-leave (c ∷ d ∷ cs) h z valid unmarked run some =
+    let still = ap anyMarked (ran-marks h (closes (run .0))) ∙ unmarked in
+    let rest = closes-leave (d ∷ cs) (next close h) z (next-valid close h valid) still (unfold next noted in run .1) (omega arith) in
+    record { pairs = rest .pairs; sorted = rest .sorted; canon = rest .canon; few = (close-leaves h c valid unmarked (run .0) .few .0, rest .few) }
+
+next-returned : {k : Call} {cs : List Closed} (h : History) → ValidHistory h → RanCloses (h .machine) k cs → anyMarked (next k h .book .marks) ≡ false
+    → Returned (next k h) cs
+unfolding next noted coreAtStart
+next-returned {k} {cs} h valid ran unmarked =
+    let after = next-valid k h valid .book in
+    let some = ran-some (h .machine) (valid .valid) ran in
     record {
       long = after .long;
       named = after .named;
       tied = after .tied unmarked;
-      pairs = subst (λ (m : Machine). m .structure .pairs ≡ []) (sym (a .after)) (s .pairs);
-      sorted = subst (λ (m : Machine). Sorted compareFuncApp (m .structure .func-apps)) (sym (a .after)) (s .sorted);
-      canon = subst (λ (m : Machine). All (Canon (m .structure .links)) (m .structure .func-apps)) (sym (a .after)) (s .canon);
-      few = subst (λ (d : Closed). d .rounds ≤ d .merges + 2) (sym (a .answer)) (s .few);
+      left = closes-leave cs h (step k (h .machine) .after) valid (sym (ap anyMarked (ran-marks h ran)) ∙ unmarked) (some .0) (some .1);
     }
 
-pub returned : (before : List Call) (c : Closed) → step close (history before .machine) .answer ≡ closed c
-    → anyMarked (history (before ++ (close ∷ [])) .book .marks) ≡ false → Returned (history (before ++ (close ∷ []))) c
-returned before c e unmarked =
-    let p = history-next before close in
-    subst (λ (h : History). Returned h c) (sym p)
-    (next-returned (history before) (history-valid before) c e (subst (λ (h : History). anyMarked (h .book .marks) ≡ false) p unmarked))
+pub returned : (before : List Call) (k : Call) (cs : List Closed) → RanCloses (history before .machine) k cs
+    → anyMarked (history (before ++ (k ∷ [])) .book .marks) ≡ false → Returned (history (before ++ (k ∷ []))) cs
+returned before k cs ran unmarked =
+    let p = history-next before k in
+    subst (λ (h : History). Returned h cs) (sym p)
+    (next-returned (history before) (history-valid before) ran (subst (λ (h : History). anyMarked (h .book .marks) ≡ false) p unmarked))

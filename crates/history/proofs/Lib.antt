@@ -9,12 +9,13 @@ pub mod Unjoined
 pub mod Passes
 pub mod Rounds
 pub mod Closing
+pub mod SecondClose
+pub mod Settling
 pub mod Calls
 pub mod Classes
 pub mod Histories
 pub mod Conservation
 pub mod Images
-pub mod SecondClose
 pub mod Unchanged
 pub mod Examples
 pub mod Versions

@@ -15,36 +15,41 @@ use Rattle.signature.specs.Model.{plain}
 use Rattle.semantics.specs.Structure.{Pair, pair, FuncApp, func-app}
 use Rattle.semantics.specs.Types.{anyMarked}
 use Rattle.semantics.specs.Close.{Closed, report}
-use Rattle.semantics.specs.Calls.{Call, equate-els, close, Answer, closed, step}
+use Rattle.semantics.specs.Calls.{Call, equate-els, close, settle, totals, Answer, number, says, done, closed, conflicting, summed, found, typed, els, refuse}
+use Rattle.semantics.specs.Calls.{isAccepted, mergesIn}
+use Rattle.semantics.proofs.WrongSettles.{lastMerges}
 use Rattle.semantics.proofs.ProvedCases.{typ, func, plainEl, markedEl, impose, app}
-use Rattle.history.specs.Book.{Book, book, with-equalities, with-apps, elements, taken, fed, history, Together, none, Meet, Shared}
-use Rattle.history.specs.Book.{Classes, Conserved, Conservation}
+use Rattle.history.specs.Book.{Book, book, with-equalities, with-apps, elements, taken, fed, mergesOf, history, Together, none, Meet, Shared}
+use Rattle.history.specs.Book.{Classes, RanCloses, closes, settles, Conserved, Conservation}
+use Rattle.history.proofs.SecondClose.{noChange}
 use Rattle.history.proofs.Conservation.{conservation}
 use Rattle.history.proofs.Examples.{computed}
 use Rattle.history.proofs.Versions.{after, linksAfter, Feeds, bookBy, bookAfter, Meets, Sharing, SharedBy, ConservedBy, ConservationBy, unmarked}
-use Rattle.history.proofs.Versions.{merges, meets-right}
+use Rattle.history.proofs.Versions.{feeding, merges, roundLimit, meets-right}
 
 -- The lists.
 
 pub record Shown : Type 0 where
-  pub answer : Answer
   pub book : Book
   pub roots : List ℕ
 
-abbrev pub showing : Answer → Book → List ℕ → Shown
-showing a b rs = record { answer = a; book = b; roots = rs }
+abbrev pub showing : Book → List ℕ → Shown
+showing b rs = record { book = b; roots = rs }
 
-unfoldable pub shown : List Call → Shown
-shown ks = showing (step close (history ks .machine) .answer) (after ks .book) (map (rootOf (linksAfter ks)) (0 ∷ 1 ∷ []))
+unfoldable pub shown : List Call → Call → Shown
+shown ks k = showing (after ks k .book) (map (rootOf (linksAfter ks k)) (0 ∷ 1 ∷ []))
 
--- a list: what the close after it answers, and the book and the root of element 1 when that close returns; the root of 0 is 0
+-- a list and the close or settle that ends it: what the closes answer that it runs, and the book and the root of element 1 when it returns; the
+-- root of 0 is 0
 pub record WorkedList : Type 0 where
   pub calls : List Call
-  pub answer : Closed
+  pub call : Call
+  pub answers : List Closed
   pub book : Book
   pub root : ℕ
+  pub ran : RanCloses (history calls .machine) call answers
   pub two : elements book ≡ 2
-  pub shows : shown calls ≡ showing (closed answer) book (0 ∷ root ∷ [])
+  pub shows : shown calls call ≡ showing book (0 ∷ root ∷ [])
 
 -- a book of two elements with no mark: equalities, applications, merges
 abbrev plainBook : List Pair → List FuncApp → ℕ → Book
@@ -54,9 +59,11 @@ apart : WorkedList
 unfolding computed shown
 apart = record {
   calls = plainEl ∷ plainEl ∷ [];
-  answer = report false 0 1;
+  call = close;
+  answers = report false 0 1 ∷ [];
   book = plainBook [] [] 0;
   root = 1;
+  ran = closes refl;
   two = refl;
   shows = refl;
 }
@@ -65,9 +72,11 @@ equal : WorkedList
 unfolding computed shown
 equal = record {
   calls = plainEl ∷ plainEl ∷ equate-els 0 1 ∷ [];
-  answer = report true 1 2;
+  call = close;
+  answers = report true 1 2 ∷ [];
   book = plainBook (pair 0 1 ∷ []) [] 1;
   root = 0;
+  ran = closes refl;
   two = refl;
   shows = refl;
 }
@@ -77,9 +86,11 @@ equal-before : WorkedList
 unfolding computed shown
 equal-before = record {
   calls = plainEl ∷ plainEl ∷ equate-els 0 1 ∷ close ∷ [];
-  answer = report false 0 1;
+  call = close;
+  answers = report false 0 1 ∷ [];
   book = plainBook (pair 0 1 ∷ []) [] 1;
   root = 0;
+  ran = closes refl;
   two = refl;
   shows = refl;
 }
@@ -89,9 +100,11 @@ refused-equal : WorkedList
 unfolding computed shown
 refused-equal = record {
   calls = plainEl ∷ equate-els 0 1 ∷ plainEl ∷ [];
-  answer = report false 0 1;
+  call = close;
+  answers = report false 0 1 ∷ [];
   book = plainBook [] [] 0;
   root = 1;
+  ran = closes refl;
   two = refl;
   shows = refl;
 }
@@ -101,9 +114,11 @@ two-results : WorkedList
 unfolding computed shown
 two-results = record {
   calls = typ plain [] ∷ func [] [] 0 ∷ plainEl ∷ plainEl ∷ app 0 [] [] 0 ∷ app 0 [] [] 1 ∷ [];
-  answer = report true 1 2;
+  call = close;
+  answers = report true 1 2 ∷ [];
   book = plainBook [] (func-app 0 [] [] 1 ∷ func-app 0 [] [] 0 ∷ []) 1;
   root = 0;
+  ran = closes refl;
   two = refl;
   shows = refl;
 }
@@ -113,9 +128,11 @@ two-parents : WorkedList
 unfolding computed shown
 two-parents = record {
   calls = typ plain [] ∷ func [] [] 0 ∷ plainEl ∷ plainEl ∷ app 0 (0 ∷ []) [] 0 ∷ app 0 (1 ∷ []) [] 1 ∷ [];
-  answer = report true 0 2;
+  call = close;
+  answers = report true 0 2 ∷ [];
   book = plainBook [] (func-app 0 (1 ∷ []) [] 1 ∷ func-app 0 (0 ∷ []) [] 0 ∷ []) 0;
   root = 1;
+  ran = closes refl;
   two = refl;
   shows = refl;
 }
@@ -125,9 +142,11 @@ two-functions : WorkedList
 unfolding computed shown
 two-functions = record {
   calls = typ plain [] ∷ func [] [] 0 ∷ func [] [] 0 ∷ plainEl ∷ plainEl ∷ app 0 [] [] 0 ∷ app 1 [] [] 1 ∷ [];
-  answer = report true 0 2;
+  call = close;
+  answers = report true 0 2 ∷ [];
   book = plainBook [] (func-app 1 [] [] 1 ∷ func-app 0 [] [] 0 ∷ []) 0;
   root = 1;
+  ran = closes refl;
   two = refl;
   shows = refl;
 }
@@ -137,9 +156,11 @@ two-lengths : WorkedList
 unfolding computed shown
 two-lengths = record {
   calls = typ plain [] ∷ func [] [] 0 ∷ plainEl ∷ plainEl ∷ app 0 [] [] 0 ∷ app 0 [] (0 ∷ []) 1 ∷ [];
-  answer = report true 0 2;
+  call = close;
+  answers = report true 0 2 ∷ [];
   book = plainBook [] (func-app 0 [] (0 ∷ []) 1 ∷ func-app 0 [] [] 0 ∷ []) 0;
   root = 1;
+  ran = closes refl;
   two = refl;
   shows = refl;
 }
@@ -149,9 +170,39 @@ marked-parent : WorkedList
 unfolding computed shown
 marked-parent = record {
   calls = typ plain [] ∷ plainEl ∷ markedEl ∷ impose 0 0 (0 ∷ []) ∷ impose 0 0 (1 ∷ []) ∷ [];
-  answer = report true 1 1;
+  call = close;
+  answers = report true 1 1 ∷ [];
   book = book (false ∷ true ∷ []) [] [] 1;
   root = 0;
+  ran = closes refl;
+  two = refl;
+  shows = refl;
+}
+
+-- the same equality, settled: the second close reports no change
+equal-settled : WorkedList
+unfolding computed shown
+equal-settled = record {
+  calls = plainEl ∷ plainEl ∷ equate-els 0 1 ∷ [];
+  call = settle;
+  answers = report true 1 2 ∷ noChange ∷ [];
+  book = plainBook (pair 0 1 ∷ []) [] 1;
+  root = 0;
+  ran = settles {t = totals 2 1} refl;
+  two = refl;
+  shows = refl;
+}
+
+-- the two functions, settled
+functions-settled : WorkedList
+unfolding computed shown
+functions-settled = record {
+  calls = typ plain [] ∷ func [] [] 0 ∷ func [] [] 0 ∷ plainEl ∷ plainEl ∷ app 0 [] [] 0 ∷ app 1 [] [] 1 ∷ [];
+  call = settle;
+  answers = report true 0 2 ∷ noChange ∷ [];
+  book = plainBook [] (func-app 1 [] [] 1 ∷ func-app 0 [] [] 0 ∷ []) 0;
+  root = 1;
+  ran = settles {t = totals 2 0} refl;
   two = refl;
   shows = refl;
 }
@@ -159,27 +210,27 @@ marked-parent = record {
 -- What the right definitions say of them.
 
 module _ (w : WorkedList) where
-  accepts : step close (history (w .calls) .machine) .answer ≡ closed (w .answer)
-  unfolding shown
-  accepts = ap (λ (s : Shown). s .answer) (w .shows)
+  -- the links when its close or settle returns
+  abbrev links : List ℕ
+  links = linksAfter (w .calls) (w .call)
 
-  book-after : after (w .calls) .book ≡ w .book
+  book-after : after (w .calls) (w .call) .book ≡ w .book
   unfolding shown
   book-after = ap (λ (s : Shown). s .book) (w .shows)
 
-  rooted : map (rootOf (linksAfter (w .calls))) (0 ∷ 1 ∷ []) ≡ 0 ∷ w .root ∷ []
+  rooted : map (rootOf links) (0 ∷ 1 ∷ []) ≡ 0 ∷ w .root ∷ []
   unfolding shown
   rooted = ap (λ (s : Shown). s .roots) (w .shows)
 
-  root-zero : rootOf (linksAfter (w .calls)) 0 ≡ 0
+  root-zero : rootOf links 0 ≡ 0
   root-zero = cc rooted
 
-  root-one : rootOf (linksAfter (w .calls)) 1 ≡ w .root
+  root-one : rootOf links 1 ≡ w .root
   root-one = cc rooted
 
 -- no element is marked: 0 and 1 share a class exactly when 0 is the root of 1, and the classes are the elements that no merge took
 pub record Right (w : WorkedList) : Type 1 where
-  pub conserved : Conserved (w .book) (linksAfter (w .calls)) (w .answer)
+  pub conserved : Conserved (w .book) (links w) (w .answers)
   pub shared : Shared (w .book) 0 1 ↔ (w .root ≡ 0)
   pub classes : Classes (w .book) (elements (w .book) - w .book .merges)
 
@@ -193,10 +244,10 @@ right w u =
       classes = subst (Classes (w .book)) (let z : c .classes ≡ elements (w .book) - w .book .merges = omega (arith, c .sum) in z) (c .counted);
     }
   where
-    c : Conserved (w .book) (linksAfter (w .calls)) (w .answer)
+    c : Conserved (w .book) (links w) (w .answers)
     c =
-        subst (λ (b : Book). Conserved b (linksAfter (w .calls)) (w .answer)) (book-after w)
-        (conservation (w .calls) (w .answer) (accepts w) (ap (λ (b : Book). anyMarked (b .marks)) (book-after w) ∙ u))
+        subst (λ (b : Book). Conserved b (links w) (w .answers)) (book-after w)
+        (conservation (w .calls) (w .call) (w .answers) (w .ran) (ap (λ (b : Book). anyMarked (b .marks)) (book-after w) ∙ u))
 
 -- How a version is refuted by a list.
 
@@ -214,14 +265,14 @@ only-first p (suc n) t f = go (p (suc n)) (f (suc n) (omega arith) (omega arith)
     go true f e = absurd (f tt)
     go false f e = e
 
-module _ {feeds : Feeds} {Admits : List Bool → Type 0} {Share : Sharing} {counts : Book → ℕ} {merged : Book → Closed → ℕ} {Low : ℕ → ℕ → Type 0}
-    {more : ℕ} (h : ConservationBy feeds Admits Share counts merged Low more) (w : WorkedList) (b : Book) (made : bookAfter feeds (w .calls) ≡ b)
-    (two : elements b ≡ 2) (admitted : Admits (b .marks)) where
+module _ {feeds : Feeds} {Admits : List Bool → Type 0} {Share : Sharing} {counts : Book → ℕ} {merged : Book → List Closed → ℕ} {Low : ℕ → ℕ → Type 0}
+    {Few : List Closed → Type 0} (h : ConservationBy feeds Admits Share counts merged Low Few) (w : WorkedList) (b : Book)
+    (made : bookAfter feeds (w .calls) (w .call) ≡ b) (two : elements b ≡ 2) (admitted : Admits (b .marks)) where
   -- what it says of the list
-  said : ConservedBy Share counts merged Low more b (linksAfter (w .calls)) (w .answer)
+  said : ConservedBy Share counts merged Low Few b (links w) (w .answers)
   said =
-      subst (λ (d : Book). ConservedBy Share counts merged Low more d (linksAfter (w .calls)) (w .answer)) made
-      (h .says (w .calls) (w .answer) (accepts w) (subst (λ (d : Book). Admits (d .marks)) (sym made) admitted))
+      subst (λ (d : Book). ConservedBy Share counts merged Low Few d (links w) (w .answers)) made
+      (h .says (w .calls) (w .call) (w .answers) (w .ran) (subst (λ (d : Book). Admits (d .marks)) (sym made) admitted))
 
   shares : w .root ≡ 0 → Share b 0 1
   shares r = said .one-root 0 1 (omega (arith, two)) (omega (arith, two)) .0 (root-zero w ∙ sym (root-one w ∙ r))
@@ -236,7 +287,7 @@ module _ {feeds : Feeds} {Admits : List Bool → Type 0} {Share : Sharing} {coun
   parts r n = n (shares r)
 
   -- one class is counted, so that the merges of two elements must be 1, and the version has another number
-  miscounts : (k : ℕ) → counts b ≡ suc k → k ≤ 1 → (1 ≤ k → w .root ≡ 0) → (merged b (w .answer) ≡ 1 → ⊥) → ⊥
+  miscounts : (k : ℕ) → counts b ≡ suc k → k ≤ 1 → (1 ≤ k → w .root ≡ 0) → (merged b (w .answers) ≡ 1 → ⊥) → ⊥
   miscounts k q l r n = n (omega (arith, said .sum, said .counted .many, one, two))
     where
       p : ℕ → Bool
@@ -259,7 +310,7 @@ module _ {feeds : Feeds} {Admits : List Bool → Type 0} {Share : Sharing} {coun
       n (subst (λ (x : ℕ). Low x 1) (root-zero w) (said .lowest 0 1 (omega (arith, two)) (omega (arith, two)) (shares r)))
 
   -- it allows too few rounds
-  short-of-rounds : (w .answer .rounds ≤ w .answer .merges + more → ⊥) → ⊥
+  short-of-rounds : (Few (w .answers) → ⊥) → ⊥
   short-of-rounds n = n (said .few)
 
 -- Elements that share a class, and that do not.
@@ -291,13 +342,41 @@ bare b e a s =
 -- The wrong parts.
 
 abbrev refusedTaken : Feeds
-refusedTaken k t n b = with-equalities (taken k n b .equalities) (fed k t n b)
+refusedTaken k a b = with-equalities (taken k (mergesOf a) b .equalities) (feeding k a b)
 
 abbrev noEqualities : Feeds
-noEqualities k t n b = with-equalities [] (fed k t n b)
+noEqualities k a b = with-equalities [] (feeding k a b)
 
 abbrev noApplications : Feeds
-noApplications k t n b = with-apps [] (fed k t n b)
+noApplications k a b = with-apps [] (feeding k a b)
+
+-- the merges of a close, and none of a settle
+abbrev closeMerges : Answer → ℕ
+closeMerges (number n) = 0
+closeMerges (says b) = 0
+closeMerges done = 0
+closeMerges (closed c) = c .merges
+closeMerges (conflicting l) = 0
+closeMerges (summed t) = 0
+closeMerges (found f) = 0
+closeMerges (typed t) = 0
+closeMerges (els l) = 0
+closeMerges (refuse n) = 0
+
+abbrev noSettles : Feeds
+noSettles k a b = fed k (isAccepted a) (closeMerges a) b
+
+-- all so far, but of the last close or settle the merges of its last close
+abbrev lastOfSettle : Book → List Closed → ℕ
+lastOfSettle b cs = b .merges - mergesIn cs + lastMerges cs
+
+abbrev roundsIn : List Closed → ℕ
+roundsIn [] = 0
+roundsIn (c ∷ cs) = c .rounds + roundsIn cs
+
+-- the rounds of a settle summed, against its merges
+abbrev summedLimit : List Closed → Type 0
+summedLimit cs = roundsIn cs ≤ mergesIn cs + 2
 
 abbrev never : Meets
 never R x y = ⊥
@@ -333,88 +412,88 @@ pub record Refuted : Type 2 where
   pub wrong : version → ⊥
 
 pub table : List Refuted
-unfolding computed shown bookBy apart equal equal-before refused-equal two-results two-parents two-functions two-lengths marked-parent
+unfolding computed shown bookBy apart equal equal-before refused-equal two-results two-parents two-functions two-lengths marked-parent equal-settled functions-settled
 table =
     record {
       name = "refused equalities taken";
-      version = ConservationBy refusedTaken unmarked Shared elements merges _≤_ 2;
+      version = ConservationBy refusedTaken unmarked Shared elements merges _≤_ (roundLimit 2);
       list = refused-equal;
       fact = conserved (right refused-equal refl);
       wrong = λ h. joins h refused-equal (plainBook (pair 0 1 ∷ []) [] 0) refl refl refl refl (equal-shared _ (List·Memᴰ·head refl));
     }
     ∷ record {
       name = "equality dropped";
-      version = ConservationBy noEqualities unmarked Shared elements merges _≤_ 2;
+      version = ConservationBy noEqualities unmarked Shared elements merges _≤_ (roundLimit 2);
       list = equal;
       fact = conserved (right equal refl);
       wrong = λ h. parts h equal (plainBook [] [] 1) refl refl refl refl (bare _ refl refl);
     }
     ∷ record {
       name = "application dropped";
-      version = ConservationBy noApplications unmarked Shared elements merges _≤_ 2;
+      version = ConservationBy noApplications unmarked Shared elements merges _≤_ (roundLimit 2);
       list = two-results;
       fact = conserved (right two-results refl);
       wrong = λ h. parts h two-results (plainBook [] [] 1) refl refl refl refl (bare _ refl refl);
     }
     ∷ record {
       name = "merges twice";
-      version = ConservationBy fed unmarked Shared elements (λ b c. b .merges + b .merges) _≤_ 2;
+      version = ConservationBy feeding unmarked Shared elements (λ b cs. b .merges + b .merges) _≤_ (roundLimit 2);
       list = equal;
       fact = conserved (right equal refl);
       wrong = λ h. miscounts h equal (equal .book) refl refl refl 1 refl (omega arith) (λ l. refl) (λ z. omega (arith, z));
     }
     ∷ record {
       name = "merges of the last close only";
-      version = ConservationBy fed unmarked Shared elements (λ b c. c .merges) _≤_ 2;
+      version = ConservationBy feeding unmarked Shared elements (λ b cs. lastMerges cs) _≤_ (roundLimit 2);
       list = equal-before;
       fact = conserved (right equal-before refl);
       wrong = λ h. miscounts h equal-before (equal-before .book) refl refl refl 1 refl (omega arith) (λ l. refl) (λ z. omega (arith, z));
     }
     ∷ record {
       name = "classes over one element fewer";
-      version = ConservationBy fed unmarked Shared (λ b. elements b - 1) merges _≤_ 2;
+      version = ConservationBy feeding unmarked Shared (λ b. elements b - 1) merges _≤_ (roundLimit 2);
       list = apart;
       fact = conserved (right apart refl);
       wrong = λ h. miscounts h apart (apart .book) refl refl refl 0 refl (omega arith) (λ l. absurd (omega (arith, l))) (λ z. omega (arith, z));
     }
     ∷ record {
       name = "highest root";
-      version = ConservationBy fed unmarked Shared elements merges (λ r y. y ≤ r) 2;
+      version = ConservationBy feeding unmarked Shared elements merges (λ r y. y ≤ r) (roundLimit 2);
       list = equal;
       fact = conserved (right equal refl);
       wrong = λ h. misplaces h equal (equal .book) refl refl refl refl (λ l. omega (arith, l));
     }
     ∷ record {
       name = "rounds at most merges and one";
-      version = ConservationBy fed unmarked Shared elements merges _≤_ 1;
+      version = ConservationBy feeding unmarked Shared elements merges _≤_ (roundLimit 1);
       list = two-functions;
       fact = conserved (right two-functions refl);
-      wrong = λ h. short-of-rounds h two-functions (two-functions .book) refl refl refl (λ l. omega (arith, l));
+      wrong = λ h. short-of-rounds h two-functions (two-functions .book) refl refl refl (λ l. omega (arith, l .0));
     }
     ∷ record {
       name = "all in one class";
-      version = ConservationBy fed unmarked (λ b x y. Unit {1}) elements merges _≤_ 2;
+      version = ConservationBy feeding unmarked (λ b x y. Unit {1}) elements merges _≤_ (roundLimit 2);
       list = apart;
       fact = conserved (right apart refl);
       wrong = λ h. joins h apart (apart .book) refl refl refl refl tt;
     }
     ∷ record {
       name = "each alone";
-      version = ConservationBy fed unmarked (λ b x y. Lift {0, 1} (x ≡ y)) elements merges _≤_ 2;
+      version = ConservationBy feeding unmarked (λ b x y. Lift {0, 1} (x ≡ y)) elements merges _≤_ (roundLimit 2);
       list = equal;
       fact = conserved (right equal refl);
       wrong = λ h. parts h equal (equal .book) refl refl refl refl (λ s. omega (arith, s .lower));
     }
     ∷ record {
       name = "no functionality";
-      version = ConservationBy fed unmarked (SharedBy never) elements merges _≤_ 2;
+      version = ConservationBy feeding unmarked (SharedBy never) elements merges _≤_ (roundLimit 2);
       list = two-results;
       fact = conserved (right two-results refl);
       wrong = λ h. parts h two-results (two-results .book) refl refl refl refl (unmet never _ refl (λ R x y m t. t));
     }
     ∷ record {
       name = "Meet without parents";
-      version = ConservationBy fed unmarked (SharedBy anyParents) elements merges _≤_ 2;
+      version = ConservationBy feeding unmarked (SharedBy anyParents) elements merges _≤_ (roundLimit 2);
       list = two-parents;
       fact = conserved (right two-parents refl);
       wrong = λ h.
@@ -424,7 +503,7 @@ table =
     }
     ∷ record {
       name = "Meet without the function";
-      version = ConservationBy fed unmarked (SharedBy anyFunction) elements merges _≤_ 2;
+      version = ConservationBy feeding unmarked (SharedBy anyFunction) elements merges _≤_ (roundLimit 2);
       list = two-functions;
       fact = conserved (right two-functions refl);
       wrong = λ h.
@@ -434,7 +513,7 @@ table =
     }
     ∷ record {
       name = "shorter lists together";
-      version = ConservationBy fed unmarked (SharedBy shorter) elements merges _≤_ 2;
+      version = ConservationBy feeding unmarked (SharedBy shorter) elements merges _≤_ (roundLimit 2);
       list = two-lengths;
       fact = conserved (right two-lengths refl);
       wrong = λ h.
@@ -444,9 +523,31 @@ table =
     }
     ∷ record {
       name = "marks allowed";
-      version = ConservationBy fed (λ ms. Unit {0}) Shared elements merges _≤_ 2;
+      version = ConservationBy feeding (λ ms. Unit {0}) Shared elements merges _≤_ (roundLimit 2);
       list = marked-parent;
       fact = outside refl refl (bare _ refl refl);
       wrong = λ h. parts h marked-parent (marked-parent .book) refl refl tt refl (bare _ refl refl);
+    }
+    ∷ record {
+      name = "merges of a settle not taken";
+      version = ConservationBy noSettles unmarked Shared elements merges _≤_ (roundLimit 2);
+      list = equal-settled;
+      fact = conserved (right equal-settled refl);
+      wrong = λ h.
+          miscounts h equal-settled (plainBook (pair 0 1 ∷ []) [] 0) refl refl refl 1 refl (omega arith) (λ l. refl) (λ z. omega (arith, z));
+    }
+    ∷ record {
+      name = "merges of a settle's last close only";
+      version = ConservationBy feeding unmarked Shared elements lastOfSettle _≤_ (roundLimit 2);
+      list = equal-settled;
+      fact = conserved (right equal-settled refl);
+      wrong = λ h. miscounts h equal-settled (equal-settled .book) refl refl refl 1 refl (omega arith) (λ l. refl) (λ z. omega (arith, z));
+    }
+    ∷ record {
+      name = "rounds of a settle at most its merges and two";
+      version = ConservationBy feeding unmarked Shared elements merges _≤_ summedLimit;
+      list = functions-settled;
+      fact = conserved (right functions-settled refl);
+      wrong = λ h. short-of-rounds h functions-settled (functions-settled .book) refl refl refl (λ l. omega (arith, l));
     }
     ∷ []

@@ -206,12 +206,16 @@ module _ (g : Sig) (s : Structure) (i : Idle g s) where
       (decided-accepts (refusing s) (accepting (reportOf c) (afterClose c s)) (close-first c ∙ idle-met))
       ∙ ap (λ (r : Closed). accepted r) idle-report
 
+-- flags do not bear on it
+pub idle-flags : (g : Sig) (s : Structure) (x y : Bool) → Idle g s → Idle g (with-flags x y s)
+idle-flags g s x y i = record { joined = i .joined; sorted = i .sorted; canon = i .canon; demanded = i .demanded; imposed = i .imposed }
+
 -- and the call that closes it, whatever its flags
 pub idle-step : (g : Sig) (s : Structure) (x y : Bool) → Idle g s → step calls.close (machine g (with-flags x y s)) .answer ≡ closed noChange
 unfolding step stepBy rule closeRule acceptance
 idle-step g s x y i =
     let s′ = with-flags x y s in
-    let i′ : Idle g s′ = record { joined = i .joined; sorted = i .sorted; canon = i .canon; demanded = i .demanded; imposed = i .imposed } in
+    let i′ = idle-flags g s x y i in
     let m = machine g s′ in
     ap (λ (t : Step). t .answer) (decided-accepts (refusal m) (acceptance (closeRule (closeRun g s′) m)) (close-first (closeRun g s′) ∙ idle-met g s′ i′))
     ∙ ap closed (idle-report g s′ i′)
@@ -231,8 +235,8 @@ module _ (g : Sig) (s : Structure) (on : OnRoots (s .links) (s .facts)) where
   w = imposeAll (s .impositions) (r .core)
 
   -- what a close leaves that merged nothing
-  pub after-idle : closeRun g s .core .met ≡ none → closeRun g s .core .merges ≡ 0 → Idle g (afterClose (closeRun g s) s)
-  unfolding closeRun imposedAfter afterClose canonicaliseRefs withCore coreAtStart rounds fuel
+  pub after-idle : closeRun g s .core .met ≡ none → reportOf (closeRun g s) .merges ≡ 0 → Idle g (afterClose (closeRun g s) s)
+  unfolding closeRun imposedAfter reportOf afterClose canonicaliseRefs withCore coreAtStart rounds fuel
   after-idle m z =
       let a = imposeAll-counts (s .impositions) (r .core) in
       let b = rounds-count g (s .pred-apps) fuel first in
@@ -269,8 +273,11 @@ module _ (g : Sig) (s : Structure) (on : OnRoots (s .links) (s .facts)) where
       }
 
   -- For every signature and every structure whose facts stand on roots, as in every valid one.
-  pub second-close : (c : Closed) → close g s .answer ≡ accepted c → c .merges ≡ 0 → close g (close g s .after) .answer ≡ accepted noChange
-  second-close c e z =
+
+  pub closed-idle : (c : Closed) → close g s .answer ≡ accepted c → c .merges ≡ 0 → Idle g (close g s .after)
+  closed-idle c e z =
       let a = accepted-close g s c e in
-      let merged : closeRun g s .core .merges ≡ 0 = (unfold reportOf in sym (ap (λ (x : Closed). x .merges) (a .answer)) ∙ z) in
-      rw (a .after) (idle-close g (afterClose (closeRun g s) s) (after-idle (a .met) merged))
+      rw (a .after) (after-idle (a .met) (sym (ap (λ (x : Closed). x .merges) (a .answer)) ∙ z))
+
+  pub second-close : (c : Closed) → close g s .answer ≡ accepted c → c .merges ≡ 0 → close g (close g s .after) .answer ≡ accepted noChange
+  second-close c e z = idle-close g (close g s .after) (closed-idle c e z)

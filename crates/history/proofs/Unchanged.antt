@@ -3,7 +3,7 @@ use mathlib.Core.Path.{_≡_, sym, subst, ap, _∙_}
 use mathlib.Core.List.{List, [], _∷_, _++_}
 use mathlib.Core.Bool.{true, not}
 use Rattle.semantics.specs.Valid.{Valid}
-use Rattle.semantics.specs.Close.{Closed, closeRun, afterClose, reportOf}
+use Rattle.semantics.specs.Close.{Closed, closeRun, afterClose}
 use Rattle.semantics.specs.Calls.{Call, close, closed, Machine, step}
 use Rattle.history.specs.Book.{History, noted, next, history}
 use Rattle.history.proofs.Histories.{history-valid, history-next}
@@ -17,7 +17,7 @@ next-unchanged h c v e z =
     let g = h .machine .sig in
     let s = h .machine .structure in
     let a = closed-step (h .machine) c e in
-    let merged : closeRun g s .core .merges ≡ 0 = (unfold reportOf in sym (ap (λ (x : Closed). x .merges) (a .answer)) ∙ z) in
+    let merged = sym (ap (λ (x : Closed). x .merges) (a .answer)) ∙ z in
     subst (λ (m : Machine). step close m .answer ≡ closed noChange) (sym (a .after))
     (idle-step g (afterClose (closeRun g s) s) true (not (c .changed)) (after-idle g s (v .structure .facts-rooted) (a .met) merged))
 

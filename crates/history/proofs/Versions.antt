@@ -7,32 +7,33 @@ use Prim.Native.Nat.{ℕ, _+_, _≤_, _<_}
 use lib.ListN.{length}
 use lib.Dec.{T}
 use Rattle.ids.specs.Count.{count}
+use Rattle.ids.specs.Sorted.{All}
 use Rattle.unification.specs.Roots.{rootOf}
 use Rattle.semantics.specs.Structure.{Pair, FuncApp}
 use Rattle.semantics.specs.Types.{anyMarked}
 use Rattle.semantics.specs.Close.{Closed}
-use Rattle.semantics.specs.Calls.{Call, close, closed, isAccepted, Machine, start, step}
+use Rattle.semantics.specs.Calls.{Call, Answer, isAccepted, Machine, start, step}
 use Rattle.history.specs.Book.{Book, blank, elements, fed, mergesOf, History, noted, next, run, begin, history}
-use Rattle.history.specs.Book.{Partition, Meet, Shared, Conserved, Conservation}
+use Rattle.history.specs.Book.{Partition, Meet, Shared, RanCloses, Conserved, Conservation}
 
--- where a list has come to when the close after it returns
-abbrev pub after : List Call → History
-after ks = history (ks ++ (close ∷ []))
+-- where a list has come to when the close or settle after it returns
+abbrev pub after : List Call → Call → History
+after ks k = history (ks ++ (k ∷ []))
 
-abbrev pub linksAfter : List Call → List ℕ
-linksAfter ks = after ks .machine .structure .links
+abbrev pub linksAfter : List Call → Call → List ℕ
+linksAfter ks k = after ks k .machine .structure .links
 
--- what the book becomes: the call, whether it was accepted, a close's merges
+-- what the book becomes by a call and its answer
 abbrev pub Feeds : Type 0
-Feeds = Call → Bool → ℕ → Book → Book
+Feeds = Call → Answer → Book → Book
 
 unfoldable pub bookBy : Feeds → List Call → Machine → Book → Book
 bookBy feeds [] m b = b
-bookBy feeds (k ∷ ks) m b = bookBy feeds ks (step k m .after) (feeds k (isAccepted (step k m .answer)) (mergesOf (step k m .answer)) b)
+bookBy feeds (k ∷ ks) m b = bookBy feeds ks (step k m .after) (feeds k (step k m .answer) b)
 
--- the book when the close after a list returns
-abbrev pub bookAfter : Feeds → List Call → Book
-bookAfter feeds ks = bookBy feeds (ks ++ (close ∷ [])) start blank
+-- the book when the call after a list returns
+abbrev pub bookAfter : Feeds → List Call → Call → Book
+bookAfter feeds ks k = bookBy feeds (ks ++ (k ∷ [])) start blank
 
 -- when two applications have one result
 abbrev pub Meets : Type 1
@@ -55,39 +56,47 @@ pub record ClassesBy (Share : Sharing) (b : Book) (counted k : ℕ) : Type 1 whe
   pub is : (e : ℕ) → e < counted → T (lowest e) ↔ ((d : ℕ) → d < e → Share b d e → ⊥)
   pub many : count lowest counted ≡ k
 
-pub record ConservedBy (Share : Sharing) (counts : Book → ℕ) (merged : Book → Closed → ℕ) (Low : ℕ → ℕ → Type 0) (more : ℕ)
-    (b : Book) (links : List ℕ) (c : Closed) : Type 1 where
+pub record ConservedBy (Share : Sharing) (counts : Book → ℕ) (merged : Book → List Closed → ℕ) (Low : ℕ → ℕ → Type 0) (Few : List Closed → Type 0)
+    (b : Book) (links : List ℕ) (cs : List Closed) : Type 1 where
   pub long : length links ≡ elements b
   pub classes : ℕ
   pub counted : ClassesBy Share b (counts b) classes
-  pub sum : elements b ≡ classes + merged b c
+  pub sum : elements b ≡ classes + merged b cs
   pub one-root : (x y : ℕ) → x < elements b → y < elements b → (rootOf links x ≡ rootOf links y) ↔ Share b x y
   pub of-class : (x : ℕ) → x < elements b → (rootOf links x < elements b) × Share b x (rootOf links x)
   pub lowest : (x y : ℕ) → x < elements b → y < elements b → Share b x y → Low (rootOf links x) y
-  pub few : c .rounds ≤ c .merges + more
+  pub few : Few cs
 
-pub record ConservationBy (feeds : Feeds) (Admits : List Bool → Type 0) (Share : Sharing) (counts : Book → ℕ) (merged : Book → Closed → ℕ)
-    (Low : ℕ → ℕ → Type 0) (more : ℕ) : Type 1 where
-  pub says : (before : List Call) (c : Closed) → step close (history before .machine) .answer ≡ closed c → Admits (bookAfter feeds before .marks)
-      → ConservedBy Share counts merged Low more (bookAfter feeds before) (linksAfter before) c
+pub record ConservationBy (feeds : Feeds) (Admits : List Bool → Type 0) (Share : Sharing) (counts : Book → ℕ) (merged : Book → List Closed → ℕ)
+    (Low : ℕ → ℕ → Type 0) (Few : List Closed → Type 0) : Type 1 where
+  pub says : (before : List Call) (k : Call) (cs : List Closed) → RanCloses (history before .machine) k cs → Admits (bookAfter feeds before k .marks)
+      → ConservedBy Share counts merged Low Few (bookAfter feeds before k) (linksAfter before k) cs
 
 -- The right parts, with which it is the rule.
+
+-- the call, whether it was accepted, the merges of a close or settle
+abbrev pub feeding : Feeds
+feeding k a b = fed k (isAccepted a) (mergesOf a) b
 
 -- the hypothesis of the rule
 abbrev pub unmarked : List Bool → Type 0
 unmarked ms = anyMarked ms ≡ false
 
-abbrev pub merges : Book → Closed → ℕ
-merges b c = b .merges
+abbrev pub merges : Book → List Closed → ℕ
+merges b cs = b .merges
 
-run-book : (ks : List Call) (h : History) → bookBy fed ks (h .machine) (h .book) ≡ run ks h .book
+-- the rounds of each close are at most its merges and n
+abbrev pub roundLimit : ℕ → List Closed → Type 0
+roundLimit n cs = All (λ (c : Closed). c .rounds ≤ c .merges + n) cs
+
+run-book : (ks : List Call) (h : History) → bookBy feeding ks (h .machine) (h .book) ≡ run ks h .book
 unfolding bookBy run next noted
 run-book [] h = refl
 run-book (k ∷ ks) h = run-book ks (next k h)
 
-book-right : (ks : List Call) → bookAfter fed ks ≡ after ks .book
+book-right : (ks : List Call) (k : Call) → bookAfter feeding ks k ≡ after ks k .book
 unfolding history begin
-book-right ks = run-book (ks ++ (close ∷ [])) begin
+book-right ks k = run-book (ks ++ (k ∷ [])) begin
 
 pub meets-right : (b : Book) (x y : ℕ) → SharedBy Meet b x y ↔ Shared b x y
 unfolding SharedBy Shared
@@ -96,12 +105,12 @@ meets-right b x y = (
   λ s R q f. s R q (record { equal = f .equal; functional = f .functional }),
 )
 
-pub conservation-right : ConservationBy fed unmarked Shared elements merges _≤_ 2 ↔ Conservation
+pub conservation-right : ConservationBy feeding unmarked Shared elements merges _≤_ (roundLimit 2) ↔ Conservation
 unfolding Conservation
 conservation-right = (
-  λ h before c e u.
-      let r = h .says before c e (rw (book-right before) u) in
-      subst (λ (b : Book). Conserved b (linksAfter before) c) (book-right before) (record {
+  λ h before k cs ran u.
+      let r = h .says before k cs ran (rw (book-right before k) u) in
+      subst (λ (b : Book). Conserved b (linksAfter before k) cs) (book-right before k) (record {
         long = r .long;
         classes = r .classes;
         counted = record { lowest = r .counted .lowest; is = r .counted .is; many = r .counted .many };
@@ -112,9 +121,9 @@ conservation-right = (
         few = r .few;
       }),
   λ h. record {
-    says = λ before c e u.
-        let r = h before c e (rw (book-right before) at u) in
-        subst (λ (b : Book). ConservedBy Shared elements merges _≤_ 2 b (linksAfter before) c) (sym (book-right before)) (record {
+    says = λ before k cs ran u.
+        let r = h before k cs ran (rw (book-right before k) at u) in
+        subst (λ (b : Book). ConservedBy Shared elements merges _≤_ (roundLimit 2) b (linksAfter before k) cs) (sym (book-right before k)) (record {
           long = r .long;
           classes = r .classes;
           counted = record { lowest = r .counted .lowest; is = r .counted .is; many = r .counted .many };

@@ -1,4 +1,4 @@
--- The conservation rule (01, "The conservation rule (demand 3)"): the book, the classes and the claim.
+-- The conservation rule (01, "The conservation rule (demand 3)", and 02, M-100): the book, the classes and the claim.
 use mathlib.Core.Path.{_≡_}
 use mathlib.Core.Logic.{_↔_}
 use mathlib.Core.Bool.{Bool, true, false}
@@ -7,14 +7,15 @@ use Prim.Native.Nat.{ℕ, _+_, _≤_, _<_}
 use lib.ListN.{length}
 use lib.Dec.{T}
 use Rattle.ids.specs.Count.{count}
+use Rattle.ids.specs.Sorted.{All}
 use Rattle.unification.specs.Roots.{rootOf}
 use Rattle.semantics.specs.Structure.{Pair, pair, FuncApp}
 use Rattle.semantics.specs.Types.{anyMarked}
 use Rattle.semantics.specs.Close.{Closed}
 use Rattle.semantics.specs.Calls.{Call, push-type, push-pred, push-func, push-model, push-mor-app, push-el, equate-els, impose-type}
-use Rattle.semantics.specs.Calls.{apply-func, apply-pred, bind-var, bind-ambient, close, type-conflicts, root, root-const, lookup-type}
-use Rattle.semantics.specs.Calls.{ambient-parents, Answer, number, says, done, closed, conflicting, found, typed, els, refuse, Machine}
-use Rattle.semantics.specs.Calls.{isAccepted, Step, start, step}
+use Rattle.semantics.specs.Calls.{apply-func, apply-pred, bind-var, bind-ambient, close, type-conflicts, settle, root, root-const}
+use Rattle.semantics.specs.Calls.{lookup-type, ambient-parents, Totals, Answer, number, says, done, closed, conflicting, summed, found, typed}
+use Rattle.semantics.specs.Calls.{els, refuse, Machine, isAccepted, settleRun, Step, start, step}
 
 -- The book: "it reads no structure".
 
@@ -25,7 +26,7 @@ pub record Book : Type 0 where
   pub equalities : List Pair
   -- "of 9 the application as given"
   pub apps : List FuncApp
-  -- "the merges of an accepted 13", summed
+  -- "the merges of an accepted 13", summed, and of a settle "its merges in the sum"
   pub merges : ℕ
 
 -- The one place that builds a book: the fields in their order.
@@ -54,7 +55,7 @@ blank = book [] [] [] 0
 abbrev pub elements : Book → ℕ
 elements b = length (b .marks)
 
--- "it takes from an accepted call": of a close that merged n, the merges
+-- "it takes from an accepted call": of a close or settle that merged n, the merges
 unfoldable pub taken : Call → ℕ → Book → Book
 taken (push-type t) n b = b
 taken (push-pred p) n b = b
@@ -70,6 +71,7 @@ taken (bind-var v) n b = b
 taken (bind-ambient a) n b = b
 taken close n b = with-merges (n + b .merges) b
 taken type-conflicts n b = b
+taken settle n b = with-merges (n + b .merges) b
 taken (root e) n b = b
 taken (root-const e) n b = b
 taken (lookup-type t ps) n b = b
@@ -79,13 +81,14 @@ taken (ambient-parents ts) n b = b
 unfoldable pub fed : Call → Bool → ℕ → Book → Book
 fed k accepted n b = elim accepted [ true ↦ taken k n b | false ↦ b ]
 
--- "a close's merges"
+-- "a close's merges", and those of a settle
 unfoldable pub mergesOf : Answer → ℕ
 mergesOf (number n) = 0
 mergesOf (says b) = 0
 mergesOf done = 0
 mergesOf (closed c) = c .merges
 mergesOf (conflicting l) = 0
+mergesOf (summed t) = t .merges
 mergesOf (found f) = 0
 mergesOf (typed t) = 0
 mergesOf (els l) = 0
@@ -158,8 +161,13 @@ pub record Classes (b : Book) (k : ℕ) : Type 1 where
 
 -- The claim.
 
--- what holds at the return of an accepted close that answered c, of the book and the links that it leaves
-pub record Conserved (b : Book) (links : List ℕ) (c : Closed) : Type 1 where
+-- the call k, made on m, is a close or a settle that is accepted, and the closes that it ran answered cs
+pub data RanCloses (m : Machine) : Call → List Closed → Type 0 where
+  closes : {c : Closed} → step close m .answer ≡ closed c → RanCloses m close (c ∷ [])
+  settles : {t : Totals} → step settle m .answer ≡ summed t → RanCloses m settle (settleRun (m .sig) (m .structure) .reports)
+
+-- what holds at the return of an accepted close or settle whose closes answered cs, of the book and the links that it leaves
+pub record Conserved (b : Book) (links : List ℕ) (cs : List Closed) : Type 1 where
   -- there are as many links as elements
   pub long : length links ≡ elements b
   pub classes : ℕ
@@ -171,13 +179,13 @@ pub record Conserved (b : Book) (links : List ℕ) (c : Closed) : Type 1 where
   -- the root is the class's lowest number
   pub of-class : (x : ℕ) → x < elements b → (rootOf links x < elements b) × Shared b x (rootOf links x)
   pub lowest : (x y : ℕ) → x < elements b → y < elements b → Shared b x y → rootOf links x ≤ y
-  -- the round limit
-  pub few : c .rounds ≤ c .merges + 2
+  -- the round limit, "for each close that settle ran"
+  pub few : All (λ (c : Closed). c .rounds ≤ c .merges + 2) cs
 
--- "This is a single claim about the list": after any calls and then a close that is accepted, with no element marked up to then.
--- The calls are any, so this is said of every accepted close of every list, whatever follows.
+-- "This is a single claim about the list": after any calls and then a close or settle that is accepted, with no element marked up to then.
+-- The calls are any, so this is said of every accepted close and settle of every list, whatever follows.
 unfoldable pub Conservation : Type 1
 Conservation =
-    (before : List Call) (c : Closed) → step close (history before .machine) .answer ≡ closed c
-    → anyMarked (history (before ++ (close ∷ [])) .book .marks) ≡ false
-    → Conserved (history (before ++ (close ∷ [])) .book) (history (before ++ (close ∷ [])) .machine .structure .links) c
+    (before : List Call) (k : Call) (cs : List Closed) → RanCloses (history before .machine) k cs
+    → anyMarked (history (before ++ (k ∷ [])) .book .marks) ≡ false
+    → Conserved (history (before ++ (k ∷ [])) .book) (history (before ++ (k ∷ [])) .machine .structure .links) cs

@@ -18,7 +18,7 @@ badChain = 2
 abbrev pub malformed : ℕ
 malformed = 3
 
--- "kinds 1 to 5 after any accepted of 6 to 14"
+-- "kinds 1 to 5 after any accepted of 6 to 14"; 02, M-100: "Number 4 treats kind 15 as it does 14"
 abbrev pub tooLate : ℕ
 tooLate = 4
 

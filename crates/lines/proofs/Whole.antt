@@ -7,8 +7,9 @@ use lib.ListN.{length, length-append}
 use lib.Seq.{take-all}
 use Rattle.semantics.specs.Close.{Closed}
 use Rattle.semantics.specs.Conflicts.{Conflict}
-use Rattle.semantics.specs.Sheet.{spaced, space, slash, newline, close-word, conflict-word, conflicts-word, refused-word, at-word}
-use Rattle.semantics.specs.Sheet.{end-word, bit, closeLine, conflictLine, conflictLines, conflictsLine, refusedLine, endLine}
+use Rattle.semantics.specs.Calls.{Totals}
+use Rattle.semantics.specs.Sheet.{spaced, space, slash, newline, close-word, conflict-word, conflicts-word, settle-word, refused-word}
+use Rattle.semantics.specs.Sheet.{at-word, end-word, bit, closeLine, conflictLine, conflictLines, conflictsLine, settleLine, refusedLine, endLine}
 use Rattle.lines.specs.View.{maxLine, putOf, Added, conflictsEnd}
 use Rattle.lines.proofs.Puts.{put-put}
 use Rattle.lines.proofs.Decimals.{spaced-more}
@@ -58,6 +59,10 @@ conflict-parts c = rw (spaced-more (c .el) (c .a .typ ∷ c .a .parents)) (simp 
 pub conflicts-parts : (n : ℕ) → conflicts-word ++ spaced (n ∷ []) ++ (newline ∷ []) ≡ conflictsEnd n
 unfolding conflictsEnd
 conflicts-parts n = refl
+
+pub settle-parts : (t : Totals) → settle-word ++ spaced (t .closes ∷ []) ++ spaced (t .merges ∷ []) ++ (newline ∷ []) ≡ settleLine t
+unfolding settleLine
+settle-parts t = rw (spaced-more (t .closes) (t .merges ∷ [])) (simp append-assoc)
 
 pub refused-parts : (n i : ℕ) → refused-word ++ spaced (n ∷ []) ++ (space ∷ at-word) ++ spaced (i ∷ []) ++ (newline ∷ []) ≡ refusedLine n i
 unfolding refusedLine

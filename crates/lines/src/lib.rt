@@ -7,6 +7,7 @@ ghost use mathlib.Core.List.{[], _∷_};
 ghost use Prim.Native.Nat.{_+_, _<_};
 ghost use Rattle.ids.specs.Ids.{elsOf};
 ghost use Rattle.ids.specs.Table.{Sized};
+ghost use Rattle.semantics.specs.Calls.{totals};
 ghost use Rattle.semantics.specs.Sheet as sheet;
 ghost use Rattle.facts.specs.View.{factOf};
 ghost use Rattle.lines.specs.View.{maxLine, lineOf, putOf, wideBytes, numberBytes, elsBytes, factBytes, Added, conflictsEnd};
@@ -154,6 +155,16 @@ pub fn conflicts_line(n: u16) -> Line
     let word = Line::new().put_word(b"conflicts");
     let number = word.put_number(n);
     number.put(b'\n')
+}
+
+// `settle K M`
+pub fn settle_line(closes: u64, merges: u64) -> Line
+    ensures { λ r. ⌜ lineOf r ≡ sheet.settleLine (totals closes merges) ⌝ }
+{
+    let word = Line::new().put_word(b"settle");
+    let one = word.put_spaced(closes);
+    let two = one.put_spaced(merges);
+    two.put(b'\n')
 }
 
 // `refused N at I`

@@ -11,11 +11,12 @@ use lib.ListN.{length, take, drop, getD, length-drop, drop-of-length-le, List·g
 use lib.Seq.{drop-cons, drop-drop, take-take, take-nil}
 use lib.Dec.{eqb, leb, ltb, leb·zero, leb·suc-zero, eqb·suc-zero}
 use borrow.Author.Tests.{lt-ltb, le-ltb, le-leb, lt-leb, eq-eqb, ne-eqb, leb-true, leb-false, eqb-true, eqb-false}
+use Rattle.semantics.specs.Calls.{Call}
 use Rattle.semantics.specs.Sheet as sheet
-use Rattle.semantics.specs.Sheet.{words, recordOf, recordAt, maxRecords, recordBytes, allZero, unused, listed, exactly, countFits}
+use Rattle.semantics.specs.Sheet.{words, recordOf, recordAt, maxRecords, recordBytes, allZero, zeroOnly, unused, listed, exactly, countFits}
 use Rattle.semantics.specs.Sheet.{listFits, Form, fits, forms, formOf}
 use Rattle.semantics.specs.Sheet.{typeForm, predForm, funcForm, modelForm, morAppForm, elForm, equalityForm, impositionForm, funcAppForm}
-use Rattle.semantics.specs.Sheet.{predAppForm, varForm, ambientForm, closeForm, conflictsForm}
+use Rattle.semantics.specs.Sheet.{predAppForm, varForm, ambientForm, closeForm, conflictsForm, settleForm}
 use Rattle.records.specs.View.{blank, recordIn, recordWithin, listWithin, within, fitsForm}
 
 -- Words.
@@ -249,9 +250,13 @@ module _ (r : sheet.Record) where
   unfolding fitsForm formOf forms
   none-before h = let zeroth : 0 ≡ r .kind = omega arith in ap (λ (k : ℕ). fitsForm (formOf k) r) zeroth
 
-  pub none-past : 15 ≤ r .kind → false ≡ fitsForm (formOf (r .kind)) r
+  pub none-past : 16 ≤ r .kind → false ≡ fitsForm (formOf (r .kind)) r
   unfolding fitsForm formOf forms
   none-past h = ap (λ (o : Option Form). fitsForm o r) (sym (List·getD-eq-default forms none {n = r .kind} h))
+
+-- the form of a kind that takes nothing
+abbrev bare : (sheet.Record → Call) → Form
+bare call = record { a = zeroOnly; b = λ a. zeroOnly; parents = unused; args = unused; call = call }
 
 -- what a test of bounds tells of a record's form
 abbrev Tells : Bool → sheet.Record → ℕ → ℕ → ℕ → ℕ → ℕ → Type 0
@@ -285,19 +290,17 @@ module _ {t : Bool} (r : sheet.Record) where
   unfolding elForm formOf forms
   as-el h = of-kind 6 elForm refl h 1 0 0 0 0 refl (zero-within (r .b)) (none-within _) (none-within _)
 
-  as-close : r .kind ≡ 13 → Tells t r 0 0 0 0 0
-  unfolding closeForm formOf forms
-  as-close h = of-kind 13 closeForm refl h 0 0 0 0 0 (zero-within (r .a)) (zero-within (r .b)) (none-within _) (none-within _)
+  -- a kind that takes nothing, whatever its call
+  as-bare : (k : ℕ) (call : sheet.Record → Call) → formOf k ≡ some (bare call) → r .kind ≡ k → Tells t r 0 0 0 0 0
+  as-bare k call is h = of-kind k (bare call) is h 0 0 0 0 0 (zero-within (r .a)) (zero-within (r .b)) (none-within _) (none-within _)
 
-  as-conflicts : r .kind ≡ 14 → Tells t r 0 0 0 0 0
-  unfolding conflictsForm formOf forms
-  as-conflicts h = of-kind 14 conflictsForm refl h 0 0 0 0 0 (zero-within (r .a)) (zero-within (r .b)) (none-within _) (none-within _)
-
-  pub as-last : 13 ≤ r .kind → r .kind < 15 → Tells t r 0 0 0 0 0
-  as-last h k = go (eqb (r .kind) 13) refl where
-    go : (u : Bool) → eqb (r .kind) 13 ≡ u → Tells t r 0 0 0 0 0
-    go true e = as-close (eqb-true (r .kind) 13 e)
-    go false e = as-conflicts (omega (arith, eqb-false (r .kind) 13 e))
+  pub as-last : 13 ≤ r .kind → r .kind < 16 → Tells t r 0 0 0 0 0
+  unfolding closeForm conflictsForm settleForm formOf forms
+  as-last h k = go (eqb (r .kind) 13) (eqb (r .kind) 14) refl refl where
+    go : (u v : Bool) → eqb (r .kind) 13 ≡ u → eqb (r .kind) 14 ≡ v → Tells t r 0 0 0 0 0
+    go true v e f = as-bare 13 (closeForm .call) refl (eqb-true (r .kind) 13 e)
+    go false true e f = as-bare 14 (conflictsForm .call) refl (eqb-true (r .kind) 14 f)
+    go false false e f = as-bare 15 (settleForm .call) refl (omega (arith, eqb-false (r .kind) 13 e, eqb-false (r .kind) 14 f))
 
   -- where A or B may be any word
   module _ (la : r .a ≤ most-word) (lb : r .b ≤ most-word) where

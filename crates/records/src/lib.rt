@@ -187,7 +187,7 @@ impl Record {
             9 => self.is_within(Record::ANY, Record::ANY, Record::LIST, 0, Record::LIST),
             10 => self.is_within(Record::ANY, 0, Record::LIST, 0, Record::LIST),
             7 | 11..=12 => self.is_within(Record::ANY, Record::ANY, 0, 0, 0),
-            13..=14 => self.is_within(0, 0, 0, 0, 0),
+            13..=15 => self.is_within(0, 0, 0, 0, 0),
             _ => false,
         }
     }

@@ -2,6 +2,7 @@
 use mathlib.Core.Path.{_≡_, refl}
 use mathlib.Core.Logic.{_⊎_, inl, inr}
 use mathlib.Core.Bool.{Bool, true, false, _&&_, _||_}
+use mathlib.Core.Option.{Option, none, some, Option·none-ne-some}
 use Rattle.ids.proofs.Sorted.{no-test}
 
 pub test : (b : Bool) → (b ≡ true) ⊎ (b ≡ false)
@@ -29,3 +30,7 @@ or-second false b t = t
 pub or-either : (a b : Bool) → (a || b) ≡ true → (a ≡ true) ⊎ (b ≡ true)
 or-either true b t = inl refl
 or-either false b t = inr t
+
+-- an option is not both
+pub none-some : {A X : Type 0} {x : A} → _≡_ {A = Option A} none (some x) → X
+none-some {x = x} e = absurd (Option·none-ne-some x e)

@@ -31,18 +31,19 @@ unfolding answers.firstOf answers.decided answers.outcome
     close.enterAt close.enter close.enterAll close.demanded close.demandedAt close.demandedArgs close.funcArgs close.predArgs close.funcResults
     close.demands close.drained close.drainPass close.rewrote close.functionalityPass close.typed close.typingPass close.passes close.runPasses
     close.round close.isNone close.lastRound close.oneMore close.roundsFrom close.fuel close.rounds close.coreAtStart close.canonicaliseRefs
-    close.withCore close.imposedAfter close.closeRun close.reportOf close.afterClose close.closeCauses close.closeBy close.close
+    close.withCore close.imposedAfter close.closeRun close.reportOf close.afterClose close.metCauses close.closeBy close.close
     conflicts.parentsMatch conflicts.disagree conflicts.firstConflict conflicts.conflictAmong conflicts.conflictAt conflicts.conflictsBelow
     conflicts.typeConflicts
     calls.elCauses calls.withEl calls.equate calls.equalityCauses calls.withEquality calls.isImposed calls.impositionCauses calls.withImposition
     calls.isIdOrComp calls.isReserved calls.appliedEqual calls.applyAt calls.insertFuncAppOrEquate calls.applicationCauses calls.withApplied
     calls.predicationCauses calls.withPredApp calls.variableCauses calls.withVar calls.ambientCauses calls.withAmbient calls.ambientOf
-    calls.haveAmbients calls.ambientEls calls.ambientParentsCauses calls.leading calls.start calls.equalityRule calls.impositionRule calls.applicationRule calls.closeRule calls.rule calls.settledBy calls.leaves
-    calls.acceptance calls.stepBy calls.step calls.afterCalls
+    calls.haveAmbients calls.ambientEls calls.ambientParentsCauses calls.leading calls.start calls.equalityRule calls.impositionRule calls.applicationRule calls.closeRule
+    calls.reportedFirst calls.settleAfter calls.settleBy calls.settleFrom calls.settleRun calls.mergesIn calls.sumsOf calls.settleRule calls.rule
+    calls.settledBy calls.leaves calls.acceptance calls.stepBy calls.step calls.afterCalls
     sheet.words sheet.recordOf sheet.recordAt sheet.allZero sheet.countFits sheet.listFits sheet.kindOf sheet.typeForm sheet.predForm
     sheet.funcForm sheet.modelForm sheet.morAppForm sheet.elForm sheet.equalityForm sheet.impositionForm sheet.funcAppForm sheet.predAppForm
-    sheet.varForm sheet.ambientForm sheet.closeForm sheet.conflictsForm sheet.forms sheet.formOf sheet.fits sheet.callIn sheet.callOf
+    sheet.varForm sheet.ambientForm sheet.closeForm sheet.conflictsForm sheet.settleForm sheet.forms sheet.formOf sheet.fits sheet.callIn sheet.callOf
     sheet.carryOut sheet.digitsFrom sheet.decimal sheet.spaced sheet.bit sheet.closeLine sheet.conflictLine sheet.conflictLines
-    sheet.conflictsLine sheet.refusedLine sheet.endLine sheet.printAnswer sheet.chainBroken sheet.carried sheet.visit sheet.runRecords
+    sheet.conflictsLine sheet.settleLine sheet.refusedLine sheet.endLine sheet.printAnswer sheet.chainBroken sheet.carried sheet.visit sheet.runRecords
     sheet.badLength sheet.runSheet
 everything = 0

@@ -1,6 +1,6 @@
 -- Laws of `step`, proved once for every call: a refused call leaves everything as it was and gives the number of one of its causes; an accepted
 -- one leaves its effect.
-use mathlib.Core.Path.{_≡_, refl, ap}
+use mathlib.Core.Path.{_≡_, refl, ap, _∙_}
 use mathlib.Core.Bool.{Bool, true, false}
 use mathlib.Core.List.{List, [], _∷_, List·Memᴰ}
 use mathlib.Core.Option.{Option, none, some}
@@ -8,20 +8,20 @@ use Prim.Native.Nat.{ℕ}
 use lib.ListN.{length}
 use lib.Dec.{ltb}
 use borrow.Author.Tests.{ltb-true, ltb-false}
-use Rattle.ids.specs.Answers.{Answered, accepted, refused, firstOf, decided, _if_, Outcome, outcome, refusing, accepting}
+use Rattle.ids.specs.Answers.{Answered, accepted, refused, firstOf, decided, Outcome, outcome, refusing, accepting}
 use Rattle.ids.specs.Ids.{tooLong, allBelow}
 use Rattle.ids.specs.Limits.{maxList}
-use Rattle.ids.proofs.Judging.{NoneApplies, numbers, SoFar, decided-by, refused-by, accepted-by}
+use Rattle.ids.proofs.Judging.{NoneApplies, numbers, SoFar, decided-refuses, decided-accepts, decided-by, refused-by, accepted-by}
 use Rattle.ids.proofs.Sorted.{no-test}
 use Rattle.signature.specs.Calls.{TypedM, concreteTypeAt, lookupTypeCauses, lookupType}
 use Rattle.semantics.specs.Valid.{Below, Listed}
 use Rattle.semantics.specs.Structure.{Structure}
 use Rattle.semantics.specs.Close as closing
-use Rattle.semantics.specs.Close.{Closed, CloseRun, closeRun, closeCauses, closeBy, reportOf, afterClose}
+use Rattle.semantics.specs.Close.{Closed, CloseRun, closeRun, metCauses, closeCauses, closeBy, reportOf, afterClose}
 use Rattle.semantics.specs.Calls.{Call, push-type, push-pred, push-func, push-model, push-mor-app, push-el, equate-els, impose-type}
-use Rattle.semantics.specs.Calls.{apply-func, apply-pred, bind-var, bind-ambient, close, type-conflicts, root, root-const, lookup-type}
+use Rattle.semantics.specs.Calls.{apply-func, apply-pred, bind-var, bind-ambient, close, type-conflicts, settle, root, root-const, lookup-type}
 use Rattle.semantics.specs.Calls.{ambient-parents, Answer, isAccepted, typed, closed, refuse, Machine, machine, Step, answers, rule, leading}
-use Rattle.semantics.specs.Calls.{leaves, settledBy}
+use Rattle.semantics.specs.Calls.{leaves, settledBy, settleRule}
 use Rattle.semantics.specs.Calls.{equalityRule, impositionRule, applicationRule, closeRule, acceptance, refusal, stepBy, step}
 
 module _ (k : Call) (m : Machine) where
@@ -44,7 +44,7 @@ module _ (k : Call) (m : Machine) where
 
 -- the effect of a call is no refusal
 pub effect-accepted : (k : Call) (m : Machine) → isAccepted (rule k m .answer) ≡ true
-unfolding rule equalityRule impositionRule applicationRule closeRule isAccepted
+unfolding rule equalityRule impositionRule applicationRule closeRule settleRule isAccepted
 effect-accepted (push-type t) m = refl
 effect-accepted (push-pred p) m = refl
 effect-accepted (push-func f) m = refl
@@ -59,6 +59,7 @@ effect-accepted (bind-var v) m = refl
 effect-accepted (bind-ambient a) m = refl
 effect-accepted close m = refl
 effect-accepted type-conflicts m = refl
+effect-accepted settle m = refl
 effect-accepted (root e) m = refl
 effect-accepted (root-const e) m = refl
 effect-accepted (lookup-type t ps) m = refl
@@ -80,14 +81,26 @@ module _ (k : Call) (m : Machine) where
       step-by k m (λ s. isAccepted (s .answer) ≡ true → NoneApplies (rule k m .causes) × (s ≡ acceptance (rule k m)))
       (λ n q e. absurd (no-test e refl)) (λ none-applies e. (none-applies, refl))
 
--- the number that refuses a close is the one first met
+-- the number that refuses is the one first met
+pub met-first : (o : Option ℕ) → firstOf (metCauses o) ≡ o
+unfolding metCauses firstOf
+met-first none = refl
+met-first (some n) = refl
+
 pub close-first : (c : CloseRun) → firstOf (closeCauses c) ≡ c .core .met
-unfolding closeCauses firstOf
-close-first c = go (c .core .met)
-  where
-    go : (o : Option ℕ) → firstOf (elim o [ none ↦ [] | some n ↦ n if true ∷ [] ]) ≡ o
-    go none = refl
-    go (some n) = refl
+close-first c = met-first (c .core .met)
+
+-- a call that nothing else refuses
+module _ (k : Call) (m : Machine) (o : Option ℕ) (only : rule k m .causes ≡ metCauses o) where
+  met-decides : step k m ≡ decided o (refusal m) (acceptance (rule k m))
+  unfolding step stepBy
+  met-decides = ap (λ (x : Option ℕ). decided x (refusal m) (acceptance (rule k m))) (ap firstOf only ∙ met-first o)
+
+  pub met-refuses : (n : ℕ) → o ≡ some n → step k m ≡ refusal m n
+  met-refuses n e = met-decides ∙ decided-refuses (refusal m) (acceptance (rule k m)) e
+
+  pub met-accepts : o ≡ none → step k m ≡ acceptance (rule k m)
+  met-accepts e = met-decides ∙ decided-accepts (refusal m) (acceptance (rule k m)) e
 
 -- the close of a structure, with the flags that the call leaves, is that of a machine
 unfoldable pub closedAnswer : Machine → Structure → Answered Closed → Step

@@ -4,6 +4,7 @@ pub mod Cases
 pub mod Counts
 pub mod Links
 pub mod Judged
+pub mod Settling
 pub mod Imposed
 pub mod Functionality
 pub mod Queues
@@ -11,3 +12,5 @@ pub mod Stages
 pub mod Pairs
 pub mod Computes
 pub mod ProvedCases
+pub mod RefusedSettle
+pub mod WrongSettles

@@ -1,4 +1,4 @@
--- The proved cases (01, "Proved sheets"): P1 to P10, rows for each number 1 to 11 and for single sentences of 01, as one table, and one theorem: every row holds.
+-- The proved cases (01, "Proved sheets"): P1 to P10, rows for each number 1 to 11 and for single sentences of 01 and 02, as one table, and one theorem: every row holds (with those of RefusedSettle: `everyRowHolds` there).
 -- A row is data: what it runs, what that answers or prints, and claims about the machine that it leaves. That a refused call leaves the machine as
 -- it was is a theorem over every call (`refused-leaves`, Judged); the rows on refusals state it where it computes in few steps.
 use mathlib.Core.Path.{_≡_, refl}
@@ -8,20 +8,20 @@ use mathlib.Core.Option.{Option, none, some}
 use Prim.Native.Nat.{ℕ, zero, suc, _-_, _/_, _%_}
 use Prim.Native.Char.{code}
 use Prim.Native.String.{String, [] as no-text, _∷_ as _∷ᵗ_}
-use lib.ListN.{length, take, getD}
+use lib.ListN.{length, take, getD, set, replicate}
 use Rattle.ids.specs.Table.{lookupOf}
 use Rattle.unification.specs.Roots.{maxEls}
 use Rattle.signature.specs.Model.{Kind, plain, model, mor, maxTypes, maxPreds, maxFuncs, type-entry, pred-entry, func-entry, model-entry}
 use Rattle.signature.specs.Model.{mor-app-entry}
 use Rattle.semantics.specs.Structure.{Fact, fact, func-app, pred-app, variable, ambient, compareFuncApp, resultOf, maxPairs}
-use Rattle.semantics.specs.Structure.{maxImpositions, maxFuncApps, maxPredApps, maxFacts, maxVars, with-facts}
+use Rattle.semantics.specs.Structure.{maxImpositions, maxFuncApps, maxPredApps, maxFacts, maxVars, with-facts, with-impositions}
 use Rattle.semantics.specs.Types.{factsAt}
 use Rattle.semantics.specs.Conflicts.{Conflict, conflict}
 use Rattle.semantics.specs.Calls.{Call, push-type, push-func, push-pred, push-el, equate-els, impose-type, apply-func, apply-pred}
 use Rattle.semantics.specs.Calls.{push-model, push-mor-app, bind-var, bind-ambient}
-use Rattle.semantics.specs.Calls.{close, type-conflicts, lookup-type, ambient-parents, ConcreteType, concrete-type, afterCalls}
+use Rattle.semantics.specs.Calls.{close, type-conflicts, settle, lookup-type, ambient-parents, ConcreteType, concrete-type, afterCalls}
 use Rattle.semantics.specs.Calls as steps
-use Rattle.semantics.specs.Calls.{Answer, number, says, done, closed, conflicting, found, typed, els, refuse, Machine, start, step}
+use Rattle.semantics.specs.Calls.{totals, Answer, number, says, done, closed, conflicting, found, typed, els, refuse, Machine, start, step}
 use Rattle.semantics.specs.Sheet.{bit, newline, runSheet}
 use Rattle.semantics.proofs.Computes.{everything}
 
@@ -37,6 +37,8 @@ pub data Source : Type 0 where
 pub data Stated : Type 0 where
   -- changed (1 or 0), merges, rounds
   closes : ℕ → ℕ → ℕ → Stated
+  -- closes run, merges summed
+  settles : ℕ → ℕ → Stated
   conflicts : List Conflict → Stated
   -- the type with its leading parents, or none
   types : Option ConcreteType → Stated
@@ -92,6 +94,7 @@ pub record Row : Type 0 where
 -- what a row states of a call's answer; what the other accepted calls answer it leaves out
 unfoldable pub stated : Answer → List Stated → List Stated
 stated (closed c) rest = closes (bit (c .changed)) (c .merges) (c .rounds) ∷ rest
+stated (steps.summed t) rest = settles (t .closes) (t .merges) ∷ rest
 stated (conflicting cs) rest = conflicts cs ∷ rest
 stated (typed t) rest = types t ∷ rest
 stated (refuse n) rest = refuses n ∷ rest
@@ -245,6 +248,18 @@ setFacts fs m = steps.machine (m .sig) (with-facts fs (m .structure))
 abbrev pub holding : ℕ → Machine
 holding n = setFacts (factsBefore n []) (afterCalls (downFrom maxTypes (λ n. typ plain []) ++ downFrom maxTypes (λ n. plainEl)) start)
 
+-- no element, and type 0 imposed on element 0
+abbrev pub impositionOnNone : Machine
+impositionOnNone = steps.machine (afterCalls (typ plain [] ∷ []) start .sig) (with-impositions (fact 0 0 [] ∷ []) (start .structure))
+
+-- a sheet of one settle whose word i is 1
+abbrev pub settleWith : ℕ → Row
+settleWith i = record {
+  source = sheet (littleEndian (set (0 ∷ 15 ∷ replicate 14 0) i 1));
+  output = prints (lines ("refused 3 at 0" ∷ []));
+  claims = machine is whole start ∷ [];
+}
+
 -- The table.
 
 unfoldable pub table : List Row
@@ -325,6 +340,38 @@ table =
       source = calls (imposed5 ++ (close ∷ close ∷ close ∷ []));
       output = tells (closes 1 1 2 ∷ closes 1 1 3 ∷ closes 0 0 1 ∷ []);
       claims = settled is flag true ∷ [];
+    }
+    -- P1 as a settle: "repeats close until one reports no change", and with no element that is the first
+    ∷ record { source = calls (settle ∷ []); output = tells (settles 1 0 ∷ []); claims = settled is flag true ∷ [] }
+    ∷ record { source = sheet (entry 0 15 0 0 [] []); output = prints (lines ("settle 1 0" ∷ "end 1" ∷ [])); claims = [] }
+    -- P4 as settles
+    ∷ record {
+      source = calls (imposed4 ++ (settle ∷ equate-els 0 1 ∷ settle ∷ []));
+      output = tells (settles 2 0 ∷ settles 2 1 ∷ []);
+      claims = facts 2 is fact-list (fact 2 1 (0 ∷ []) ∷ []) ∷ settled is flag true ∷ [];
+    }
+    -- P5 as a settle; the next one has nothing to do
+    ∷ record {
+      source = calls (imposed5 ++ (settle ∷ []));
+      output = tells (settles 3 2 ∷ []);
+      claims =
+          link 1 is el 0 ∷ link 3 is el 2 ∷ key 0 (0 ∷ []) [] is result (some 2) ∷ key 0 (1 ∷ []) [] is result none
+          ∷ facts 4 is fact-list (fact 4 1 (0 ∷ []) ∷ []) ∷ settled is flag true ∷ answer settle is said (steps.summed (totals 1 0)) ∷ [];
+    }
+    -- "at most the element count plus one closes": with one element as many
+    ∷ record {
+      source = calls (typ plain [] ∷ plainEl ∷ impose 0 0 [] ∷ settle ∷ []);
+      output = tells (settles 2 0 ∷ []);
+      claims = facts 0 is fact-list (fact 0 0 [] ∷ []) ∷ [];
+    }
+    -- four elements in four closes: each close but the last merges one element with 0, which brings 0 a fact whose parent the next close merges
+    ∷ record {
+      source = calls
+          (types2
+          ++ (typ plain (0 ∷ []) ∷ plainEl ∷ markedEl ∷ markedEl ∷ markedEl ∷ impose 0 2 (1 ∷ []) ∷ impose 2 2 (0 ∷ [])
+          ∷ impose 0 1 (3 ∷ []) ∷ impose 3 1 (2 ∷ []) ∷ impose 0 1 (0 ∷ []) ∷ settle ∷ []));
+      output = tells (settles 4 3 ∷ []);
+      claims = link 1 is el 0 ∷ link 2 is el 0 ∷ link 3 is el 0 ∷ [];
     }
     -- P6: "a type with two parents, given 7: absent; given 7, 8, 9: parents 7, 8"
     ∷ record {
@@ -433,6 +480,19 @@ table =
       output = tells (refuses 4 ∷ []);
       claims = machine is whole (afterCalls (plainEl ∷ []) start) ∷ [];
     }
+    -- a structure that no call makes, with an imposition on an element that is not there: the bound ends the settle before it is settled
+    ∷ record {
+      source = callsFrom impositionOnNone (settle ∷ close ∷ settle ∷ []);
+      output = tells (settles 1 0 ∷ closes 0 0 1 ∷ settles 1 0 ∷ []);
+      claims = [];
+    }
+    ∷ record { source = callsFrom impositionOnNone (settle ∷ []); output = tells (settles 1 0 ∷ []); claims = settled is flag false ∷ [] }
+    -- "Number 4 treats kind 15 as it does 14", and a settle of one close leaves what the close leaves
+    ∷ record {
+      source = calls (settle ∷ typ plain [] ∷ []);
+      output = tells (settles 1 0 ∷ refuses 4 ∷ []);
+      claims = machine is whole (afterCalls (close ∷ []) start) ∷ [];
+    }
     -- numbers 3, 4 and 5 leave the machine as it was
     ∷ record {
       source = calls
@@ -442,7 +502,7 @@ table =
     }
     -- "Record 0 comes first; next index 0 ends the chain": records 0, 2, 1, and record 3 is not visited
     ∷ record {
-      source = sheet (entry 2 6 0 0 [] [] ++ entry 0 14 0 0 [] [] ++ entry 1 13 0 0 [] [] ++ entry 0 15 0 0 [] []);
+      source = sheet (entry 2 6 0 0 [] [] ++ entry 0 14 0 0 [] [] ++ entry 1 13 0 0 [] [] ++ entry 0 16 0 0 [] []);
       output = prints (lines ("close 0 0 1" ∷ "conflicts 0" ∷ "end 3" ∷ []));
       claims = [];
     }
@@ -473,7 +533,7 @@ table =
     }
     -- number 3: "kind .. outside the above"
     ∷ record {
-      source = sheet (entry 0 15 0 0 [] []);
+      source = sheet (entry 0 16 0 0 [] []);
       output = prints (lines ("refused 3 at 0" ∷ []));
       claims = machine is whole start ∷ [];
     }
@@ -567,7 +627,7 @@ table =
       claims = machine is whole (afterCalls (typ model [] ∷ typ model [] ∷ plainEl ∷ ambientEl 0 0 ∷ []) start) ∷ [];
     }
     -- number 11: "the close would at some moment hold 1,025 facts": 1,024 are held, and the next refuses the close; a fact that is
-    -- there is no other one
+    -- there is no other one; the rows on a settle that meets 11 in its second close are in RefusedSettle
     ∷ record {
       source = callsFrom (holding (maxFacts - 1)) (impose 0 0 (1 ∷ []) ∷ close ∷ []);
       output = tells (closes 1 0 1 ∷ []);
@@ -579,11 +639,12 @@ table =
       claims = [];
     }
     ∷ record {
-      source = callsFrom (holding maxFacts) (impose 0 0 (1 ∷ []) ∷ close ∷ []);
-      output = tells (refuses 11 ∷ []);
+      source = callsFrom (holding maxFacts) (impose 0 0 (1 ∷ []) ∷ close ∷ settle ∷ []);
+      output = tells (refuses 11 ∷ refuses 11 ∷ []);
       claims = [];
     }
-    ∷ []
+    -- number 3: ".. or an unused word outside the above": of a settle these are all but the first two
+    ∷ map settleWith (2 ∷ 3 ∷ 4 ∷ 5 ∷ 6 ∷ 7 ∷ 8 ∷ 9 ∷ 10 ∷ 11 ∷ 12 ∷ 13 ∷ 14 ∷ 15 ∷ [])
 
 -- The theorem.
 
@@ -597,6 +658,6 @@ agree : {A B : Type 0} (f g : A → B) (l : List A) → map f l ≡ map g l → 
 agree f g (x ∷ xs) e a (List·Memᴰ·head p) = cc
 agree f g (x ∷ xs) e a (List·Memᴰ·tail m) = agree f g xs (cc) a m
 
--- every row of the table holds
-pub everyRowHolds : (r : Row) → List·Memᴰ r table → Holds r
-everyRowHolds r m = agree shownBy statedBy table rowsShow r m
+-- every row that computes holds; `everyRowHolds` (RefusedSettle) is over all
+pub computedRowHolds : (r : Row) → List·Memᴰ r table → Holds r
+computedRowHolds r m = agree shownBy statedBy table rowsShow r m

@@ -1,14 +1,14 @@
--- The calls of the conservation rule (01): kinds 1 to 14, both finds, and the type and ambient lookups.
+-- The calls of the conservation rule (01, and 02, M-100): kinds 1 to 15, both finds, and the type and ambient lookups.
 -- For each call its causes, in order, and its effect stand apart (`rule`), and one `step` carries out every call: the first cause that applies
 -- refuses and leaves everything as it was; where none applies the effect is there, with what every accepted call leaves behind (`leaves`).
-use Prim.Native.Nat.{ℕ}
+use Prim.Native.Nat.{ℕ, zero, suc, _+_}
 use mathlib.Core.Bool.{Bool, true, false, not, _&&_, _||_}
 use mathlib.Core.List.{List, [], _∷_, _++_}
 use mathlib.Core.Option.{Option, none, some}
 use lib.ListN.{length, take}
 use lib.Dec.{eqb, leb, ltb}
 use Rattle.ids.specs.declared.Ordering.the-variants.{Less, Equal, Greater}
-use Rattle.ids.specs.Answers.{Cause, firstOf, decided, _if_, malformed, undeclared, wrongKind, reserved, givenAgain, noRoom, noAmbient}
+use Rattle.ids.specs.Answers.{Cause, Answered, accepted, refused, Outcome, firstOf, decided, _if_, malformed, undeclared, wrongKind, reserved, givenAgain, noRoom, noAmbient}
 use Rattle.ids.specs.Ids.{tooLong, allBelow}
 use Rattle.ids.specs.Table.{present, placed, lookupOf}
 use Rattle.unification.specs.Roots.{maxEls, rootOf, shortOf, addedOf, FindM, findOf, findCauses}
@@ -21,7 +21,8 @@ use Rattle.semantics.specs.Structure.{Fact, FuncApp, PredApp, Pair, pair
 use Rattle.semantics.specs.Structure.{maxImpositions, maxFuncApps, maxPredApps, maxVars, compareFact, compareFuncApp, comparePredApp}
 use Rattle.semantics.specs.Structure.{compareVar, compareAmbient, canonicalFact, canonicalFuncApp, with-links, with-marks}
 use Rattle.semantics.specs.Structure.{with-func-apps, with-pred-apps, with-vars, with-ambients, with-pairs, with-impositions, with-flags}
-use Rattle.semantics.specs.Close.{Closed, CloseRun, closeRun, closeCauses, reportOf, afterClose}
+use Rattle.semantics.specs.Close as closing
+use Rattle.semantics.specs.Close.{Closed, CloseRun, closeRun, metCauses, closeCauses, reportOf, afterClose}
 use Rattle.semantics.specs.Conflicts.{Conflict, typeConflicts}
 
 -- "Numbers must have been declared earlier."
@@ -218,10 +219,19 @@ pub data Call : Type 0 where
   bind-ambient : Ambient → Call
   close : Call
   type-conflicts : Call
+  settle : Call
   root : ℕ → Call
   root-const : ℕ → Call
   lookup-type : ℕ → List ℕ → Call
   ambient-parents : List ℕ → Call
+
+-- a settle's answer: "the closes run and the merges summed"
+pub record Totals : Type 0 where
+  pub closes : ℕ
+  pub merges : ℕ
+
+abbrev pub totals : ℕ → ℕ → Totals
+totals closes merges = record { closes = closes; merges = merges }
 
 -- what a call answers, with the number of a refusal
 pub data Answer : Type 0 where
@@ -230,6 +240,7 @@ pub data Answer : Type 0 where
   done : Answer
   closed : Closed → Answer
   conflicting : List Conflict → Answer
+  summed : Totals → Answer
   found : FindM → Answer
   -- the type with its leading parents, or none
   typed : Option ConcreteType → Answer
@@ -243,6 +254,7 @@ isAccepted (says b) = true
 isAccepted done = true
 isAccepted (closed c) = true
 isAccepted (conflicting l) = true
+isAccepted (summed t) = true
 isAccepted (found f) = true
 isAccepted (typed t) = true
 isAccepted (els l) = true
@@ -266,6 +278,71 @@ answers a m = record { answer = a; after = m }
 unfoldable pub start : Machine
 start = machine signature.empty empty
 
+-- What an accepted call leaves behind.
+
+-- "a structure counts as settled when its latest accepted close reported no change"; the closes of a settle have set it
+unfoldable pub settledBy : Answer → Bool → Bool
+settledBy (closed c) was = not (c .changed)
+settledBy (number n) was = was
+settledBy (says b) was = was
+settledBy done was = was
+settledBy (conflicting cs) was = was
+settledBy (summed t) was = was
+settledBy (found f) was = was
+settledBy (typed t) was = was
+settledBy (els es) was = was
+settledBy (refuse n) was = was
+
+-- the flag for number 4, and settled
+unfoldable pub leaves : Bool → Answer → Structure → Structure
+leaves starts a s = with-flags (starts || s .started) (settledBy a (s .settled)) s
+
+-- Kind 15, settle (02, M-100): "repeats close until one reports no change".
+
+-- what a settle comes to
+pub record SettleRun : Type 0 where
+  -- the answers of the closes that were accepted, in order
+  pub reports : List Closed
+  -- the number that refused a close
+  pub met : Option ℕ
+  -- what the closes leave
+  pub after : Structure
+
+abbrev pub settle-run : List Closed → Option ℕ → Structure → SettleRun
+settle-run cs met s = record { reports = cs; met = met; after = s }
+
+-- a close that answered c, before others
+unfoldable pub reportedFirst : Closed → SettleRun → SettleRun
+reportedFirst c r = settle-run (c ∷ r .reports) (r .met) (r .after)
+
+-- after a close that answered so and left s: the rest follows where it was accepted and reported a change
+unfoldable pub settleAfter : Answered Closed → Structure → (Structure → SettleRun) → SettleRun
+settleAfter (refused n) s rest = settle-run [] (some n) s
+settleAfter (accepted c) s rest =
+    reportedFirst c (elim (c .changed) [
+      | true ↦ rest (leaves true (closed c) s)
+      | false ↦ settle-run [] none (leaves true (closed c) s)
+    ])
+
+unfoldable pub settleBy : Outcome Closed Structure → (Structure → SettleRun) → SettleRun
+settleBy o rest = settleAfter (o .answer) (o .after) rest
+
+-- at most so many closes
+unfoldable pub settleFrom : ℕ → Sig → Structure → SettleRun
+settleFrom zero g s = settle-run [] none s
+settleFrom (suc k) g s = settleBy (closing.close g s) (settleFrom k g)
+
+-- "at most the element count plus one closes"
+unfoldable pub settleRun : Sig → Structure → SettleRun
+settleRun g s = settleFrom (suc (length (s .links))) g s
+
+unfoldable pub mergesIn : List Closed → ℕ
+mergesIn [] = 0
+mergesIn (c ∷ cs) = c .merges + mergesIn cs
+
+unfoldable pub sumsOf : List Closed → Totals
+sumsOf cs = totals (length cs) (mergesIn cs)
+
 -- how a call is carried out
 pub record Rule : Type 0 where
   -- what refuses it, in order
@@ -280,7 +357,7 @@ pub record Rule : Type 0 where
 abbrev pub declares : List Cause → ℕ → Sig → Machine → Rule
 declares cs n g m = record { causes = cs; answer = number n; after = machine g (m .structure); starts = false }
 
--- kinds 6 to 14, which leave another structure: "kinds 1 to 5 after any accepted of 6 to 14" are refused with 4
+-- kinds 6 to 15, which leave another structure: "kinds 1 to 5 after any accepted of 6 to 14" are refused with 4, and "Number 4 treats kind 15 as it does 14"
 abbrev pub states : List Cause → Answer → Structure → Machine → Rule
 states cs a s m = record { causes = cs; answer = a; after = machine (m .sig) s; starts = true }
 
@@ -302,6 +379,10 @@ applicationRule a cs m = states cs (says (a .yes)) (withApplied a (m .structure)
 unfoldable pub closeRule : CloseRun → Machine → Rule
 closeRule c m = states (closeCauses c) (closed (reportOf c)) (afterClose c (m .structure)) m
 
+-- "If a close meets number 11, settle returns 11 and the structure before the settle."
+unfoldable pub settleRule : SettleRun → Machine → Rule
+settleRule r m = states (metCauses (r .met)) (summed (sumsOf (r .reports))) (r .after) m
+
 unfoldable pub rule : Call → Machine → Rule
 rule (push-type t) m = declares (typeCauses (m .structure .started) (m .sig) t) (length (m .sig .types)) (withType (m .sig) t) m
 rule (push-pred p) m = declares (predCauses (m .structure .started) (m .sig) p) (length (m .sig .preds)) (withPred (m .sig) p) m
@@ -321,6 +402,7 @@ rule (bind-var v) m = states (variableCauses (m .structure) v) done (withVar v (
 rule (bind-ambient a) m = states (ambientCauses (m .sig) (m .structure) a) done (withAmbient a (m .structure)) m
 rule close m = closeRule (closeRun (m .sig) (m .structure)) m
 rule type-conflicts m = states [] (conflicting (typeConflicts (m .structure))) (m .structure) m
+rule settle m = settleRule (settleRun (m .sig) (m .structure)) m
 rule (root e) m =
     asks (findCauses (m .structure .links) e) (found (findOf (m .structure .links) e)) (with-links (shortOf (m .structure .links) e) (m .structure)) m
 rule (root-const e) m = asks (findCauses (m .structure .links) e) (found (findOf (m .structure .links) e)) (m .structure) m
@@ -328,24 +410,6 @@ rule (lookup-type t ps) m =
     asks (lookupTypeCauses (m .sig) t ps) (typed (leading ps (concreteTypeAt (m .sig .types) t (length ps)))) (m .structure) m
 rule (ambient-parents ts) m =
     asks (ambientParentsCauses (m .sig) (m .structure) ts) (els (ambientEls ts (m .structure .ambients))) (m .structure) m
-
--- What an accepted call leaves behind.
-
--- "a structure counts as settled when its latest accepted close reported no change"
-unfoldable pub settledBy : Answer → Bool → Bool
-settledBy (closed c) was = not (c .changed)
-settledBy (number n) was = was
-settledBy (says b) was = was
-settledBy done was = was
-settledBy (conflicting cs) was = was
-settledBy (found f) was = was
-settledBy (typed t) was = was
-settledBy (els es) was = was
-settledBy (refuse n) was = was
-
--- the flag for number 4, and settled
-unfoldable pub leaves : Bool → Answer → Structure → Structure
-leaves starts a s = with-flags (starts || s .started) (settledBy a (s .settled)) s
 
 -- an accepted call
 unfoldable pub acceptance : Rule → Step

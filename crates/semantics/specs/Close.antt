@@ -212,9 +212,14 @@ reportOf c = report (ltb 1 (c .rounds .count) || grew (c .rounds .core) (c .core
 unfoldable pub afterClose : CloseRun → Structure → Structure
 afterClose c s = canonicaliseRefs (c .core .links) (withCore (c .core) (c .rounds .apps) s)
 
--- the number first met refuses: "structure before the close"
-unfoldable pub closeCauses : CloseRun → List Cause
-closeCauses c = elim (c .core .met) [ none ↦ [] | some n ↦ n if true ∷ [] ]
+-- the number first met refuses
+unfoldable pub metCauses : Option ℕ → List Cause
+metCauses none = []
+metCauses (some n) = n if true ∷ []
+
+-- "structure before the close"
+abbrev pub closeCauses : CloseRun → List Cause
+closeCauses c = metCauses (c .core .met)
 
 unfoldable pub closeBy : CloseRun → Structure → Outcome Closed Structure
 closeBy c s = outcome (closeCauses c) s (reportOf c) (afterClose c s)

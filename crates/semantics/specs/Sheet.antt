@@ -1,4 +1,4 @@
--- The sheet program (01, "The sheet program"): bytes to records, the chain, and the printed lines as bytes.
+-- The sheet program (01, "The sheet program", and 02, M-100): bytes to records, the chain, and the printed lines as bytes.
 use Prim.Native.Nat.{ℕ, zero, suc, _+_, _-_, _*_, _/_, _%_}
 use mathlib.Core.Bool.{Bool, true, false, not, _&&_, _||_}
 use mathlib.Core.List.{List, [], _∷_, _++_}
@@ -12,8 +12,8 @@ use Rattle.semantics.specs.Structure.{fact, func-app, pred-app, variable
 use Rattle.semantics.specs.Close.{Closed}
 use Rattle.semantics.specs.Conflicts.{Conflict}
 use Rattle.semantics.specs.Calls.{Call, push-type, push-pred, push-func, push-model, push-mor-app, push-el, equate-els, impose-type}
-use Rattle.semantics.specs.Calls.{apply-func, apply-pred, bind-var, bind-ambient, close, type-conflicts, Answer, number, says, done}
-use Rattle.semantics.specs.Calls.{closed, conflicting, found, typed, els, refuse, Machine, Step, refusal, start, step}
+use Rattle.semantics.specs.Calls.{apply-func, apply-pred, bind-var, bind-ambient, close, type-conflicts, settle, Totals, Answer, number, says}
+use Rattle.semantics.specs.Calls.{done, closed, conflicting, summed, found, typed, els, refuse, Machine, Step, refusal, start, step}
 
 -- "A sheet is 1 to 1,024 records of 32 bytes"
 abbrev pub maxRecords : ℕ
@@ -214,6 +214,10 @@ closeForm = record { a = zeroOnly; b = λ a. zeroOnly; parents = unused; args = 
 unfoldable pub conflictsForm : Form
 conflictsForm = record { a = zeroOnly; b = λ a. zeroOnly; parents = unused; args = unused; call = λ r. type-conflicts }
 
+-- 02, M-100: "a sheet record of kind 15"
+unfoldable pub settleForm : Form
+settleForm = record { a = zeroOnly; b = λ a. zeroOnly; parents = unused; args = unused; call = λ r. settle }
+
 -- the form of each kind; kind 0 is none
 unfoldable pub forms : List (Option Form)
 forms =
@@ -232,6 +236,7 @@ forms =
     ∷ some ambientForm
     ∷ some closeForm
     ∷ some conflictsForm
+    ∷ some settleForm
     ∷ []
 
 unfoldable pub formOf : ℕ → Option Form
@@ -292,6 +297,10 @@ conflict-word = 99 ∷ 111 ∷ 110 ∷ 102 ∷ 108 ∷ 105 ∷ 99 ∷ 116 ∷ []
 abbrev pub conflicts-word : List ℕ
 conflicts-word = 99 ∷ 111 ∷ 110 ∷ 102 ∷ 108 ∷ 105 ∷ 99 ∷ 116 ∷ 115 ∷ []
 
+-- "settle"
+abbrev pub settle-word : List ℕ
+settle-word = 115 ∷ 101 ∷ 116 ∷ 116 ∷ 108 ∷ 101 ∷ []
+
 -- "refused"
 abbrev pub refused-word : List ℕ
 refused-word = 114 ∷ 101 ∷ 102 ∷ 117 ∷ 115 ∷ 101 ∷ 100 ∷ []
@@ -326,6 +335,10 @@ conflictLines (c ∷ cs) = conflictLine c ++ conflictLines cs
 unfoldable pub conflictsLine : List Conflict → List ℕ
 conflictsLine cs = conflictLines cs ++ (conflicts-word ++ (spaced (length cs ∷ []) ++ (newline ∷ [])))
 
+-- "It prints `settle K M`, the closes run and the merges summed."
+unfoldable pub settleLine : Totals → List ℕ
+settleLine t = settle-word ++ (spaced (t .closes ∷ t .merges ∷ []) ++ (newline ∷ []))
+
 -- "A refusal prints `refused N at I` (record index, 0 for number 1)"
 unfoldable pub refusedLine : ℕ → ℕ → List ℕ
 refusedLine n i = refused-word ++ (spaced (n ∷ []) ++ (space ∷ (at-word ++ (spaced (i ∷ []) ++ (newline ∷ [])))))
@@ -355,6 +368,7 @@ printAnswer (says b) i m rest = rest
 printAnswer done i m rest = rest
 printAnswer (closed c) i m rest = prints (closeLine c) rest
 printAnswer (conflicting cs) i m rest = prints (conflictsLine cs) rest
+printAnswer (summed t) i m rest = prints (settleLine t) rest
 printAnswer (found f) i m rest = rest
 printAnswer (typed t) i m rest = rest
 printAnswer (els es) i m rest = rest

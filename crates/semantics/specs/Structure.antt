@@ -139,7 +139,7 @@ pub record Structure : Type 0 where
   pub pairs : List Pair
   -- in queue order
   pub impositions : List Fact
-  -- some call of kinds 6 to 14 was accepted: number 4 reads this
+  -- some call of kinds 6 to 15 was accepted: number 4 reads this
   pub started : Bool
   -- "a structure counts as settled when its latest accepted close reported no change"
   pub settled : Bool

@@ -219,6 +219,6 @@ pub record Valid (g : Sig) (s : Structure) : Type 0 where
   pub unreserved : All (Unreserved g) (s .func-apps)
   -- an ambient's type is a Model
   pub of-models : All (OfModel g) (s .ambients)
-  -- number 4, "kinds 1 to 5 after any accepted of 6 to 14": while the signature may still grow nothing is stored, so that no later record makes
+  -- number 4, "kinds 1 to 5 after any accepted of 6 to 14" (and 15: 02, M-100): while the signature may still grow nothing is stored, so that no later record makes
   -- a stored application one of id, comp or a morphism application function
   pub unstarted : s .started ≡ false → s ≡ empty

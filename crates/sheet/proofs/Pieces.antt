@@ -14,7 +14,7 @@ use Rattle.ids.specs.Answers.{badSheet, badChain}
 use Rattle.ids.proofs.Tests.{chosen}
 use Rattle.semantics.specs.Conflicts.{Conflict, typeConflicts}
 use Rattle.semantics.specs.Calls as calls
-use Rattle.semantics.specs.Calls.{Call, Answer, number, says, done, closed, conflicting, found, typed, els, refuse, Machine, Step}
+use Rattle.semantics.specs.Calls.{Call, Answer, number, says, done, closed, conflicting, summed, found, typed, els, refuse, Machine, Step}
 use Rattle.semantics.specs.Calls.{rule, acceptance, step}
 use Rattle.semantics.specs.Sheet.{recordBytes, maxSheet, Record, recordAt, callOf, carryOut, Ran, prints, stops, chainBroken, visit}
 use Rattle.semantics.specs.Sheet.{carried, printAnswer, runRecords, badLength, runSheet, conflictLine, conflictLines}
@@ -148,6 +148,7 @@ module _ (bytes : List ℕ) where
     answer-on i (closed c) = line-on _
     answer-on i (conflicting cs) =
         record { rest = ap (λ (t : List ℕ). prints t (following bytes n next k m)) (conflicts-printed cs); one = refl }
+    answer-on i (summed t) = line-on _
     answer-on i (found f) = line-on []
     answer-on i (typed t) = line-on []
     answer-on i (els es) = line-on []
@@ -342,7 +343,7 @@ module _ (k : ℕ) where
   one = omega arith
 
   effect-pieces : (c : Call) (m : Machine) → ValidMachine m → answerPieces (rule c m .answer) k ≤ piecesOfOne + k
-  unfolding rule calls.equalityRule calls.impositionRule calls.applicationRule calls.closeRule answerPieces
+  unfolding rule calls.equalityRule calls.impositionRule calls.applicationRule calls.closeRule calls.settleRule answerPieces
   effect-pieces (calls.push-type t) m v = one
   effect-pieces (calls.push-pred p) m v = one
   effect-pieces (calls.push-func f) m v = one
@@ -359,6 +360,7 @@ module _ (k : ℕ) where
   effect-pieces calls.type-conflicts m v =
       let most : length (typeConflicts (m .structure)) ≤ length (m .structure .links) = unfold typeConflicts in below-length (m .structure) (length (m .structure .links)) in
       omega (arith, most, v .structure .els-most)
+  effect-pieces calls.settle m v = one
   effect-pieces (calls.root e) m v = one
   effect-pieces (calls.root-const e) m v = one
   effect-pieces (calls.lookup-type t ps) m v = one

@@ -9,9 +9,9 @@ use lib.Dec.{eqb}
 use Rattle.ids.specs.Answers.{badSheet, badChain}
 use Rattle.unification.specs.Roots.{maxEls}
 use Rattle.semantics.specs.Conflicts.{Conflict}
-use Rattle.semantics.specs.Calls.{Answer, number, says, done, closed, conflicting, found, typed, els, refuse, Machine, Step, start}
+use Rattle.semantics.specs.Calls.{Answer, number, says, done, closed, conflicting, summed, found, typed, els, refuse, Machine, Step, start}
 use Rattle.semantics.specs.Sheet.{maxRecords, recordBytes, maxSheet, Record, recordAt, callOf, carryOut, chainBroken, Ran, prints, stops, runRecords}
-use Rattle.semantics.specs.Sheet.{badLength, closeLine, conflictLine, conflictLines, refusedLine, endLine}
+use Rattle.semantics.specs.Sheet.{badLength, closeLine, conflictLine, conflictLines, settleLine, refusedLine, endLine}
 use Rattle.lines.specs.View.{conflictsEnd}
 use Rattle.sheet.specs.declared.Stage.{Stage}
 use Rattle.sheet.specs.declared.Stage.the-variants as stages
@@ -72,6 +72,7 @@ answerPiece (says b) i m n next k = piece [] (followOf m n next k)
 answerPiece done i m n next k = piece [] (followOf m n next k)
 answerPiece (closed c) i m n next k = piece (closeLine c) (followOf m n next k)
 answerPiece (conflicting cs) i m n next k = piece [] (listingAll cs m n next k)
+answerPiece (summed t) i m n next k = piece (settleLine t) (followOf m n next k)
 answerPiece (found f) i m n next k = piece [] (followOf m n next k)
 answerPiece (typed t) i m n next k = piece [] (followOf m n next k)
 answerPiece (els es) i m n next k = piece [] (followOf m n next k)
@@ -157,6 +158,7 @@ answerPieces (says b) after = suc after
 answerPieces done after = suc after
 answerPieces (closed c) after = suc after
 answerPieces (conflicting cs) after = suc (suc (length cs + after))
+answerPieces (summed t) after = suc after
 answerPieces (found f) after = suc after
 answerPieces (typed t) after = suc after
 answerPieces (els es) after = suc after

@@ -190,6 +190,11 @@ fn after_record(carried: Carried, count: u16, index: u16, next: u16, done: u16) 
             };
             Piece { line, progress }
         }
+        Answer::Summed(t) => {
+            let line = lines::settle_line(t.closes, t.merges);
+            let progress = follow(machine, count, next, done);
+            Piece { line, progress }
+        }
         Answer::Number(n) => pass(machine, count, next, done),
         Answer::Says(b) => pass(machine, count, next, done),
         Answer::Done => pass(machine, count, next, done),

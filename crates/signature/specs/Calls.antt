@@ -1,5 +1,5 @@
 -- The calls of kinds 1 to 5 and the type lookup (01, "Types from the signature" and the table of refusals).
--- `started` is the structure's flag for number 4: some call of kinds 6 to 14 was accepted.
+-- `started` is the structure's flag for number 4: some call of kinds 6 to 15 was accepted.
 use Prim.Native.Nat.{ℕ}
 use mathlib.Core.Bool.{Bool, true, false, not, _&&_, _||_}
 use mathlib.Core.List.{List, [], _∷_, _++_}

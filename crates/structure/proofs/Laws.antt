@@ -37,7 +37,7 @@ use Rattle.equalities.proofs.Queue.{equate-room, equate-length}
 use Rattle.structure.specs.declared.Structure.{Structure}
 use Rattle.structure.specs.View.{structureOf, foundOf}
 
--- an accepted call of kinds 6 to 13: what it answers, and what it leaves
+-- an accepted call of kinds 6 to 13 and 15: what it answers, and what it leaves
 pub accepts : (g : Sig) {r : Step} {a b : Answer} {s t : model.Structure} → r ≡ answers a (machine g (leaves true a s)) → a ≡ b → s ≡ t
     → r ≡ answers b (machine g (leaves true b t))
 accepts g e p q = e ∙ (λ i. answers (p i) (machine g (leaves true (p i) (q i))))

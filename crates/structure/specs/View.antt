@@ -13,7 +13,7 @@ use Rattle.semantics.specs.Close as closing
 use Rattle.semantics.specs.Close.{report}
 use Rattle.semantics.specs.Conflicts.{Conflict}
 use Rattle.semantics.specs.Calls as calls
-use Rattle.semantics.specs.Calls.{Step, answers, machine}
+use Rattle.semantics.specs.Calls.{totals, Step, answers, machine}
 use Rattle.semantics.specs.Structure.{structure, maxFacts, maxFuncApps, maxPredApps, maxVars, maxPairs, maxImpositions}
 use Rattle.facts.specs.View.{factsOf, impositionsOf}
 use Rattle.apps.specs.View.{funcAppsOf, predAppsOf}
@@ -24,6 +24,7 @@ use Rattle.structure.specs.declared.Structure.{Structure}
 use Rattle.structure.specs.declared.Answer.{Answer}
 use Rattle.structure.specs.declared.Answer.the-variants as variants
 use Rattle.structure.specs.declared.Closed.{Closed}
+use Rattle.structure.specs.declared.Totals.{Totals}
 use Rattle.structure.specs.declared.Stepped.{Stepped}
 use Rattle.structure.specs.declared.Machine.{Machine}
 use Rattle.structure.specs.declared.Looked.{Looked}
@@ -57,6 +58,9 @@ machineOf m = machine (sigOf (m .signature)) (structureOf (m .structure))
 abbrev pub closedOf : Closed → closing.Closed
 closedOf c = report (c .changed) (c .merges) (c .rounds)
 
+abbrev pub totalsOf : Totals → calls.Totals
+totalsOf t = totals (t .closes) (t .merges)
+
 -- with the conflicts that stand beside it
 abbrev pub answerOf : List Conflict → Answer → calls.Answer
 answerOf cs (variants.Number n) = calls.number n
@@ -64,6 +68,7 @@ answerOf cs (variants.Says b) = calls.says b
 answerOf cs variants.Done = calls.done
 answerOf cs (variants.Closed c) = calls.closed (closedOf c)
 answerOf cs variants.Conflicting = calls.conflicting cs
+answerOf cs (variants.Summed t) = calls.summed (totalsOf t)
 answerOf cs (variants.Refused n) = calls.refuse n
 
 -- what a call on the structure makes of a machine whose signature is g
@@ -99,6 +104,7 @@ elsIn (calls.says b) = []
 elsIn calls.done = []
 elsIn (calls.closed c) = []
 elsIn (calls.conflicting cs) = []
+elsIn (calls.summed t) = []
 elsIn (calls.found f) = []
 elsIn (calls.typed t) = parentsIn t
 elsIn (calls.els es) = es

@@ -50,7 +50,7 @@ pub struct Structure {
     pub pending_equalities: Pairs,
     pub pending_type_impositions: Impositions,
     pub inferred_parent_els: [bool; Structure::MAX_ELS],
-    // A call of kinds 6 to 14 was accepted.
+    // A call of kinds 6 to 15 was accepted.
     pub started: bool,
     // The latest accepted close reported no change.
     pub settled: bool,
@@ -63,6 +63,7 @@ pub enum Answer {
     Done,
     Closed(Closed),
     Conflicting,
+    Summed(Totals),
     Refused(u16),
 }
 
@@ -73,7 +74,13 @@ pub struct Closed {
     pub rounds: u64,
 }
 
-// What a call of kinds 6 to 13 answers, and the structure that it leaves.
+// What a settle reports: the closes run and the merges summed.
+pub struct Totals {
+    pub closes: u64,
+    pub merges: u64,
+}
+
+// What a call of kinds 6 to 13 or 15 answers, and the structure that it leaves.
 pub struct Stepped {
     pub answer: Answer,
     pub structure: Structure,
@@ -186,7 +193,7 @@ impl Structure {
         }
     }
 
-    // What an accepted call of kinds 6 to 14 leaves behind: the flag for number 4, and whether the structure is settled.
+    // What an accepted call of kinds 6 to 15 leaves behind: the flag for number 4, and whether the structure is settled.
     pub fn accept(self, answer: Answer) -> Stepped
         ensures { λ r. ⌜ ((g : Sig) → stepOf g r ≡ answers (answerOf [] answer) (machine g (leaves true (answerOf [] answer) (structureOf self)))) ⌝ }
     {

@@ -29,15 +29,16 @@ use Rattle.semantics.specs.Calls.{isEl, areEls, isPred, elCauses, withEl, equat
 use Rattle.semantics.specs.Calls.{impositionCauses, withImposition, Applied, applied, appliedEqual, applyAt, insertFuncAppOrEquate, appliedTo}
 use Rattle.semantics.specs.Calls.{applicationCauses, withApplied, predicationCauses, withPredApp, variableCauses, withVar, ambientCauses}
 use Rattle.semantics.specs.Calls.{withAmbient, Call, push-type, push-pred, push-func, push-model, push-mor-app, push-el, equate-els}
-use Rattle.semantics.specs.Calls.{impose-type, apply-func, apply-pred, bind-var, bind-ambient, close, type-conflicts, root, root-const}
+use Rattle.semantics.specs.Calls.{impose-type, apply-func, apply-pred, bind-var, bind-ambient, close, type-conflicts, settle, root, root-const}
 use Rattle.semantics.specs.Calls.{lookup-type, ambient-parents, Answer, Machine, start, equalityRule, impositionRule, applicationRule}
-use Rattle.semantics.specs.Calls.{closeRule, rule, settledBy, leaves, acceptance, step, afterCalls}
+use Rattle.semantics.specs.Calls.{closeRule, settleRule, rule, settledBy, leaves, acceptance, step, afterCalls}
 use Rattle.semantics.specs.Valid.{Counts, countsAt, countsOf, FactValid, FuncAppValid, PredAppValid, VarValid, AmbientValid, OnRoot}
 use Rattle.semantics.specs.Valid.{Table, ValidSig, ValidStructure, Unreserved, OfModel, Valid}
 use Rattle.semantics.proofs.Orders.{func-app-ordered, pred-app-ordered, var-ordered, ambient-ordered, order-less}
 use Rattle.semantics.proofs.Cases.{test, and-first, and-second, or-first, or-second}
 use Rattle.semantics.proofs.Links.{length-push, added-is, root-push}
 use Rattle.semantics.proofs.Judged.{step-by, listed-if}
+use Rattle.semantics.proofs.Settling.{run-keeps}
 use Rattle.validity.proofs.Imposing.{canonical-valid}
 use Rattle.validity.proofs.Entering.{canonical-entry}
 use Rattle.validity.proofs.Closing.{after-close}
@@ -85,7 +86,7 @@ ambient-less : (x y : Ambient) → compareAmbient x y ≡ Less → x .typ < y .t
 unfolding compareAmbient
 ambient-less x y e = order-less (x .typ) (y .typ) e
 
--- What a call of kinds 6 to 14 shows of the structure that its effect is: `leaves-valid` adds the flags, for all of them.
+-- What a call of kinds 6 to 15 shows of the structure that its effect is: `leaves-valid` adds the flags, for all of them.
 record ValidEffect (g : Sig) (t : Structure) : Type 0 where
   structure : ValidStructure (countsOf g t) t
   unreserved : All (Unreserved g) (t .func-apps)
@@ -326,9 +327,17 @@ pub start-valid : ValidMachine start
 unfolding start
 start-valid = empty-valid signature.empty empty-sig
 
+-- the effect of a close; a settle has this of each of its closes
+closed-valid : (m : Machine) → ValidMachine m → ValidMachine (acceptance (rule close m) .after)
+unfolding rule closeRule acceptance
+closed-valid m v = leaves-valid _ _ (v .sig) (effect-of (after-close (m .sig) (m .structure) v)) _
+
+close-keeps : (m : Machine) → ValidMachine m → ValidMachine (step close m .after)
+close-keeps m v = step-by close m (λ s. ValidMachine (s .after)) (λ n q. v) (λ none-applies. closed-valid m v)
+
 -- where no cause applies, what a call leaves is valid
 effect-valid : (k : Call) (m : Machine) → ValidMachine m → NoneApplies (rule k m .causes) → ValidMachine (acceptance (rule k m) .after)
-unfolding rule equalityRule impositionRule applicationRule closeRule acceptance
+unfolding rule equalityRule impositionRule applicationRule settleRule acceptance
 effect-valid (push-type t) m v clear = (unfold leaves settledBy in type-valid (m .sig) (m .structure) v t clear)
 effect-valid (push-pred p) m v clear = (unfold leaves settledBy in pred-valid (m .sig) (m .structure) v p clear)
 effect-valid (push-func f) m v clear = (unfold leaves settledBy in func-valid (m .sig) (m .structure) v f clear)
@@ -341,8 +350,9 @@ effect-valid (apply-func x) m v clear = leaves-valid _ _ (v .sig) (application-v
 effect-valid (apply-pred x) m v clear = leaves-valid _ _ (v .sig) (predication-valid (m .sig) (m .structure) v x clear) _
 effect-valid (bind-var x) m v clear = leaves-valid _ _ (v .sig) (variable-valid (m .sig) (m .structure) v x clear) _
 effect-valid (bind-ambient a) m v clear = leaves-valid _ _ (v .sig) (ambient-valid (m .sig) (m .structure) v a clear) _
-effect-valid close m v clear = leaves-valid _ _ (v .sig) (effect-of (after-close (m .sig) (m .structure) v)) _
+effect-valid close m v clear = closed-valid m v
 effect-valid type-conflicts m v clear = leaves-valid _ _ (v .sig) (effect-of v) _
+effect-valid settle m v clear = leaves-valid _ _ (v .sig) (effect-of (run-keeps m ValidMachine (λ z c q w. close-keeps z w) v)) _
 effect-valid (root e) m v clear = (unfold leaves settledBy in find-valid (m .sig) (m .structure) v e clear)
 effect-valid (root-const e) m v clear = (unfold leaves settledBy in v)
 effect-valid (lookup-type t ps) m v clear = (unfold leaves settledBy in v)

@@ -1,4 +1,5 @@
--- A close of a valid structure: it is refused with a number of `closeNumbers` or accepted, leaves no pair that waits where it is accepted, and leaves a valid structure.
+-- A close of a valid structure: it is refused with a number of `closeNumbers` or accepted, leaves no pair that waits where it is accepted, and
+-- leaves a valid structure, with one root fewer for each merge.
 use mathlib.Core.Path.{_≡_, refl, sym, ap, subst, _∙_}
 use mathlib.Core.Logic.{_⊎_, inl, inr}
 use mathlib.Core.Bool.{Bool, true, false, _&&_}
@@ -21,6 +22,7 @@ use Rattle.semantics.specs.Close.{closeRun, closeCauses, reportOf, afterClose, 
 use Rattle.semantics.specs.Valid.{Counts, countsOf, FactValid, PredAppValid, VarValid, FuncAppValid, OnRoot, Queue, Table, ValidStructure, Unreserved}
 use Rattle.semantics.specs.Valid.{Valid}
 use Rattle.semantics.proofs.Orders.{fact-ordered, pred-app-ordered}
+use Rattle.semantics.proofs.Counts.{roots}
 use Rattle.semantics.proofs.Computes.{everything}
 use Rattle.semantics.specs.Calls as calls
 use Rattle.semantics.specs.Calls.{Machine, Step, closed, refusal, step}
@@ -31,7 +33,7 @@ use Rattle.validity.specs.Numbers.{closeNumbers, MayMeet}
 use Rattle.validity.proofs.Drain.{ValidCore}
 use Rattle.validity.proofs.Imposing.{Imposed, imposeAll-advances, roots-listed, canonical-valid, canonical-rooted}
 use Rattle.validity.proofs.Turns.{Begins, AfterRound}
-use Rattle.validity.proofs.Fuel.{LastRoundOf, more-fuel, rounds-end, rounds-after}
+use Rattle.validity.proofs.Fuel.{LastRoundOf, Reached, more-fuel, rounds-end, rounds-after}
 use Rattle.validity.proofs.Growing.{counted}
 
 pub core-valid : (c : Counts) (s : Structure) → ValidStructure c s → ValidCore c (coreAtStart s)
@@ -134,10 +136,13 @@ module _ (g : Sig) (s : Structure) (v : Valid g s) where
   last : Turn
   last = close-ends .turn
 
-  last-after : AfterRound g c last
+  last-reached : Reached g c (coreAtStart s) last
   unfolding last close-ends
-  last-after =
+  last-reached =
       rounds-after g (v .sig) (c .els) (s .pred-apps) (vs .pred-apps .each) (vs .els-most) (coreAtStart s) (s .func-apps) begins
+
+  last-after : AfterRound g c last
+  last-after = last-reached .after
 
   last-ends : goesOn last ≡ false
   unfolding last
@@ -210,6 +215,13 @@ module _ (g : Sig) (s : Structure) (v : Valid g s) where
   unfolding close closeBy outcome ran
   refuses n q = decided-refuses (refusing s) (accepting (reportOf ran) (afterClose ran s)) (close-first ran ∙ q)
 
+  -- each merge makes one root fewer, with a number met or not
+  pub close-roots : roots (afterClose (closeRun g s) s .links) + reportOf (closeRun g s) .merges ≡ roots (s .links)
+  unfolding ran afterClose canonicaliseRefs withCore reportOf coreAtStart
+  close-roots =
+      let rounds-roots = ap (λ (w : Core). roots (w .links) + w .merges) ran-core ∙ last-reached .advances .sum in
+      omega (arith, to-end .advances .sum, rounds-roots)
+
   -- one of the numbers that refuse a close, "structure before the close"
   pub record Refused : Type 0 where
     pub number : ℕ
@@ -251,9 +263,13 @@ module _ (g : Sig) (s : Structure) (v : Valid g s) where
       (accepting (reportOf (closeRun g s)) (afterClose (closeRun g s) s)) (λ n m. before) (λ none-applies. after)
 
   -- a close adds no element
-  pub close-els : length (close g s .after .links) ≡ c .els
+
+  pub after-els : length (afterClose (closeRun g s) s .links) ≡ c .els
   unfolding ran
-  close-els = by-close (λ x. length (x .links) ≡ c .els) refl (after-valid .els)
+  after-els = after-valid .els
+
+  pub close-els : length (close g s .after .links) ≡ c .els
+  close-els = by-close (λ x. length (x .links) ≡ c .els) refl after-els
 
   pub close-valid : Valid g (close g s .after)
   close-valid = by-close (Valid g) v after-close

@@ -40,18 +40,21 @@ pub record Advances (c : Counts) (w v : Core) : Type 0 where
   pub valid : ValidCore c v
   pub merges : w .merges ≤ v .merges
   pub added : w .added ≤ v .added
+  -- each merge makes one root fewer, marks or not
+  pub sum : roots (v .links) + v .merges ≡ roots (w .links) + w .merges
   pub lowered : remaining v + (v .merges + v .added) ≤ remaining w + (w .merges + w .added)
   -- a number that was met stays
   pub met : v .met ≡ none → w .met ≡ none
 
 pub advances-none : (c : Counts) (w : Core) → ValidCore c w → Advances c w w
-advances-none c w h = record { valid = h; merges = omega arith; added = omega arith; lowered = omega arith; met = λ q. q }
+advances-none c w h = record { valid = h; merges = omega arith; added = omega arith; sum = refl; lowered = omega arith; met = λ q. q }
 
 pub advances-then : (c : Counts) (w v u : Core) → Advances c w v → Advances c v u → Advances c w u
 advances-then c w v u a b = record {
   valid = b .valid;
   merges = omega (arith, a .merges, b .merges);
   added = omega (arith, a .added, b .added);
+  sum = b .sum ∙ a .sum;
   lowered = omega (arith, a .lowered, b .lowered);
   met = λ q. a .met (b .met q);
 }
@@ -63,6 +66,7 @@ requeued-advances c ps w h q = record {
   valid = record { els = h .els; links = h .links; marks = h .marks; facts = h .facts; rooted = h .rooted; pairs = q; met = h .met };
   merges = omega arith;
   added = omega arith;
+  sum = refl;
   lowered = omega arith;
   met = λ z. z;
 }
@@ -115,6 +119,7 @@ module _ (c : Counts) (keep drop : ℕ) (w : Core) (h : ValidCore c w) (low : ke
     };
     merges = omega arith;
     added = omega arith;
+    sum = omega (arith, roots-merged (w .links) keep drop low inside rk rd);
     lowered = omega (arith, fewer, h .facts .most, roots-merged (w .links) keep drop low inside rk rd);
     met = λ q. q;
   }

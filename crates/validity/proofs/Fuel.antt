@@ -11,8 +11,9 @@ use Rattle.signature.specs.Model.{Sig}
 use Rattle.semantics.specs.Structure.{FuncApp, PredApp}
 use Rattle.semantics.specs.Types.{Core}
 use Rattle.semantics.specs.Close.{Turn, Rounds, rounds, round, isNone, lastRound, oneMore, roundsFrom, fuel, goesOn}
-use Rattle.semantics.specs.Valid.{countsAt, PredAppValid, ValidSig}
+use Rattle.semantics.specs.Valid.{Counts, countsAt, PredAppValid, ValidSig}
 use Rattle.semantics.proofs.Cases.{test, and-first}
+use Rattle.validity.proofs.Drain.{Advances, advances-then}
 use Rattle.validity.proofs.Turns.{Begins, AfterRound, Within, measure, measure-fuel, measure-falls, round-within}
 
 -- the last of the rounds of `roundsFrom`, with its report
@@ -58,6 +59,11 @@ module _ (g : Sig) (preds : List PredApp) where
         rw (rounds-on k t e, last-on k t e) r
     | inr e ↦ rw (rounds-stop (suc k) t e, last-stop (suc k) t e) (refl, refl)
   ]
+
+-- what a round leaves, and how far it is from the core w with which the first began
+pub record Reached (g : Sig) (c : Counts) (w : Core) (t : Turn) : Type 0 where
+  pub after : AfterRound g c t
+  pub advances : Advances c w (t .core)
 
 -- the last round of some, with its report: it is a round, and no round follows
 pub record LastRoundOf (g : Sig) (preds : List PredApp) (r : Rounds) : Type 0 where
@@ -110,11 +116,16 @@ module _ (g : Sig) (v : ValidSig g) (n : ℕ) (preds : List PredApp) (pv : All (
     | inr e ↦ rw (last-stop g preds (suc k) t e) e
   ]
 
-  pub last-after : (k : ℕ) (t : Turn) → AfterRound g (countsAt g n) t → AfterRound g (countsAt g n) (lastFrom k g preds t)
+  pub last-after : (w : Core) (k : ℕ) (t : Turn) → Reached g (countsAt g n) w t → Reached g (countsAt g n) w (lastFrom k g preds t)
   unfolding next
-  last-after zero t h = (unfold lastFrom in h)
-  last-after (suc k) t h = elim (test (goesOn t)) [
-    | inl e ↦ rw (last-on g preds k t e) (last-after k (round g preds (t .apps) (t .core)) (on t h))
+  last-after w zero t h = (unfold lastFrom in h)
+  last-after w (suc k) t h = elim (test (goesOn t)) [
+    | inl e ↦
+        let r = within t (h .after) in
+        rw (last-on g preds k t e) (last-after w k (round g preds (t .apps) (t .core)) (record {
+          after = r .after;
+          advances = advances-then (countsAt g n) w (t .core) _ (h .advances) (r .advances);
+        }))
     | inr e ↦ rw (last-stop g preds (suc k) t e) h
   ]
 
@@ -131,8 +142,11 @@ module _ (g : Sig) (v : ValidSig g) (n : ℕ) (preds : List PredApp) (pv : All (
   -- The rounds of a close.
 
   module _ (few : n ≤ maxEls) (w : Core) (xs : List FuncApp) (b : Begins g (countsAt g n) w xs) where
+    first : Within g (countsAt g n) w (round g preds xs w)
+    first = round-within g v n preds pv w xs b
+
     begin : AfterRound g (countsAt g n) (round g preds xs w)
-    begin = round-within g v n preds pv w xs b .after
+    begin = first .after
 
     -- more fuel changes nothing
     pub more-fuel : (j : ℕ) → roundsFrom (fuel + j) g preds (round g preds xs w) ≡ roundsFrom fuel g preds (round g preds xs w)
@@ -156,6 +170,6 @@ module _ (g : Sig) (v : ValidSig g) (n : ℕ) (preds : List PredApp) (pv : All (
           ends = last-ends fuel t begin (λ e. measure-fuel g (countsAt g n) t few begin);
         }
 
-    pub rounds-after : AfterRound g (countsAt g n) (rounds-end .turn)
+    pub rounds-after : Reached g (countsAt g n) w (rounds-end .turn)
     unfolding rounds-end
-    rounds-after = last-after fuel (round g preds xs w) begin
+    rounds-after = last-after w fuel (round g preds xs w) (record { after = begin; advances = first .advances })

@@ -156,6 +156,7 @@ module _ (c : Counts) where
     };
     merges = omega arith;
     added = omega arith;
+    sum = refl;
     lowered = omega arith;
     met = met-back (w .met);
   }
@@ -195,6 +196,7 @@ module _ (c : Counts) where
               };
               merges = omega arith;
               added = omega arith;
+              sum = refl;
               lowered = omega arith;
               met = λ z. z;
             };

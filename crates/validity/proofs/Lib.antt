@@ -9,6 +9,7 @@ pub mod Growing
 pub mod Signatures
 pub mod Replacing
 pub mod Calls
+pub mod Settling
 pub mod Reserved
 pub mod Limit
 pub mod OtherLimits

@@ -1,11 +1,11 @@
 //! Fixed histories: P1 to P10, every refusal number for every kind that can
-//! meet it, and the edges of document 01.
+//! meet it, and the edges of document 01 and of settle.
 
 use oracle::record::{AMBIENT_LOOKUP, TYPE_LOOKUP};
 use oracle::stream::{Entry, SHEET, SHEET_WITH_DUMPS};
 
 use crate::history::{bytes, chained, record, History, Words};
-use crate::proved;
+use crate::{proved, settles};
 
 /// All fixed histories in order. Small ones with dumps.
 pub fn all() -> Vec<Entry> {
@@ -13,6 +13,10 @@ pub fn all() -> Vec<Entry> {
     for history in proved::all() {
         entries.extend([history.sheet(), history.sheet_with_dumps()]);
         entries.push(history.list_with_dumps());
+        if history.has_closes() {
+            let settling = history.with_settles();
+            entries.extend([settling.sheet(), settling.list_with_dumps()]);
+        }
     }
     for (start, records) in numbered_refusals() {
         let mut all = start.clone();
@@ -26,6 +30,13 @@ pub fn all() -> Vec<Entry> {
     for history in small_cases() {
         entries.push(history.list_with_dumps());
         entries.push(history.without_finds().sheet_with_dumps());
+        if history.has_closes() {
+            entries.push(history.with_settles().list_with_dumps());
+        }
+    }
+    for history in settles::small() {
+        entries.push(history.list_with_dumps());
+        entries.push(history.without_finds().sheet_with_dumps());
     }
     // A sheet cannot hold the kind of a find.
     entries.push(History::new().el().root(0).sheet());
@@ -34,10 +45,18 @@ pub fn all() -> Vec<Entry> {
         entries.extend([history.list(), history.without_finds().sheet()]);
     }
     for history in fact_limits() {
-        entries.push(history.list());
+        entries.extend([history.list(), history.with_settles().list()]);
     }
     entries.push(fact_limits()[0].without_finds().sheet());
     entries.push(refused_close_in_full().list_with_dumps());
+    entries.push(refused_close_in_full().with_settles().list_with_dumps());
+    entries.extend([deep_links(256), long_rounds()].map(|history| history.with_settles().list()));
+    entries.push(settles::as_many_closes(33).list());
+    for (levels, one_more) in [(0, true), (1, false), (2, true)] {
+        entries.push(settles::at_the_fact_limit(levels, one_more).list());
+    }
+    let refused = settles::at_the_fact_limit(1, true);
+    entries.extend([refused.list_with_dumps(), refused.without_finds().sheet()]);
     entries
 }
 
@@ -87,7 +106,7 @@ fn good_record(kind: u16) -> Words {
 /// Each kind with each of its words set to telling values.
 fn altered_words() -> Vec<History> {
     let mut histories = Vec::new();
-    for kind in 1..=14 {
+    for kind in 1..=15 {
         let mut h = if kind < 6 { signature() } else { beginning() };
         for word in 1..16 {
             for value in [0, 1, 2, 4, 5, 6, 63, 64, u16::MAX] {
@@ -172,7 +191,7 @@ pub fn numbered_refusals() -> Vec<(History, Vec<Numbered>)> {
         (4, record(4, 1, 2, &[], &[6, 7, 8, 9])), // not 6
         (4, record(5, 0, 0, &[], &[2, 5])),       // not 8
         (3, record(0, 0, 0, &[], &[])),           // kind
-        (3, record(15, 0, 0, &[], &[])),          // kind
+        (3, record(16, 0, 0, &[], &[])),          // kind
         (3, record(u16::MAX, 0, 0, &[], &[])),    // kind
         (3, record(6, 2, 0, &[], &[])),           // mark
         (3, record(6, 0, 1, &[], &[])),           // B
@@ -206,7 +225,7 @@ pub fn numbered_refusals() -> Vec<(History, Vec<Numbered>)> {
         (6, record(12, 1, 0, &[], &[])),
         (8, record(12, 0, 1, &[], &[])),
     ]);
-    for kind in 6..=14 {
+    for kind in 6..=15 {
         for word in [4, 5, 9, 13, 14, 15] {
             after.push((3, altered(kind, word, 5))); // count, slot or unused word
         }
@@ -224,9 +243,10 @@ fn small_cases() -> Vec<History> {
         build(&mut h);
         cases.push(h);
     };
-    // Number 4 follows each accepted call of kinds 6 to 14, and no other.
+    // Number 4 follows each accepted call of kinds 6 to 15, and no other.
     case(&|h| _ = h.close().plain(&[]));
     case(&|h| _ = h.conflicts().plain(&[]));
+    case(&|h| _ = h.settle().plain(&[]));
     case(&|h| _ = h.el().plain(&[]));
     case(&|h| {
         h.plain(&[]).type_lookup(0, &[]).ambient_lookup(&[]).root(0).plain(&[]);
@@ -432,6 +452,7 @@ fn joins() -> Vec<History> {
 /// Sheets that are edges by their bytes or their chain.
 fn sheet_shapes() -> Vec<Entry> {
     let close = record(13, 0, 0, &[], &[]);
+    let settle = record(15, 0, 0, &[], &[]);
     let el = record(6, 0, 0, &[], &[]);
     let sheet = |bytes: Vec<u8>| Entry { mode: SHEET, bytes };
     let linked = |links: &[u16], words: Words| {
@@ -467,6 +488,7 @@ fn sheet_shapes() -> Vec<Entry> {
         linked(&[1, 2, 3], el),
         linked(&[2, 9, 0], el),
         linked(&[1, 1, 0, 0, 0], close),
+        linked(&[1, 1, 0], settle),
         linked(&[3, 4, 0, 1, 2], el),
         linked(&[u16::MAX, 0], el),
     ];

@@ -56,6 +56,25 @@ impl History {
         History { records: records.filter(|words| words[1] < ROOT).collect() }
     }
 
+    pub fn has_closes(&self) -> bool {
+        self.records.iter().any(|words| words[1] == 13)
+    }
+
+    /// The same with one settle for each run of closes.
+    pub fn with_settles(&self) -> History {
+        let mut settling = History::new();
+        let mut before = 0;
+        for &words in &self.records {
+            if words[1] != 13 {
+                settling.push(words);
+            } else if before != 13 {
+                settling.settle();
+            }
+            before = words[1];
+        }
+        settling
+    }
+
     pub fn sheet(&self) -> Entry {
         Entry { mode: SHEET, bytes: bytes(&chained(&self.records)) }
     }
@@ -146,6 +165,10 @@ impl History {
 
     pub fn conflicts(&mut self) -> &mut Self {
         self.push(record(14, 0, 0, &[], &[]))
+    }
+
+    pub fn settle(&mut self) -> &mut Self {
+        self.push(record(15, 0, 0, &[], &[]))
     }
 
     pub fn root(&mut self, el: u16) -> &mut Self {

@@ -7,6 +7,7 @@ mod mutants;
 mod proved;
 mod random;
 mod rng;
+mod settles;
 mod shrink;
 #[cfg(test)]
 mod tests;
@@ -156,6 +157,7 @@ struct Tally {
     histories: usize,
     bytes: usize,
     closes: usize,
+    settles: usize,
     merges: usize,
     conflicts: usize,
     refusals: BTreeMap<u16, usize>,
@@ -175,6 +177,11 @@ impl Tally {
                     let _changed = number();
                     self.merges += number().unwrap_or_default();
                 }
+                "settle" => {
+                    self.settles += 1;
+                    let _closes = number();
+                    self.merges += number().unwrap_or_default();
+                }
                 "conflicts" => self.conflicts += number().unwrap_or_default(),
                 "refused" => {
                     let cause = number().unwrap_or_default() as u16;
@@ -191,8 +198,8 @@ impl std::fmt::Display for Tally {
         write!(f, "{} histories, {} bytes: ", self.histories, self.bytes)?;
         write!(
             f,
-            "{} closes, {} merges, {} conflicts, refusals",
-            self.closes, self.merges, self.conflicts
+            "{} closes, {} settles, {} merges, {} conflicts, refusals",
+            self.closes, self.settles, self.merges, self.conflicts
         )?;
         self.refusals.iter().try_for_each(|(number, count)| write!(f, " {number}:{count}"))
     }

@@ -4,6 +4,7 @@ use oracle::stream::Entry;
 
 use crate::history::{bytes, chained, record, History, Words};
 use crate::rng::Rng;
+use crate::settles::{as_many_closes, Copies};
 
 /// The history with this number under this seed.
 pub fn entry(seed: u64, number: u64) -> Entry {
@@ -72,10 +73,18 @@ impl<'a> Maker<'a> {
                 self.fill_with_facts();
                 self.rng.between(10, 60)
             }
-            1..=3 => {
+            1 => {
+                self.fill_with_copies();
+                self.rng.between(0, 20)
+            }
+            2..=4 => {
                 self.declare();
                 self.add_els(20, 256);
                 self.rng.between(50, 700)
+            }
+            5..=24 => {
+                self.settle_slowly();
+                self.rng.between(0, 10)
             }
             _ => {
                 self.declare();
@@ -87,7 +96,7 @@ impl<'a> Maker<'a> {
             self.add_call();
         }
         for _ in 0..self.rng.between(0, 3) {
-            self.history.close();
+            self.add_close();
         }
         if self.rng.percent(70) {
             self.history.conflicts();
@@ -122,6 +131,53 @@ impl<'a> Maker<'a> {
             self.history.holds(2, &[], &[el, el, el, el]);
         }
         self.history.close();
+    }
+
+    /// A settle that takes some closes: one of as many closes as elements, its
+    /// impositions in another order and with other calls among them.
+    fn settle_slowly(&mut self) {
+        let els = self.rng.between(3, 8);
+        self.history = as_many_closes(els as u16);
+        self.history.records.pop();
+        self.types = vec![(1, 0); els - 1];
+        self.types[0] = (0, 1);
+        self.els = els;
+        let last = self.history.records.len() - 1;
+        let first = last + 1 - (2 * els - 3);
+        for _ in 0..self.rng.between(0, 2) {
+            let (one, other) = (self.rng.between(first, last), self.rng.between(first, last));
+            self.history.records.swap(one, other);
+        }
+        for _ in 0..self.rng.between(0, 3) {
+            self.add_call();
+        }
+        self.history.settle();
+    }
+
+    /// A structure that holds few facts and, in one of the closes of a settle, about
+    /// as many as it can.
+    fn fill_with_copies(&mut self) {
+        let steps = self.rng.between(8, 20);
+        let copies = Copies {
+            levels: self.rng.between(0, 3) as u16,
+            steps: steps as u16,
+            apps: self.rng.between(1018, 1030).div_ceil(5 * (steps + 1)) as u16,
+        };
+        copies.prepare(&mut self.history);
+        self.types = vec![(0, 1), (2, 0), (2, 0), (2, 0), (2, 0), (2, 0), (1, 0)];
+        self.funcs = vec![(2, 4), (1, 0), (0, 1)];
+        self.els = copies.els().into();
+        for _ in 0..self.rng.between(0, 2) {
+            self.add_call();
+        }
+        if self.rng.percent(50) {
+            self.add_close();
+        }
+        copies.start(&mut self.history);
+        for _ in 0..self.rng.between(0, 2) {
+            self.add_call();
+        }
+        self.history.settle();
     }
 
     fn add_els(&mut self, least: usize, most: usize) {
@@ -251,7 +307,7 @@ impl<'a> Maker<'a> {
             14..=31 => self.add_imposition(a),
             32..=57 => self.add_application(),
             58..=67 => self.add_predicate(),
-            68..=78 => _ = self.history.close(),
+            68..=78 => self.add_close(),
             79..=85 => _ = self.history.conflicts(),
             86..=89 => _ = self.history.var(self.rng.below(6) as u16, a),
             90..=92 => _ = self.history.ambient(self.rng.below(6) as u16, a),
@@ -269,6 +325,15 @@ impl<'a> Maker<'a> {
                 let types = self.some_types(3);
                 _ = self.history.ambient_lookup(&types);
             }
+        }
+    }
+
+    /// A close, or a settle in its place.
+    fn add_close(&mut self) {
+        if self.rng.percent(40) {
+            self.history.settle();
+        } else {
+            self.history.close();
         }
     }
 
@@ -337,7 +402,7 @@ fn damage_records(rng: &mut Rng, records: &mut Vec<Words>) {
                     1 => old.wrapping_sub(1),
                     2 => u16::MAX,
                     3 => rng.below(1 << 16) as u16,
-                    _ => rng.below(16) as u16,
+                    _ => rng.below(17) as u16,
                 };
             }
         }

@@ -1,4 +1,4 @@
-//! P1 to P10 as document 01 has them, the edges, and the tools themselves.
+//! P1 to P10 as document 01 has them, settles, the edges, and the tools themselves.
 
 use std::collections::BTreeSet;
 use std::fs;
@@ -6,12 +6,12 @@ use std::path::Path;
 
 use oracle::record::{self, Record};
 use oracle::stream::{self, Entry, LIST, LIST_WITH_DUMPS};
-use standin::FAULTS;
+use standin::Fault;
 
 use crate::compare::{first_difference, stream_of, Subject};
 use crate::history::History;
 use crate::rng::Rng;
-use crate::{edges, histories, proved, random, shrink, SAMPLE};
+use crate::{edges, histories, proved, random, settles, shrink, SAMPLE};
 
 /// What an entry prints, without the line that begins it.
 fn answers(entry: &Entry) -> Vec<String> {
@@ -108,6 +108,65 @@ fn p10_equal_to_itself() {
     assert_eq!(sheet(&proved::p10()), ["close 0 0 1", "end 3"]);
 }
 
+#[test]
+fn p1_p4_and_p5_as_settles() {
+    let settled = |p: History| sheet(&p.with_settles());
+    assert_eq!(settled(proved::p1()), ["settle 1 0", "end 1"]);
+    assert_eq!(settled(proved::p4()), ["settle 2 0", "settle 2 1", "end 9"]);
+    assert_eq!(settled(proved::p5()), ["settle 3 2", "end 13"]);
+    for p in [proved::p1(), proved::p4(), proved::p5()] {
+        assert_eq!(structure(&p.with_settles()), structure(&p));
+    }
+}
+
+/// One close more than elements for none and one, as many for more.
+#[test]
+fn settles_of_the_most_closes() {
+    assert_eq!(list(History::new().settle()), ["settle 1 0"]);
+    let mut one = History::new();
+    one.plain(&[]).el().impose(0, 0, &[]).settle();
+    assert_eq!(list(&one)[3..], ["settle 2 0"]);
+    for els in 3..=33 {
+        let mut h = settles::as_many_closes(els);
+        assert_eq!(list(&h).last(), Some(&format!("settle {els} {}", els - 1)));
+        let before = h.records.len() - 1;
+        h.records.truncate(before);
+        for _ in 0..els {
+            h.close();
+        }
+        let closes = &list(&h)[before..];
+        let (last, others) = closes.split_last().expect("it has closes");
+        assert_eq!(last, "close 0 0 1");
+        assert!(others.iter().all(|line| line == "close 1 1 1"));
+    }
+}
+
+/// The answer and the structure of a settle that comes to 1,024 facts or to one more
+/// in a close after accepted ones.
+#[test]
+fn a_refused_settle_leaves_everything() {
+    for levels in 0..=2 {
+        let merges = levels + 11;
+        let accepted = settles::at_the_fact_limit(levels, false);
+        let line = format!("settle {} {merges}", levels + 2);
+        assert!(list(&accepted).contains(&line));
+
+        let refused = settles::at_the_fact_limit(levels, true);
+        let is_settle = |words: &[u16; 16]| words[1] == 15;
+        let first = refused.records.iter().position(is_settle).expect("it settles");
+        let second = first + 3 - usize::from(levels == 0);
+        assert!(is_settle(&refused.records[second]));
+        let lines = list(&refused);
+        assert_eq!((&lines[first][..], &lines[second][..]), ("settle 2 0", "refused 11"));
+        assert_eq!(structure_after(&refused, second), structure_after(&refused, second + 1));
+        // The closes that the settle ran, one at a time.
+        let closes = &lines[lines.len() - usize::from(levels) - 2..lines.len() - 1];
+        let (last, others) = closes.split_last().expect("it has closes");
+        assert_eq!(last, "refused 11");
+        assert!(others.iter().all(|line| line == "close 1 1 1"));
+    }
+}
+
 /// A history that may grow by `limit` records of one kind and no more.
 fn assert_limit(start: &History, limit: u16, grow: &dyn Fn(&mut History, u16)) {
     let mut h = start.clone();
@@ -186,7 +245,7 @@ fn numbered_refusals_have_their_numbers() {
 }
 
 /// The kinds of calls, and the numbers that each can meet.
-const NUMBERS: [(u16, &[u16]); 18] = [
+const NUMBERS: [(u16, &[u16]); 19] = [
     (1, &[3, 4, 5, 6, 9]),
     (2, &[3, 4, 5, 9]),
     (3, &[3, 4, 5, 9]),
@@ -201,6 +260,7 @@ const NUMBERS: [(u16, &[u16]); 18] = [
     (12, &[3, 5, 6, 8]),
     (13, &[3, 11]),
     (14, &[3]),
+    (15, &[3, 11]),
     (101, &[5]),
     (102, &[5]),
     (103, &[3, 5]),
@@ -233,7 +293,9 @@ fn random_word(rng: &mut Rng, place: usize) -> u16 {
     let word = match place {
         0 => rng.below(13),
         1 => {
-            rng.pick(&[1, 2, 3, 4, 5, 6, 6, 6, 7, 8, 9, 10, 11, 12, 13, 14, 101, 102, 103, 104, 15])
+            let calls = [1, 2, 3, 4, 5, 6, 6, 6, 7, 8, 9, 10, 11, 12, 13, 14, 15];
+            let others = [101, 102, 103, 104, 16];
+            rng.pick(&[&calls[..], &others].concat())
         }
         _ if rng.percent(70) => 0,
         _ => rng.below(300),
@@ -266,17 +328,22 @@ fn random_histories_are_the_same_each_time() {
     assert_ne!(random::entry(3, 0), random::entry(4, 0));
 }
 
-#[test]
-fn a_difference_is_found_and_made_small() {
-    let (fault, _) = FAULTS[1];
+/// The first difference of a wrong version, made small.
+fn smallest_difference(fault: Fault) -> Entry {
     let subject = Subject::StandIn(Some(fault));
     let entries = histories(200, 1);
     let stream = stream_of(&entries);
     let expected = stream::answer(&stream).into_bytes();
     let index = first_difference(&expected, &subject.answer(&stream)).expect("it differs");
-    let smallest = shrink::shrink(&entries[index], &|entry| subject.differs_on(entry));
+    shrink::shrink(&entries[index], &|entry| subject.differs_on(entry))
+}
+
+#[test]
+fn a_difference_is_found_and_made_small() {
     // Three elements, two equalities and a close show the order of draining.
-    assert_eq!(smallest.bytes.len(), 6 * 32);
+    assert_eq!(smallest_difference(Fault::FirstPairFirst).bytes.len(), 6 * 32);
+    // An application, what it needs and a settle show a settle of one close.
+    assert_eq!(smallest_difference(Fault::SettleClosesOnce).bytes.len(), 6 * 32);
 }
 
 #[test]

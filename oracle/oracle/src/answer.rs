@@ -8,10 +8,11 @@ pub enum Answer {
     Number(usize),
     /// Yes or no (kinds 7 to 12).
     Said(bool),
-    Closed {
-        changed: bool,
+    Closed(Closed),
+    /// The closes that a settle ran, and their merges.
+    Settled {
+        closes: usize,
         merges: usize,
-        rounds: usize,
     },
     /// The element and the two facts of each conflict.
     Conflicts(Vec<(usize, Fact, Fact)>),
@@ -21,6 +22,12 @@ pub enum Answer {
     },
     Typed(Option<Fact>),
     Ambients(Numbers),
+}
+
+pub struct Closed {
+    pub changed: bool,
+    pub merges: usize,
+    pub rounds: usize,
 }
 
 pub struct Fact {
@@ -50,9 +57,10 @@ impl fmt::Display for Answer {
             Answer::Refused(number) => writeln!(f, "refused {number}"),
             Answer::Number(number) => writeln!(f, "number {number}"),
             Answer::Said(yes) => writeln!(f, "answer {}", u8::from(*yes)),
-            Answer::Closed { changed, merges, rounds } => {
+            Answer::Closed(Closed { changed, merges, rounds }) => {
                 writeln!(f, "close {} {merges} {rounds}", u8::from(*changed))
             }
+            Answer::Settled { closes, merges } => writeln!(f, "settle {closes} {merges}"),
             Answer::Conflicts(conflicts) => {
                 for (el, a, b) in conflicts {
                     writeln!(f, "conflict {el} {a} / {b}")?;

@@ -3,7 +3,7 @@
 
 use std::collections::BTreeMap;
 
-use crate::answer::Answer;
+use crate::answer::{Answer, Closed};
 use crate::record::Record;
 
 #[derive(Clone, Default)]
@@ -28,14 +28,23 @@ impl Book {
             9 => self.apps.push(*record),
             _ => {}
         }
-        if let Answer::Closed { merges, .. } = answer {
-            self.merges += merges;
-        }
+        self.merges += match answer {
+            Answer::Closed(closed) => closed.merges,
+            Answer::Settled { merges, .. } => *merges,
+            _ => 0,
+        };
     }
 
     /// Elements equal classes plus merges.
     pub fn assert_conserved(&self, classes: usize) {
         assert_eq!(self.els, classes + self.merges, "elements are classes plus merges");
+    }
+
+    /// A close runs at most two rounds more than it merges, where no element is
+    /// marked.
+    pub fn assert_rounds(&self, closed: &Closed) {
+        let most = closed.merges + 2;
+        assert!(self.has_marks || closed.rounds <= most, "rounds are at most merges and two");
     }
 
     /// After a close the roots are those of the smallest fitting partition.

@@ -13,7 +13,7 @@ use super::{
 use crate::algebra::signature::{
     FuncId, ModelIds, MorphismMemberTypes, PredId, Signature, TypeId, TypeKind,
 };
-use crate::answer::{Answer, Fact, Numbers};
+use crate::answer::{Answer, Closed, Fact, Numbers};
 use crate::book::Book;
 use crate::record::{Record, Table, ROOT, ROOT_CONST, TYPE_LOOKUP};
 
@@ -33,7 +33,7 @@ const MAX_FACTS: usize = 1024;
 pub struct Oracle {
     signature: Signature,
     structure: Structure,
-    /// Whether any call of kinds 6 to 14 was accepted (number 4).
+    /// Whether any call of kinds 6 to 15 was accepted (number 4).
     begun: bool,
     /// Whether the latest accepted close reported no change.
     settled: bool,
@@ -45,7 +45,7 @@ pub struct Oracle {
 struct TooManyFacts;
 
 impl Oracle {
-    /// The calls of kinds 1 to 14. A refused one leaves everything as it was.
+    /// The calls of kinds 1 to 15. A refused one leaves everything as it was.
     pub fn call(&mut self, record: &Record) -> Answer {
         if let Some(number) = self.refusal(record) {
             return Answer::Refused(number);
@@ -61,7 +61,18 @@ impl Oracle {
         }
         next.begun |= record.kind() >= 6;
         next.book.enter(record, &answer);
-        next.assert_sound(record.kind() == 13);
+        next.assert_sound();
+        match &answer {
+            Answer::Closed(closed) => {
+                next.book.assert_rounds(closed);
+                next.assert_closed();
+            }
+            Answer::Settled { .. } => {
+                assert!(next.settled);
+                next.assert_closed();
+            }
+            _ => {}
+        }
         *self = next;
         answer
     }
@@ -288,14 +299,15 @@ impl Oracle {
                 structure.ambient_model_els.insert(TypeId::new(a), el_id(b));
                 Answer::Said(true)
             }
-            13 => self.close()?,
-            _ => self.conflicts(),
+            13 => Answer::Closed(self.close()?),
+            14 => self.conflicts(),
+            _ => self.settle()?,
         })
     }
 
     /// The Rust's close pass by pass, so that merges and rounds can be counted
     /// and facts watched. The real close must do the same.
-    fn close(&mut self) -> Result<Answer, TooManyFacts> {
+    fn close(&mut self) -> Result<Closed, TooManyFacts> {
         let mut real = self.structure.clone();
         let classes = self.structure.els.len();
         let mut changed = false;
@@ -316,7 +328,6 @@ impl Oracle {
             changed |= self.impose(el, ct)?;
         }
         self.structure.canonicalise_refs();
-        assert!(self.structure.pending_equalities.is_empty());
         // A merge takes one class away, and nothing else does.
         let merges = classes - self.structure.els.len();
 
@@ -324,7 +335,33 @@ impl Oracle {
         assert_eq!(real_changed, changed, "the real close answers otherwise");
         assert!(is_same(&real, &self.structure), "the real close differs");
         self.settled = !changed;
-        Ok(Answer::Closed { changed, merges, rounds })
+        Ok(Closed { changed, merges, rounds })
+    }
+
+    /// Closes until one reports no change. Each close is a call of its own on a
+    /// copy, so that what is asserted of a close is asserted of each, and nothing
+    /// is kept where one is refused.
+    fn settle(&mut self) -> Result<Answer, TooManyFacts> {
+        let mut copy = self.clone();
+        let (mut closes, mut merges) = (0, 0);
+        loop {
+            let closed = match copy.call(&Record::of_kind(13)) {
+                Answer::Closed(closed) => closed,
+                Answer::Refused(11) => return Err(TooManyFacts),
+                _ => unreachable!("a close is refused with 11 or not at all"),
+            };
+            closes += 1;
+            merges += closed.merges;
+            if !closed.changed {
+                break;
+            }
+            let elements = self.structure.unification.len();
+            assert!(closes <= elements, "a settle closes at most once more than elements");
+            assert!(closes == 1 || closed.merges > 0, "after a close a change is a merge");
+        }
+        self.structure = copy.structure;
+        self.settled = copy.settled;
+        Ok(Answer::Settled { closes, merges })
     }
 
     /// The Rust's `typing`, one imposing at a time.
@@ -372,8 +409,8 @@ impl Oracle {
         Answer::Conflicts(conflicts.map(|c| (c.el.0, fact(c.a), fact(c.b))).collect())
     }
 
-    /// What holds of every structure between two calls, and after a close.
-    fn assert_sound(&self, closed: bool) {
+    /// What holds of every structure between two calls.
+    fn assert_sound(&self) {
         let structure = &self.structure;
         let links = &structure.unification;
         let els = || (0..links.len()).map(ElId);
@@ -384,11 +421,16 @@ impl Oracle {
         let mut facts = structure.els.values().flatten();
         assert!(facts.all(|ct| ct.parents.iter().all(is_root)), "parents of facts are roots");
         assert!(self.facts() <= MAX_FACTS);
-        let roots: Vec<usize> = els().map(|el| links.root_const(el).0).collect();
         self.book.assert_conserved(structure.els.len());
-        if closed {
-            self.book.assert_smallest(&roots);
-        }
+    }
+
+    /// What holds after a close or a settle.
+    fn assert_closed(&self) {
+        let links = &self.structure.unification;
+        let els = (0..links.len()).map(ElId);
+        let roots: Vec<usize> = els.map(|el| links.root_const(el).0).collect();
+        self.book.assert_smallest(&roots);
+        assert!(self.structure.pending_equalities.is_empty());
     }
 
     /// The structure line by line; FORMAT.md says how.

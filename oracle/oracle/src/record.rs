@@ -26,6 +26,13 @@ impl Record {
         Record { words }
     }
 
+    /// The record of a kind that has no fields.
+    pub fn of_kind(kind: u16) -> Record {
+        let mut words = [0; 16];
+        words[1] = kind;
+        Record { words }
+    }
+
     pub fn next(&self) -> u16 {
         self.words[0]
     }
@@ -112,7 +119,7 @@ impl Record {
             10 => (Names(Preds), Zero, upto_four(Els), upto_four(Els)),
             11 => (UpTo(63), Names(Els), unused(), unused()),
             12 => (Names(Types), Names(Els), unused(), unused()),
-            13 | 14 => (Zero, Zero, unused(), unused()),
+            13..=15 => (Zero, Zero, unused(), unused()),
             _ => return None,
         };
         Some(Shape { a, b, parents, args })

@@ -29,7 +29,9 @@ pub fn run(bytes: &[u8], dumps: bool, out: &mut String) {
                 *out += &format!("refused {number} at {index}\n");
                 return;
             }
-            Answer::Closed { .. } | Answer::Conflicts(_) => *out += &answer.to_string(),
+            Answer::Closed(_) | Answer::Settled { .. } | Answer::Conflicts(_) => {
+                *out += &answer.to_string();
+            }
             _ => {}
         }
         if dumps {

@@ -1,6 +1,6 @@
 //! The public calls with their refusals.
 
-use crate::close::{close, Closed, Full};
+use crate::close::{close, settle, Closed, Full, Settled};
 use crate::faults::Fault;
 use crate::state::{App, Fact, Find, Model, MorApp, Relation, State, Type, Words};
 
@@ -9,6 +9,7 @@ pub enum Answer {
     Number(usize),
     Said(bool),
     Closed(Closed),
+    Settled(Settled),
     Conflicts(Vec<(u16, Fact, Fact)>),
     Found(Find),
     Typed(Option<Fact>),
@@ -17,7 +18,7 @@ pub enum Answer {
 
 /// Kind by kind: the largest A and B, the most parents, the least and the most
 /// arguments. B of kind 1 is used only for a Mor.
-const SHAPES: [[u16; 5]; 14] = [
+const SHAPES: [[u16; 5]; 15] = [
     [3, ANY, 4, 0, 0],
     [0, 0, 4, 0, 4],
     [0, ANY, 4, 0, 4],
@@ -30,6 +31,7 @@ const SHAPES: [[u16; 5]; 14] = [
     [ANY, 0, 4, 0, 4],
     [63, ANY, 0, 0, 0],
     [ANY, ANY, 0, 0, 0],
+    [0, 0, 0, 0, 0],
     [0, 0, 0, 0, 0],
     [0, 0, 0, 0, 0],
 ];
@@ -48,21 +50,25 @@ fn app(w: &Words) -> App {
 }
 
 impl State {
-    /// Kinds 1 to 14, and 101 to 104 for the finds and lookups.
+    /// Kinds 1 to 15, and 101 to 104 for the finds and lookups.
     pub fn call(&mut self, w: &Words) -> Answer {
         if (101..=104).contains(&w[1]) {
             self.begun |= self.is(Fault::FindsBegin);
             return self.look_up(w);
         }
         if let Some(number) = self.refusal(w) {
-            self.begun |= self.is(Fault::RefusalsBegin) && (6..=14).contains(&w[1]);
+            self.begun |= self.is(Fault::RefusalsBegin) && (6..=15).contains(&w[1]);
             return Answer::Refused(number);
         }
         let before = (w[1] == 13).then(|| self.clone());
         match self.carry_out(w) {
             Ok(answer) => {
-                let unseen = (w[1] == 13 && self.is(Fault::CloseDoesNotBegin))
-                    || (w[1] == 14 && self.is(Fault::ConflictsDoNotBegin));
+                let unseen = match w[1] {
+                    13 => self.is(Fault::CloseDoesNotBegin),
+                    14 => self.is(Fault::ConflictsDoNotBegin),
+                    15 => self.is(Fault::SettleDoesNotBegin),
+                    _ => false,
+                };
                 self.begun |= w[1] >= 6 && !unseen;
                 if self.is(Fault::CallsUnsettle) && (6..=12).contains(&w[1]) {
                     self.settled = false;
@@ -73,7 +79,7 @@ impl State {
                 if let Some(before) = before.filter(|_| !self.is(Fault::RefusedCloseWorks)) {
                     *self = before;
                 }
-                if self.is(Fault::RefusedCloseUnsettles) {
+                if w[1] == 13 && self.is(Fault::RefusedCloseUnsettles) {
                     self.settled = false;
                 }
                 Answer::Refused(11)
@@ -100,7 +106,7 @@ impl State {
         order.into_iter().find(|&number| self.applies(number, w))
     }
 
-    /// Whether a refusal applies to a record of kinds 1 to 14, whatever else does.
+    /// Whether a refusal applies to a record of kinds 1 to 15, whatever else does.
     fn applies(&self, number: u16, w: &Words) -> bool {
         match number {
             3 => !self.is_formed(w),
@@ -114,10 +120,18 @@ impl State {
     }
 
     fn is_formed(&self, w: &Words) -> bool {
-        let Some(&[a, mut b, parents, least, most]) = SHAPES.get(usize::from(w[1]).wrapping_sub(1))
-        else {
+        let shape = SHAPES.get(usize::from(w[1]).wrapping_sub(1));
+        let Some(&[mut a, mut b, parents, least, most]) = shape else {
             return false;
         };
+        if w[1] == 15 {
+            match self.fault {
+                Some(Fault::NoSettle) => return false,
+                Some(Fault::SettleWordsFree) => return true,
+                Some(Fault::SettleTakesA) => a = ANY,
+                _ => {}
+            }
+        }
         if w[1] == 1 && w[2] != 3 && !self.is(Fault::BOfPlainFree) {
             b = 0;
         }
@@ -399,7 +413,8 @@ impl State {
                 Answer::Said(true)
             }
             13 => Answer::Closed(close(self)?),
-            _ => Answer::Conflicts(self.conflicts()),
+            14 => Answer::Conflicts(self.conflicts()),
+            _ => Answer::Settled(settle(self)?),
         })
     }
 

@@ -56,6 +56,92 @@ pub fn close(state: &mut State) -> Result<Closed, Full> {
     Ok(Closed { changed, merges, rounds })
 }
 
+/// The closes that a settle ran, and their merges.
+pub struct Settled {
+    pub closes: u16,
+    pub merges: u16,
+    /// What each of them answered.
+    pub each: Vec<Closed>,
+}
+
+/// Closes until one reports no change, at most once more than there are elements.
+/// A refused one leaves the state as it was.
+pub fn settle(state: &mut State) -> Result<Settled, Full> {
+    let before = state.clone();
+    let els = state.links.len();
+    let most = match state.fault {
+        Some(Fault::SettleDoesNothing) => 0,
+        Some(Fault::SettleTrustsFlag) if state.settled => 0,
+        Some(Fault::SettleClosesOnce) => 1,
+        Some(Fault::SettleClosesThrice) => 3,
+        Some(Fault::SettleClosesLess) => els.max(1),
+        _ => els + 1,
+    };
+    // What each accepted close left, for the faults that keep it.
+    let mut left: Vec<State> = Vec::new();
+    let mut each: Vec<Closed> = Vec::new();
+    for _ in 0..most {
+        let Ok(closed) = close(state) else {
+            if state.is(Fault::SettleEndsAtEleven) && !each.is_empty() {
+                *state = left.pop().unwrap_or(before);
+                return Ok(summed(state, each));
+            }
+            leave_refused(state, before, left);
+            return Err(Full);
+        };
+        let merged = closed.merges > 0;
+        let changed = closed.changed;
+        each.push(closed);
+        left.push(state.clone());
+        if !changed || (!merged && state.is(Fault::SettleStopsUnmerged)) {
+            break;
+        }
+    }
+    if state.is(Fault::SettleClosesPastQuiet) {
+        each.push(close(state)?);
+    }
+    if state.is(Fault::SettleLeavesFlag) {
+        state.settled = before.settled;
+    }
+    if state.is(Fault::SettleLeavesNothing) {
+        *state = before;
+    }
+    Ok(summed(state, each))
+}
+
+/// What a settle answers that ran these closes.
+fn summed(state: &State, each: Vec<Closed>) -> Settled {
+    // Only two wrong versions run none; they answer as if there had been one.
+    let closes = match state.fault {
+        Some(Fault::QuietCloseUncounted) => each.len() as u16 - 1,
+        Some(Fault::SettleCountsRounds) => each.iter().map(|closed| closed.rounds).sum(),
+        _ => each.len().max(1) as u16,
+    };
+    let merges = match state.fault {
+        Some(Fault::LastMergesOnly) => each.last().map_or(0, |closed| closed.merges),
+        Some(Fault::FirstMergesOnly) => each.first().map_or(0, |closed| closed.merges),
+        _ => each.iter().map(|closed| closed.merges).sum(),
+    };
+    Settled { closes, merges, each }
+}
+
+/// The state after a settle that is refused in the close after those in `left`.
+fn leave_refused(state: &mut State, before: State, mut left: Vec<State>) {
+    match state.fault {
+        Some(Fault::RefusedSettleWorks) => {}
+        Some(Fault::RefusedSettleKeepsFirst) => {
+            *state = left.into_iter().next().unwrap_or(before);
+        }
+        Some(Fault::RefusedSettleKeepsAccepted) => *state = left.pop().unwrap_or(before),
+        Some(Fault::RefusedSettleKeepsLinks) => {
+            let links = left.pop().map_or(before.links.clone(), |last| last.links);
+            *state = State { links, ..before };
+        }
+        Some(Fault::RefusedSettleUnsettles) => *state = State { settled: false, ..before },
+        _ => *state = before,
+    }
+}
+
 impl Work<'_> {
     fn is(&self, fault: Fault) -> bool {
         self.state.is(fault)

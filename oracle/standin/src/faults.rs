@@ -93,6 +93,27 @@ faults! {
     CallsUnsettle: "an accepted call of kinds 6 to 12 takes settled away",
     CloseSettles: "every accepted close settles",
 
+    // Settle.
+    SettleClosesOnce: "a settle runs one close",
+    SettleClosesThrice: "a settle runs at most three closes",
+    SettleClosesLess: "a settle runs at most as many closes as there are elements, or one",
+    SettleStopsUnmerged: "a settle stops at a close that merges nothing, also where it changed",
+    SettleClosesPastQuiet: "a settle runs one close more after the one without a change",
+    SettleTrustsFlag: "a settle of a settled structure answers 1 0 and runs no close",
+    SettleDoesNothing: "a settle answers 1 0 and leaves everything as it was",
+    SettleLeavesNothing: "a settle answers as it should and leaves everything as it was",
+    QuietCloseUncounted: "a settle does not count its last close",
+    SettleCountsRounds: "a settle counts rounds, not closes",
+    LastMergesOnly: "a settle answers the merges of its last close",
+    FirstMergesOnly: "a settle answers the merges of its first close",
+    SettleLeavesFlag: "a settle leaves settled as it was before it",
+    RefusedSettleKeepsFirst: "a refused settle keeps what its first close left",
+    RefusedSettleKeepsAccepted: "a refused settle keeps what its accepted closes left",
+    RefusedSettleWorks: "a refused settle leaves its work",
+    RefusedSettleKeepsLinks: "a refused settle keeps the links of its accepted closes",
+    RefusedSettleUnsettles: "a refused settle takes settled away",
+    SettleEndsAtEleven: "a settle with a refused close answers for the accepted ones before it",
+
     // Types and conflicts.
     ShorterFirst: "facts are ordered by type, then by number of parents",
     ParentsFirst: "facts are ordered by parents, then by type",
@@ -137,8 +158,9 @@ faults! {
     AmbientOfAnyType: "an ambient element may have any type",
     CloseDoesNotBegin: "number 4 does not follow a close",
     ConflictsDoNotBegin: "number 4 does not follow conflicts",
+    SettleDoesNotBegin: "number 4 does not follow a settle",
     FindsBegin: "number 4 follows a find or a lookup",
-    RefusalsBegin: "number 4 follows a refused call of kinds 6 to 14",
+    RefusalsBegin: "number 4 follows a refused call of kinds 6 to 15",
     ParentsMustBeModels: "parents in kinds 1 to 3 must be Model types",
     CountsMustMatch: "an application must have its declaration's counts",
     LookupParentsDeclared: "the type lookup asks for declared parents",
@@ -147,6 +169,9 @@ faults! {
     TailFree: "words 14 and 15 may hold anything",
     Key64: "variables may have key 64",
     MarkTwo: "a mark may be 2",
+    SettleTakesA: "kind 15 takes any A",
+    SettleWordsFree: "kind 15 takes any words after its kind",
+    NoSettle: "kind 15 is refused with 3",
 
     // Limits.
     TypesLess: "31 types",
@@ -182,5 +207,8 @@ faults! {
     NoSecondVisit: "a record visited again is refused",
     RefusedAtVisit: "a refusal prints the records done, not the index",
     EndPrintsSize: "end prints the size of the sheet",
+    SettleUnprinted: "a sheet prints nothing for a settle",
+    SettlePrintsCloses: "a settle prints the line of each of its closes first",
+    SettleMergesFirst: "a settle prints its merges first",
     CallKindsInSheets: "a sheet may hold the kinds that stand for other calls",
 }

@@ -1,6 +1,7 @@
 //! The lines of answers, and of the structure.
 
 use crate::calls::Answer;
+use crate::close::Closed;
 use crate::faults::Fault;
 use crate::state::{App, Fact, State};
 
@@ -25,9 +26,20 @@ impl State {
             Answer::Refused(number) => *out += &format!("refused {number}"),
             Answer::Number(number) => *out += &format!("number {number}"),
             Answer::Said(yes) => *out += &format!("answer {}", u16::from(*yes)),
-            Answer::Closed(closed) => {
-                *out += "close";
-                put(out, &[closed.changed.into(), closed.merges, closed.rounds]);
+            Answer::Closed(closed) => put_closed(out, closed),
+            Answer::Settled(settled) => {
+                if self.is(Fault::SettlePrintsCloses) {
+                    for closed in &settled.each {
+                        put_closed(out, closed);
+                        out.push('\n');
+                    }
+                }
+                *out += "settle";
+                let mut numbers = [settled.closes, settled.merges];
+                if self.is(Fault::SettleMergesFirst) {
+                    numbers.reverse();
+                }
+                put(out, &numbers);
             }
             Answer::Conflicts(conflicts) => {
                 for (el, a, b) in conflicts {
@@ -90,6 +102,11 @@ impl State {
         }
         *out += &format!("s {} {}\n", u16::from(self.begun), u16::from(self.settled));
     }
+}
+
+fn put_closed(out: &mut String, closed: &Closed) {
+    *out += "close";
+    put(out, &[closed.changed.into(), closed.merges, closed.rounds]);
 }
 
 fn put_app(out: &mut String, tag: &str, app: &App) {

@@ -63,13 +63,17 @@ fn run_sheet(mut state: State, bytes: &[u8], dumps: bool, out: &mut String) {
             *out += &format!("refused 2 at {at}\n");
             return;
         }
-        let other_call = record[1] > 14 && !state.is(Fault::CallKindsInSheets);
+        let other_call = record[1] > 15 && !state.is(Fault::CallKindsInSheets);
         let answer = if other_call { Answer::Refused(3) } else { state.call(record) };
         if let Answer::Refused(number) = answer {
             *out += &format!("refused {number} at {at}\n");
             return;
         }
-        let prints = matches!(answer, Answer::Closed(_) | Answer::Conflicts(_));
+        let prints = match answer {
+            Answer::Closed(_) | Answer::Conflicts(_) => true,
+            Answer::Settled(_) => !state.is(Fault::SettleUnprinted),
+            _ => false,
+        };
         if prints && !(astray && state.is(Fault::TwoAfterThree)) {
             state.put_answer(out, &answer);
         }

@@ -1,11 +1,13 @@
 //! The tables, and what they say by themselves.
 
+use std::cmp::Ordering;
+
 use crate::faults::Fault;
 
 pub type Words = [u16; 16];
 
-/// A type and its parents.
-#[derive(Clone, PartialEq, Eq)]
+/// A type and its parents. The derived order is 01's: type, then parents.
+#[derive(Clone, PartialEq, Eq, PartialOrd, Ord)]
 pub struct Fact {
     pub typ: u16,
     pub parents: Vec<u16>,
@@ -153,7 +155,7 @@ impl State {
 
     /// Puts a fact into ordered facts; says whether it was new.
     pub fn insert_fact(&self, facts: &mut Vec<Fact>, fact: Fact) -> bool {
-        match facts.binary_search_by_key(&self.fact_order(&fact), |other| self.fact_order(other)) {
+        match facts.binary_search_by(|other| self.fact_order(other, &fact)) {
             Ok(_) => false,
             Err(place) => {
                 facts.insert(place, fact);
@@ -162,17 +164,13 @@ impl State {
         }
     }
 
-    /// Facts go by type, then parents. `Vec` puts a list before its extension.
-    fn fact_order(&self, fact: &Fact) -> (Vec<u16>, u16, Vec<u16>) {
-        let parents = fact.parents.clone();
-        let first = if self.is(Fault::ShorterFirst) {
-            vec![fact.typ, parents.len() as u16]
-        } else if self.is(Fault::ParentsFirst) {
-            parents.clone()
-        } else {
-            Vec::new()
+    fn fact_order(&self, a: &Fact, b: &Fact) -> Ordering {
+        let first = match self.fault {
+            Some(Fault::ShorterFirst) => (a.typ, a.parents.len()).cmp(&(b.typ, b.parents.len())),
+            Some(Fault::ParentsFirst) => a.parents.cmp(&b.parents),
+            _ => Ordering::Equal,
         };
-        (first, fact.typ, parents)
+        first.then_with(|| a.cmp(b))
     }
 
     /// The facts of an element's class with parents as roots.

@@ -19,6 +19,9 @@ loop-holds c = tt
 word-requires : tie.Need-word-requires Inv-loop μ-loop
 word-requires c κs = search needs
 
+is-timed-requires : tie.Need-is-timed-requires Inv-loop μ-loop
+is-timed-requires c κs = search needs
+
 returns : tie.Need-returns Inv-loop μ-loop
 returns c = search needs
 
@@ -52,6 +55,7 @@ build-spec =
     new-requires
     loop-holds
     word-requires
+    is-timed-requires
     returns
     step-requires
     word-requires-2

@@ -4,7 +4,7 @@ use mathlib.Core.Option.{Option, none}
 use mathlib.Core.Logic.{⊎-elim}
 use native.Mathlib.Omega.{arith}
 use Rattle.ids.proofs.Tests.{holds, fails}
-use Rattle.semantics.specs.Sheet.{Form, forms, formOf, closeForm, conflictsForm, callOf, carryOut}
+use Rattle.semantics.specs.Sheet.{Form, forms, formOf, closeForm, conflictsForm, settleForm, callOf, carryOut}
 use Rattle.records.specs.View.{recordView}
 use Rattle.structure.specs.View.{machineOf}
 use Rattle.carrying.specs.View.{CarriedM, withConflicts, formStep}
@@ -43,6 +43,9 @@ run-close-requires c κs = search needs
 find-conflicts-requires : tie.Need-find-conflicts-requires
 find-conflicts-requires c κs = search needs
 
+run-settle-requires : tie.Need-run-settle-requires
+run-settle-requires c κs = search needs
+
 declare-requires : tie.Need-declare-requires
 declare-requires c κs = (c .before .if2 .left, omega (arith, c .if3 .taken))
 
@@ -67,20 +70,27 @@ returns-3 c =
     carries else1 (c .find-conflicts .ensures ∙ ap withConflicts (of-kind (recordView (a .given)) (machineOf (a .machine)) (c .before .match .keys2)))
 
 returns-4 : tie.Need-returns-4
-returns-4 c = carries (c .before .before .before .before) (c .declare .ensures)
+unfolding forms formOf formStep settleForm
+returns-4 c =
+    let else1 = c .before .before in
+    let a = else1 .before .before .args in
+    carries else1 (c .run-settle .ensures ∙ ap withConflicts (of-kind (recordView (a .given)) (machineOf (a .machine)) (c .before .match .keys3)))
 
 returns-5 : tie.Need-returns-5
-returns-5 c = carries (c .before .before .before .before .before) (c .state .ensures)
+returns-5 c = carries (c .before .before .before .before) (c .declare .ensures)
 
 returns-6 : tie.Need-returns-6
+returns-6 c = carries (c .before .before .before .before .before) (c .state .ensures)
+
+returns-7 : tie.Need-returns-7
 unfolding formStep carryOut
-returns-6 c =
+returns-7 c =
     let rest = c .before .before in
     let else1 = rest .before in
     let a = else1 .before .before .args in
     let not = rest .match .rest in
     let formless : none ≡ formOf (a .given .kind) =
-    ⊎-elim (λ w. low (w .taken)) (λ w. past (w .2 .left) (not .0 .1) (not .1)) (c .before .if2 .came) in
+    ⊎-elim (λ w. low (w .taken)) (λ w. past (w .2 .left) (not .0 .0 .1) (not .0 .1) (not .1)) (c .before .if2 .came) in
     carries else1
     (c .answered2 .ensures ∙ ap (λ (o : Option Form). withConflicts (formStep o (recordView (a .given)) (machineOf (a .machine)))) formless)
 
@@ -93,6 +103,7 @@ carry-out-spec =
     returns
     run-close-requires
     find-conflicts-requires
+    run-settle-requires
     declare-requires
     state-requires
     answered-requires-2
@@ -100,4 +111,5 @@ carry-out-spec =
     returns-3
     returns-4
     returns-5
-    returns-6)
+    returns-6
+    returns-7)

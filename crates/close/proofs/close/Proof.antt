@@ -1,125 +1,13 @@
 -- `close` meets its contract.
-use mathlib.Core.Path.{_≡_, refl, sym, ap, _∙_}
-use mathlib.Core.Bool.{_||_}
-use Prim.Native.Nat.{_+_}
-use native.Mathlib.Omega.{arith}
-use lib.Dec.{ltb}
-use Rattle.signature.specs.Model.{sigOf}
-use Rattle.semantics.specs.Types.{imposeAll}
-use Rattle.semantics.specs.Close as closing
-use Rattle.semantics.specs.Close.{report, canonicaliseRefs, withCore, reportOf, afterClose}
-use Rattle.apps.specs.View.{funcAppsOf, predAppsOf}
-use Rattle.structure.specs.View.{structureOf}
-use Rattle.merging.specs.View.{coreOf}
-use Rattle.close.specs.View.{ranOf}
-use Rattle.close.proofs.Laws.{met-none, met-some, fuel-is, grew-more, refuses, accepts}
 use borrow.Author.Needs.{needs}
 use Rattle.close.proofs.close.Statement.{statement}
 use Rattle.close.proofs.close.Tie as tie
 
-core-of-requires : tie.Need-core-of-requires
-core-of-requires c κs = search needs
-
-rounds-requires : tie.Need-rounds-requires
-rounds-requires c κs = search needs
-
-apply-pending-type-impositions-requires : tie.Need-apply-pending-type-impositions-requires
-apply-pending-type-impositions-requires c κs = search needs
-
--- what the rounds and the impositions ensure
-
-abbrev imposing : tie.After-core → tie.After-apply-pending-type-impositions
-imposing c = c .before
-
-abbrev running : tie.After-core → tie.After-rounds
-running c = imposing c .before .before .before
-
-abbrev start : tie.After-core → tie.After-core-of
-start c = running c .before .before .before .before
-
-ran : (c : tie.After-core) →
-    let a = start c .before .args in
-    let s = structureOf (a .structure) in
-    ranOf (running c .rounds .result) ≡ closing.rounds (sigOf (a .signature)) (s .pred-apps) (s .func-apps) (closing.coreAtStart s)
-ran c =
-    let a = start c .before .args in
-    running c .rounds .ensures .is
-    ∙ ap (closing.rounds (sigOf (a .signature)) (predAppsOf (a .structure .«pred_apps»)) (funcAppsOf (a .structure .«func_apps»))) (start c .core-of .ensures)
-
-imposed : (c : tie.After-core) →
-    let r = running c .rounds .result in
-    let w = imposing c .apply-pending-type-impositions .result in
-    coreOf (w .core) (w .merges + r .merges) (w .added + r .added)
-    ≡ imposeAll (structureOf (start c .before .args .structure) .impositions) (ranOf r .core)
-imposed c =
-    let r = running c .rounds .result in
-    imposing c .apply-pending-type-impositions .ensures .is (r .merges) (r .added)
-
-refuse-requires : tie.Need-refuse-requires
-refuse-requires c κs = search needs
+close-run-requires : tie.Need-close-run-requires
+close-run-requires c κs = search needs
 
 returns : tie.Need-returns
-returns c =
-    let at = c .before .before in
-    let a = start at .before .args in
-    c .refuse .ensures (sigOf (a .signature))
-    ∙ refuses (sigOf (a .signature)) (structureOf (a .structure)) (ranOf (running at .rounds .result)) _ (ran at) (imposed at) (met-some _ (c .before .if1 .taken))
-
-counted-requires : tie.Need-counted-requires
-counted-requires c κs = search needs
-
-or-requires : tie.Need-or-requires
-or-requires c κs = search needs
-
-add-merges : tie.Need-add-merges
-add-merges c =
-    let at = c .before .before .before .before .before .before in
-    let r = running at .rounds .ensures in
-    search (needs, r .count-most, r .merges-most, fuel-is, imposing at .apply-pending-type-impositions .ensures .merges-most)
-
-with-core-requires : tie.Need-with-core-requires
-with-core-requires c κs = search needs
-
-canonicalise-refs-requires : tie.Need-canonicalise-refs-requires
-canonicalise-refs-requires c κs = search needs
-
-accept-requires : tie.Need-accept-requires
-accept-requires c κs = search needs
-
-returns-2 : tie.Need-returns-2
-unfolding reportOf afterClose withCore
-returns-2 c =
-    let refs = c .before in
-    let cored = refs .before in
-    let changing = cored .before .before .before in
-    let e1 = changing .before .before .before in
-    let at = e1 .before in
-    let a = start at .before .args in
-    let r = running at .rounds .result in
-    let w = imposing at .apply-pending-type-impositions .result in
-    let m = w .merges + r .merges in
-    let b = w .added + r .added in
-    let sum : r .merges + w .merges ≡ m = omega arith in
-    let grows = grew-more (ranOf r .core) (coreOf (w .core) m b) (w .merges) (w .added) refl refl in
-    let changes = changing .or .ensures ∙ (λ i. ltb 1 (r .count) || (changing .before .counted .ensures ∙ sym grows) i) in
-    let after = refs .canonicalise-refs .ensures ∙ (λ i. canonicaliseRefs (cored .with-core .ensures i .links) (cored .with-core .ensures i)) in
-    c .accept .ensures (sigOf (a .signature))
-    ∙ accepts (sigOf (a .signature)) (structureOf (a .structure)) (ranOf r) (coreOf (w .core) m b) (ran at) (imposed at) (met-none (e1 .if1 .left))
-    (λ i. report (changes i) (sum i) (r .count)) after
+returns c = c .before .close-run .ensures .step-is
 
 pub close-spec : {M : Type 1} → statement M
-close-spec =
-    tie.close
-    (tie.spec
-    core-of-requires
-    rounds-requires
-    apply-pending-type-impositions-requires
-    refuse-requires
-    returns
-    counted-requires
-    or-requires
-    add-merges
-    with-core-requires
-    canonicalise-refs-requires
-    accept-requires
-    returns-2)
+close-spec = tie.close (tie.spec close-run-requires returns)

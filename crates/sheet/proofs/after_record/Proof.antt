@@ -30,11 +30,20 @@ new-requires c κs = search needs
 enum-known-answer-3 : tie.Need-enum-known-answer-3
 enum-known-answer-3 c = search needs
 
-pass-requires : tie.Need-pass-requires
-pass-requires c κs = search needs
+settle-line-requires : tie.Need-settle-line-requires
+settle-line-requires c κs = search needs
+
+follow-requires-2 : tie.Need-follow-requires-2
+follow-requires-2 c κs = search needs
 
 enum-known-answer-4 : tie.Need-enum-known-answer-4
 enum-known-answer-4 c = search needs
+
+pass-requires : tie.Need-pass-requires
+pass-requires c κs = search needs
+
+enum-known-answer-5 : tie.Need-enum-known-answer-5
+enum-known-answer-5 c = search needs
 
 pass-requires-2 : tie.Need-pass-requires-2
 pass-requires-2 c κs = search needs
@@ -66,18 +75,24 @@ returns-3 c =
 returns-4 : tie.Need-returns-4
 unfolding answerPiece
 returns-4 c =
-    let a = c .before .before .before .before .before .before .args in
-    answered (a .carried) (a .index) (a .count) (a .next) (a .done) (c .before .before .answer3 .given .1) (c .pass .ensures)
+    let a = c .before .before .before .before .before .before .before .args in
+    answered (a .carried) (a .index) (a .count) (a .next) (a .done) (c .before .before .before .answer3 .given .1) (both (c .before .settle-line .ensures) (c .follow2 .ensures))
 
 returns-5 : tie.Need-returns-5
 unfolding answerPiece
 returns-5 c =
     let a = c .before .before .before .before .before .before .args in
-    answered (a .carried) (a .index) (a .count) (a .next) (a .done) (c .before .before .answer4 .given .1) (c .pass2 .ensures)
+    answered (a .carried) (a .index) (a .count) (a .next) (a .done) (c .before .before .answer4 .given .1) (c .pass .ensures)
 
 returns-6 : tie.Need-returns-6
 unfolding answerPiece
 returns-6 c =
+    let a = c .before .before .before .before .before .before .args in
+    answered (a .carried) (a .index) (a .count) (a .next) (a .done) (c .before .before .answer5 .given .1) (c .pass2 .ensures)
+
+returns-7 : tie.Need-returns-7
+unfolding answerPiece
+returns-7 c =
     let a = c .before .before .before .before .before .args in
     answered (a .carried) (a .index) (a .count) (a .next) (a .done) (c .before .enum-told2 .given .1) (c .pass3 .ensures)
 
@@ -93,8 +108,11 @@ after-record-spec =
     enum-told
     new-requires
     enum-known-answer-3
-    pass-requires
+    settle-line-requires
+    follow-requires-2
     enum-known-answer-4
+    pass-requires
+    enum-known-answer-5
     pass-requires-2
     enum-told-2
     pass-requires-3
@@ -103,4 +121,5 @@ after-record-spec =
     returns-3
     returns-4
     returns-5
-    returns-6)
+    returns-6
+    returns-7)

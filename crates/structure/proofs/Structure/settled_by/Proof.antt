@@ -23,13 +23,14 @@ returns c =
     sym (ap (λ (x : Answer). settledBy (answerOf [] x) (a .self .settled)) (c .before .before .answer .given .1))
 
 -- an answer that is no close's
-other : (a : Answer) {was : Bool} → OneOf (0 ∷ 1 ∷ 2 ∷ 4 ∷ 5 ∷ []) (tagOf the-type a) → was ≡ settledBy (answerOf [] a) was
+other : (a : Answer) {was : Bool} → OneOf (0 ∷ 1 ∷ 2 ∷ 4 ∷ 5 ∷ 6 ∷ []) (tagOf the-type a) → was ≡ settledBy (answerOf [] a) was
 unfolding settledBy
 other (variants.Number n) k = refl
 other (variants.Says b) k = refl
 other variants.Done k = refl
-other (variants.Closed c) k = absurd (miss (0 ∷ 1 ∷ 2 ∷ 4 ∷ 5 ∷ []) 3 tt k)
+other (variants.Closed c) k = absurd (miss (0 ∷ 1 ∷ 2 ∷ 4 ∷ 5 ∷ 6 ∷ []) 3 tt k)
 other variants.Conflicting k = refl
+other (variants.Summed t) k = refl
 other (variants.Refused n) k = refl
 
 returns-2 : tie.Need-returns-2

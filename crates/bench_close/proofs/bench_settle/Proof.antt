@@ -1,0 +1,50 @@
+-- `bench_settle` is safe and ends.
+use Prim.Native.Nat.{_-_}
+use borrow.Author.Needs.{needs}
+use Rattle.bench_close.proofs.bench_settle.Statement.{statement}
+use Rattle.bench_close.proofs.bench_settle.Tie as tie
+
+abbrev Inv-loop : tie.InvT-loop
+Inv-loop bytes times out₀ signature structure₀ i₀ out structure i = Unit {0}
+
+abbrev μ-loop : tie.MeasureT-loop
+μ-loop bytes times out₀ signature structure₀ i₀ out structure i = times - i
+
+build-requires : tie.Need-build-requires Inv-loop μ-loop
+build-requires c κs = search needs
+
+loop-holds : tie.Need-loop-holds Inv-loop μ-loop
+loop-holds c = tt
+
+settle-requires : tie.Need-settle-requires Inv-loop μ-loop
+settle-requires c κs = search needs
+
+report-requires : tie.Need-report-requires Inv-loop μ-loop
+report-requires c κs = search needs
+
+add-i : tie.Need-add-i Inv-loop μ-loop
+add-i c = search needs
+
+loop-less : tie.Need-loop-less Inv-loop μ-loop
+loop-less c = search needs
+
+loop-again : tie.Need-loop-again Inv-loop μ-loop
+loop-again c = tt
+
+returns : tie.Need-returns Inv-loop μ-loop
+returns c = search needs
+
+pub bench-settle-spec : {M : Type 1} → statement M
+bench-settle-spec =
+    tie.close
+    (tie.spec
+    Inv-loop
+    μ-loop
+    build-requires
+    loop-holds
+    settle-requires
+    report-requires
+    add-i
+    loop-less
+    loop-again
+    returns)

@@ -1,0 +1,93 @@
+// Closes until one reports no change (02, M-100).
+use signature::Signature;
+use structure::Answer;
+use structure::Closed;
+use structure::Stepped;
+use structure::Structure;
+use structure::Totals;
+ghost use mathlib.Core.Path.{_≡_};
+ghost use Prim.Native.Nat.{_+_, _^_, _<_};
+ghost use Rattle.signature.specs.Model.{sigOf};
+ghost use Rattle.semantics.specs.Calls as calls;
+ghost use Rattle.semantics.specs.Calls.{totals, machine, step};
+ghost use Rattle.structure.specs.View.{structureOf, totalsOf, stepOf};
+ghost use Rattle.settle.specs.View.{SettleRunIs};
+
+// What a settle comes to: the number that refused one of its closes, 0 for none, what they reported together, and what
+// they left.
+struct SettleRun {
+    met: u16,
+    totals: Totals,
+    structure: Structure,
+}
+
+// One close more is counted.
+fn counted(before: Totals, report: Closed) -> Totals
+    requires { ⌜ (before .closes + 1 < 2 ^ 64) × (before .merges + report .merges < 2 ^ 64) ⌝ }
+    ensures { λ r. ⌜ totalsOf r ≡ totals (before .closes + 1) (before .merges + report .merges) ⌝ }
+{
+    Totals {
+        closes: before.closes + 1,
+        merges: before.merges + report.merges,
+    }
+}
+
+// Whether another close follows.
+fn goes_on(report: Closed) -> bool
+    ensures { λ r. ⌜ r ≡ report .changed ⌝ }
+{
+    report.changed
+}
+
+// The closes of a settle, before it is decided whether a number refuses it.
+fn settle_run(structure: Structure, signature: Signature) -> SettleRun
+    ensures { λ r. ⌜ SettleRunIs (sigOf signature) (structureOf structure) r ⌝ }
+{
+    let u = structure.unification;
+    let most = u.size() + 1;
+    let mut now = structure;
+    let mut again = true;
+    let mut totals = Totals {
+        closes: 0,
+        merges: 0,
+    };
+    for i in 0..most {
+        if !again {
+            break;
+        }
+        let run = close::close_run(now, signature);
+        let met = run.met;
+        if met != 0 {
+            return SettleRun {
+                met,
+                totals,
+                structure: now,
+            };
+        }
+        let report = run.report;
+        let stepped = run.stepped;
+        let reached = stepped.structure;
+        now = reached;
+        again = goes_on(report);
+        totals = counted(totals, report);
+    }
+    SettleRun {
+        met: 0,
+        totals,
+        structure: now,
+    }
+}
+
+// Kind 15. A number that refuses one of the closes refuses the settle, and the structure before the settle is handed back.
+pub fn settle(structure: Structure, signature: Signature) -> Stepped
+    ensures { λ r. ⌜ stepOf (sigOf signature) r ≡ step calls.settle (machine (sigOf signature) (structureOf structure)) ⌝ }
+{
+    let run = settle_run(structure, signature);
+    let number = run.met;
+    let totals = run.totals;
+    let reached = run.structure;
+    if number != 0 {
+        return structure.refuse(number);
+    }
+    reached.accept(Answer::Summed(totals))
+}
