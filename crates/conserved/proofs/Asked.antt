@@ -35,6 +35,7 @@ use Rattle.structure.proofs.Structure.root.Reads as root-fn
 use Rattle.structure.proofs.Structure.root_const.Reads as root-const-fn
 use Rattle.signature.proofs.Signature.lookup_type.Reads as lookup-type-fn
 use Rattle.structure.proofs.Structure.ambient_parents.Reads as ambient-parents-fn
+use Rattle.structure.proofs.Structure.is_settled.Reads as is-settled-fn
 use Rattle.signature.proofs.Signature.new.Reads as new-signature-fn
 use Rattle.structure.proofs.Structure.new.Reads as new-structure-fn
 
@@ -56,6 +57,9 @@ module _ (s : Structure) where
 
   pub type-conflicts-asked : type-conflicts-fn.Asked tt (s, tt)
   type-conflicts-asked = tt
+
+  pub is-settled-asked : is-settled-fn.Asked tt (s, tt)
+  is-settled-asked = tt
 
   pub root-asked : (e : ElId) → root-fn.Asked tt (s, (e, tt))
   root-asked e = tt

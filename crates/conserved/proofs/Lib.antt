@@ -1,3 +1,4 @@
 pub mod Asked
 pub mod Composed
 pub mod Lent
+pub mod Settled

@@ -59,6 +59,7 @@ use Rattle.structure.proofs.Structure.ambient_parents.Reads as ambient-parents-
 use Rattle.signature.proofs.Signature.new.Reads as new-signature-fn
 use Rattle.structure.proofs.Structure.new.Reads as new-structure-fn
 use Rattle.history.specs.Book.{Book, fed, mergesOf}
+use Rattle.history.specs.Settled.{Event, event}
 
 abbrev pub with-signature : Signature → Machine → Machine
 with-signature g v = record { signature = g; structure = v .structure }
@@ -120,6 +121,11 @@ pub data Run : Machine → Book → List Call → Machine → Book → Type 0 wh
   none : {v : Machine} {b : Book} → Run v b [] v b
   more : {v w z : Machine} {b d : Book} {k : Call} {a : Answer} {ks : List Call} → Made v k a w
       → Run w (fed k (isAccepted a) (mergesOf a) b) ks z d → Run v b (k ∷ ks) z d
+
+-- the calls of a list with what the code answered, the latest first; those made before it are es
+unfoldable pub eventsOf : {v z : Machine} {b d : Book} {ks : List Call} → Run v b ks z d → List Event → List Event
+eventsOf none es = es
+eventsOf (more {k = k} {a = a} m r) es = eventsOf r (event k a ∷ es)
 
 -- "A list begins at the empty signature and structure": what `new` ensures of both
 pub record Fresh (v : Machine) : Type 0 where

@@ -14,8 +14,7 @@ use Rattle.semantics.specs.Types.{anyMarked}
 use Rattle.semantics.specs.Close.{Closed}
 use Rattle.semantics.specs.Calls as calls
 use Rattle.semantics.specs.Calls.{Call, Totals, Answer, number, says, done, closed, conflicting, summed, found, typed, els, refuse, isAccepted}
-use Rattle.semantics.specs.Calls.{Machine, Step, answers, settleRun, sumsOf, start, rule, equalityRule, impositionRule, applicationRule}
-use Rattle.semantics.specs.Calls.{closeRule, settleRule, acceptance, step}
+use Rattle.semantics.specs.Calls.{Machine, Step, answers, settleRun, sumsOf, start, rule, closeRule, settleRule, acceptance, step, afterCalls}
 use Rattle.semantics.specs.Sheet.{recordAt, carryOut}
 use Rattle.semantics.proofs.Cases.{none-some}
 use Rattle.semantics.proofs.Judged.{accepted-leaves}
@@ -31,13 +30,14 @@ use Rattle.conflicts.specs.View.{conflictsOf}
 use Rattle.close.proofs.close.Reads as close-fn
 use Rattle.settle.proofs.settle.Reads as settle-fn
 use Rattle.history.specs.Book.{History, history, RanCloses, closes, settles, Conserved, Conservation, next, noted}
-use Rattle.history.proofs.Histories.{history-next}
+use Rattle.history.specs.Settled.{reportedChange}
+use Rattle.history.proofs.Settled.{by-calls}
+use Rattle.history.proofs.Histories.{after-history, history-next}
 use Rattle.history.proofs.Conservation.{conservation}
 use Rattle.driver.specs.Calls.{listCallOf, wholeRecords, callList, callsBefore, callsIn, lastAnswer, listBefore}
 use Rattle.driver.specs.View.{responseOf, respondedStep, RespondedM}
 use Rattle.driver.specs.declared.Response.the-variants as response
 use Rattle.driver.specs.declared.Responded.{Responded}
-use Rattle.driver.proofs.Laws.{after-history}
 use Rattle.driver.proofs.run.Reads as run-fn
 
 -- Only a close answers as a close does, and only a settle as a settle does.
@@ -55,27 +55,24 @@ closingCall (typed t) = none
 closingCall (els es) = none
 closingCall (refuse n) = none
 
+-- an answer that reports no close
+no-closing : (a : Answer) → reportedChange a ≡ none → closingCall a ≡ none
+unfolding reportedChange closingCall
+no-closing (closed c) e = none-some (sym e)
+no-closing (summed t) e = none-some (sym e)
+no-closing (number n) e = refl
+no-closing (says b) e = refl
+no-closing done e = refl
+no-closing (conflicting cs) e = refl
+no-closing (found f) e = refl
+no-closing (typed t) e = refl
+no-closing (els es) e = refl
+no-closing (refuse n) e = refl
+
 closing-effect : (k : Call) (m : Machine) (j : Call) → closingCall (rule k m .answer) ≡ some j → k ≡ j
-unfolding rule equalityRule impositionRule applicationRule closeRule settleRule closingCall
-closing-effect (calls.push-type t) m j e = none-some e
-closing-effect (calls.push-pred p) m j e = none-some e
-closing-effect (calls.push-func f) m j e = none-some e
-closing-effect (calls.push-model x) m j e = none-some e
-closing-effect (calls.push-mor-app x) m j e = none-some e
-closing-effect (calls.push-el mark) m j e = none-some e
-closing-effect (calls.equate-els a b) m j e = none-some e
-closing-effect (calls.impose-type f) m j e = none-some e
-closing-effect (calls.apply-func x) m j e = none-some e
-closing-effect (calls.apply-pred x) m j e = none-some e
-closing-effect (calls.bind-var v) m j e = none-some e
-closing-effect (calls.bind-ambient a) m j e = none-some e
-closing-effect calls.close m j e = cc
-closing-effect calls.type-conflicts m j e = none-some e
-closing-effect calls.settle m j e = cc
-closing-effect (calls.root x) m j e = none-some e
-closing-effect (calls.root-const x) m j e = none-some e
-closing-effect (calls.lookup-type t ps) m j e = none-some e
-closing-effect (calls.ambient-parents ts) m j e = none-some e
+closing-effect k m j =
+    by-calls (λ k. closingCall (rule k m .answer) ≡ some j → k ≡ j) m (λ k n e. none-some (sym (no-closing (rule k m .answer) n) ∙ e))
+    (unfold rule closeRule closingCall in λ e. cc) (unfold rule settleRule closingCall in λ e. cc) k
 
 -- an answer of a call that closes is no refusal
 closing-accepted : (a : Answer) (j : Call) → closingCall a ≡ some j → isAccepted a ≡ true
@@ -155,6 +152,10 @@ module _ (κs : Lfts 1) (bytes : _) (r : Responded) (ran : run-fn.Learnt κs (by
       ap (λ (x : RespondedM). x .step) ran
       ∙ ap (answers (lastAnswer start (now bytes) (wholeRecords (now bytes)))) (after-history (callsIn (now bytes)))
 
+  -- what `run` leaves is what the calls of the list leave
+  pub left : machineOf (r .machine) ≡ afterCalls (callsIn (now bytes)) start
+  left = ap (λ (s : Step). s .after) stepped ∙ sym (after-history (callsIn (now bytes)))
+
   -- For every slice of bytes whose calls end in a close or settle that is accepted, with no element marked up to then: what `Conserved` says of the
   -- book of these calls, of the links of the machine that `run` hands back, and of the answers of the closes that the last call ran.
   pub run-conserves : (cs : List Closed) → Ends (callsIn (now bytes)) cs → anyMarked (history (callsIn (now bytes)) .book .marks) ≡ false
@@ -201,7 +202,7 @@ module _ (κs : Lfts 1) (bytes : _) (r : Responded) (ran : run-fn.Learnt κs (by
       subst (λ (l : List ℕ). Conserved (history (ks ++ (k ∷ [])) .book) l cs) links
       (conservation ks k cs (subst (λ (m : Machine). RanCloses m k cs) was ran) unmarked)
 
-  abbrev given : Structure × (Signature × Unit {0})
+  abbrev pub given : Structure × (Signature × Unit {0})
   given = (r .machine .structure, (r .machine .signature, tt))
 
   pub run-then-close-conserves : (z : Stepped) (c : Closed) → close-fn.Learnt tt given z given → answerOf [] (z .answer) ≡ closed c

@@ -1,6 +1,8 @@
--- Lists of calls as bytes, one that ends in a close and one that ends in a settle, for which each hypothesis of `run-conserves` holds, computed: the example of oracle/FORMAT.md with a record that is no call, a find, a refused find and bytes that are no whole record.
+-- Lists of calls as bytes, one that ends in a close and one that ends in a settle, for which each hypothesis of `run-conserves` holds, computed: the
+-- example of oracle/FORMAT.md with a record that is no call, a find, a refused find and bytes that are no whole record. After the second `is_settled`
+-- answers yes.
 use Prim.Native.Nat.{ℕ, zero, suc}
-use mathlib.Core.Path.{_≡_, refl, subst, sym}
+use mathlib.Core.Path.{_≡_, refl, subst, sym, ap, _∙_}
 use mathlib.Core.Bool.{true, false}
 use mathlib.Core.List.{List, [], _∷_, _++_}
 use contract.Lifetimes.{Lfts}
@@ -9,14 +11,15 @@ use Rattle.ids.specs.Ids.{padded}
 use Rattle.unification.specs.Roots.{linksOf}
 use Rattle.semantics.specs.Types.{anyMarked}
 use Rattle.semantics.specs.Close.{Closed, report}
-use Rattle.semantics.specs.Calls.{Call, push-el, equate-els, root, close, settle, totals, Answer, closed, summed, isAccepted}
+use Rattle.semantics.specs.Calls.{Call, push-el, equate-els, root, close, settle, totals, Answer, closed, summed, isAccepted, Machine, start, afterCalls}
 use Rattle.semantics.proofs.Computes.{everything}
 use Rattle.history.specs.Book as book
 use Rattle.history.specs.Book.{history, closes, settles, Conserved}
 use Rattle.driver.specs.Calls.{rootKind, callAt, callList, callsBefore, callsIn, lastAnswer, listBefore, runList}
 use Rattle.driver.specs.declared.Responded.{Responded}
 use Rattle.driver.proofs.run.Reads as run-fn
-use Rattle.driver.proofs.Conserved.{Ends, run-conserves}
+use Rattle.driver.proofs.Conserved.{Ends, left, run-conserves}
+use Rattle.driver.proofs.Settled.{SaysSettledAfter}
 
 unfoldable pub zeros : ℕ → List ℕ
 zeros zero = []
@@ -85,3 +88,15 @@ worked-conserved {cs = cs} w κs bytes r ran e =
     subst (λ (l : List ℕ). Conserved (history (callsIn l) .book) (linksOf (r .machine .structure .unification)) cs) e
     (run-conserves κs bytes r ran cs (subst (λ (l : List ℕ). Ends (callsIn l) cs) (sym e) (w .ends))
     (subst (λ (l : List ℕ). anyMarked (history (callsIn l) .book .marks) ≡ false) (sym e) (w .unmarked)))
+
+-- After the list that ends in a settle the machine is settled, so that `is_settled` answers yes of what `run` hands back.
+
+settle-settles : afterCalls (callsIn (worked 15)) start .structure .settled ≡ true
+unfolding computed
+settle-settles = refl
+
+pub worked-asked : (κs : Lfts 1) (bytes : _) (r : Responded) (ran : run-fn.Learnt κs (bytes, tt) r (bytes, tt)) → now bytes ≡ worked 15
+    → SaysSettledAfter κs bytes r ran true
+worked-asked κs bytes r ran e =
+    sym (ap (λ (m : Machine). m .structure .settled) (left κs bytes r ran)
+    ∙ ap (λ (l : List ℕ). afterCalls (callsIn l) start .structure .settled) e ∙ settle-settles)

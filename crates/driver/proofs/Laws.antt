@@ -16,7 +16,7 @@ use Rattle.signature.specs.declared.Typed.{Typed}
 use Rattle.signature.specs.declared.Typed.the-variants.{At}
 use Rattle.signature.specs.declared.TypeLookup.{TypeLookup}
 use Rattle.signature.specs.Calls.{TypedM, typedOf, typeLookedOf, lookupType}
-use Rattle.semantics.specs.Calls.{Call, lookup-type, done, typed, concrete-type, leading, Machine, Step, answers, start, step, afterCalls}
+use Rattle.semantics.specs.Calls.{Call, lookup-type, done, typed, concrete-type, leading, Machine, Step, answers, step, afterCalls}
 use Rattle.semantics.proofs.Judged.{lookedUp, lookup-steps}
 use Rattle.semantics.specs.Sheet as sheet
 use Rattle.semantics.specs.Sheet.{Record, recordAt, carryOut}
@@ -28,7 +28,6 @@ use Rattle.structure.specs.declared.Answer.the-variants as codes
 use Rattle.structure.specs.View.{answerOf, elsIn}
 use Rattle.carrying.proofs.Laws as carried
 use Rattle.carrying.proofs.Laws.{slotsOf}
-use Rattle.history.specs.Book.{History, noted, next, run, begin, history}
 use Rattle.driver.specs.Calls.{rootKind, rootConstKind, lookupTypeKind, ambientParentsKind, callAt, listCallOf, wholeRecords, callList}
 use Rattle.driver.specs.Calls.{callsBefore, lastAnswer, listBefore}
 
@@ -88,16 +87,6 @@ pub after-append : (ks js : List Call) (m : Machine) → afterCalls (ks ++ js) m
 unfolding afterCalls
 after-append [] js m = refl
 after-append (k ∷ ks) js m = after-append ks js (step k m .after)
-
--- what a history notes beside the machine does not change what the calls leave
-after-run : (ks : List Call) (h : History) → afterCalls ks (h .machine) ≡ run ks h .machine
-unfolding afterCalls run next noted
-after-run [] h = refl
-after-run (k ∷ ks) h = after-run ks (next k h)
-
-pub after-history : (ks : List Call) → afterCalls ks start ≡ history ks .machine
-unfolding history begin
-after-history ks = after-run ks begin
 
 -- before the first record
 pub begins : (bytes : List ℕ) {m n : Machine} → m ≡ n → answers done m ≡ listBefore n bytes 0

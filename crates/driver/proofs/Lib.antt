@@ -1,4 +1,5 @@
 pub mod Conserved
+pub mod Settled
 pub mod Joined
 pub mod Laws
 pub mod Examples

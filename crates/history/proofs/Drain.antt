@@ -1,6 +1,6 @@
 -- A drain: what it does to counts, to partitions and to marks.
 use mathlib.Core.Path.{_≡_, refl, subst, ap, _∙_}
-use mathlib.Core.Logic.{_⊎_, ⊎-elim}
+use mathlib.Core.Logic.{⊎-elim}
 use mathlib.Core.Bool.{Bool, true, false, _&&_}
 use mathlib.Core.List.{List, [], _∷_}
 use Prim.Native.Nat.{ℕ, _+_, _≤_, _<_, min, max}
@@ -22,19 +22,21 @@ use Rattle.history.proofs.Relation.{Equivalence, Rooted}
 use Rattle.history.proofs.Counts.{TwoRootsInOrder, merged-length, merged-root, two-merged}
 use Rattle.semantics.proofs.Counts.{roots}
 
--- Merges are counted, and a drain that counts none does nothing but empty the queue. This holds of every core.
+-- Merges are counted, and a drain that counts none does nothing but empty the queue; no drain adds a fact. This holds of every core.
 
 pub record Counted (w v : Core) : Type 0 where
   pub grew : w .merges ≤ v .merges
   pub still : v .merges ≡ w .merges → v ≡ w
+  pub added : v .added ≡ w .added
 
 pub counted-none : (w : Core) → Counted w w
-counted-none w = record { grew = le-refl (w .merges); still = λ q. refl }
+counted-none w = record { grew = le-refl (w .merges); still = λ q. refl; added = refl }
 
 pub counted-then : (w v u : Core) → Counted w v → Counted v u → Counted w u
 counted-then w v u a b = record {
   grew = omega (arith, a .grew, b .grew);
   still = λ q. b .still (omega (arith, a .grew, b .grew)) ∙ a .still (omega (arith, a .grew, b .grew));
+  added = b .added ∙ a .added;
 }
 
 join-counted : (p : Pair) (w : Core) → Counted w (join p w)
@@ -43,7 +45,7 @@ join-counted p w = go (rootOf (w .links) (p .lhs)) (rootOf (w .links) (p .rhs)) 
   where
     go : (a b : ℕ) (t : Bool) → Counted w (elim t [ true ↦ w | false ↦ merge (min a b) (max a b) w ])
     go a b true = counted-none w
-    go a b false = record { grew = omega arith; still = λ q. absurd (omega arith) }
+    go a b false = record { grew = omega arith; still = λ q. absurd (omega arith); added = refl }
 
 pub drainPairs-counted : (ps : List Pair) (w : Core) → Counted w (drainPairs ps w)
 unfolding drainPairs
@@ -72,23 +74,33 @@ pub drain-same : (w : Core) → All (WithinClass (w .links)) (w .pairs) → drai
 unfolding drain
 drain-same w h = drainPairs-same (w .pairs) (with-pairs [] w) h
 
--- the number first met is as it was
-join-met : (p : Pair) (w : Core) → join p w .met ≡ w .met
+-- conversely, where nothing was merged all pairs were within one class
+
+join-within : (p : Pair) (w : Core) → join p w .merges ≡ w .merges → WithinClass (w .links) p
 unfolding join joinRoots merge
-join-met p w = go (rootOf (w .links) (p .lhs)) (rootOf (w .links) (p .rhs)) (eqb (rootOf (w .links) (p .lhs)) (rootOf (w .links) (p .rhs)))
+join-within p w = go (eqb a b) refl
   where
-    go : (a b : ℕ) (t : Bool) → (elim t as (λ _. Core) [ true ↦ w | false ↦ merge (min a b) (max a b) w ]) .met ≡ w .met
-    go a b true = refl
-    go a b false = refl
+    a : ℕ
+    a = rootOf (w .links) (p .lhs)
 
-drainPairs-met : (ps : List Pair) (w : Core) → drainPairs ps w .met ≡ w .met
+    b : ℕ
+    b = rootOf (w .links) (p .rhs)
+
+    go : (t : Bool) → eqb a b ≡ t → (elim t as (λ _. Core) [ true ↦ w | false ↦ merge (min a b) (max a b) w ]) .merges ≡ w .merges → a ≡ b
+    go true q e = eqb-true a b q
+    go false q e = absurd (omega arith)
+
+drainPairs-within : (ps : List Pair) (w : Core) → drainPairs ps w .merges ≡ w .merges → All (WithinClass (w .links)) ps
 unfolding drainPairs
-drainPairs-met [] w = refl
-drainPairs-met (p ∷ ps) w = drainPairs-met ps (join p w) ∙ join-met p w
+drainPairs-within [] w e = tt
+drainPairs-within (p ∷ ps) w e =
+    let a = join-counted p w in
+    let one : join p w .merges ≡ w .merges = omega (arith, a .grew, drainPairs-counted ps (join p w) .grew, e) in
+    (join-within p w one, drainPairs-within ps w (subst (λ (v : Core). drainPairs ps v .merges ≡ w .merges) (a .still one) e))
 
-pub drain-met : (w : Core) → drain w .met ≡ w .met
+pub drain-within : (w : Core) → drain w .merges ≡ w .merges → All (WithinClass (w .links)) (w .pairs)
 unfolding drain
-drain-met w = drainPairs-met (w .pairs) (with-pairs [] w)
+drain-within w = drainPairs-within (w .pairs) (with-pairs [] w)
 
 -- What a drain keeps of n elements, so many of them roots or merged.
 

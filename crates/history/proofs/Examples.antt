@@ -1,20 +1,26 @@
--- A list of calls for which each hypothesis of the rule holds, computed, with a close and with a settle after it: P3 of 01 with a refused call and a find.
-use mathlib.Core.Path.{_≡_, refl}
+-- A list of calls for which each hypothesis of the rule holds, computed, with a close and with a settle after it: P3 of 01 with a refused call and a
+-- find. And one after which the structure is settled (02, M-101), with a mark and a queued pair; and one after which the next close reports no change
+-- while applications are stored by elements that are no roots.
+use mathlib.Core.Path.{_≡_, refl, ap}
 use mathlib.Core.Bool.{true, false}
 use mathlib.Core.List.{List, [], _∷_, _++_}
 use Prim.Native.Nat.{ℕ}
 use native.Mathlib.Omega.{arith}
 use Rattle.unification.specs.Roots.{rootOf}
 use Rattle.signature.specs.Model.{plain}
-use Rattle.semantics.specs.Structure.{pair}
+use Rattle.semantics.specs.Structure.{pair, func-app}
 use Rattle.semantics.specs.Types.{anyMarked}
 use Rattle.semantics.specs.Close.{Closed, report}
-use Rattle.semantics.specs.Calls.{Call, equate-els, close, settle, root, closed, totals, isAccepted, step}
+use Rattle.semantics.specs.Calls.{Call, equate-els, close, settle, root, says, closed, totals, isAccepted, Machine, start, step, afterCalls}
 use Rattle.semantics.proofs.Computes.{everything}
-use Rattle.semantics.proofs.ProvedCases.{typ, func, plainEl, app}
+use Rattle.semantics.proofs.ProvedCases.{typ, func, plainEl, markedEl, impose, app}
+use Rattle.validity.proofs.Calls.{calls-valid}
 use Rattle.history.specs.Book.{blank, elements, taken, fed, mergesOf, noted, next, run, begin, History, history, Shared}
 use Rattle.history.specs.Book.{Classes, RanCloses, closes, settles, Conserved, Conservation}
-use Rattle.history.proofs.SecondClose.{noChange}
+use Rattle.history.specs.Settled.{asserts, isYes, saidYes}
+use Rattle.history.proofs.SecondClose.{noChange, NextUnchanged}
+use Rattle.history.proofs.NextClose.{step-next-unchanged}
+use Rattle.history.proofs.Settled.{NothingToClose, settled-closes}
 use Rattle.history.proofs.Conservation.{conservation}
 
 -- the definitions that a list and its book compute with
@@ -96,3 +102,61 @@ module _ {k : Call} {cs : List Closed} (w : Worked k cs) where
   -- 2 and 3 share one, by the two applications
   two-three : Shared (after k .book) 2 3
   two-three = conserves .one-root 2 3 (omega (arith, w .four)) (omega (arith, w .four)) .0 (w .same-root)
+
+-- Settled: after the settle an equality within one class, answered with no and queued; a marked element; a find; a refused equality.
+after-settle : List Call
+after-settle = settle ∷ equate-els 0 1 ∷ markedEl ∷ root 3 ∷ equate-els 0 9 ∷ []
+
+record StaysSettled (m : Machine) : Type 0 where
+  settled : m .structure .settled ≡ true
+  -- nothing to close does not mean an empty queue
+  queued : m .structure .pairs ≡ pair 0 1 ∷ []
+  marked : anyMarked (m .structure .marks) ≡ true
+
+stays-settled : StaysSettled (afterCalls (worked ++ after-settle) start)
+unfolding computed worked after-settle
+stays-settled = record { settled = refl; queued = refl; marked = refl }
+
+-- so the next close, or settle, finds nothing to do
+nothing-to-close : NothingToClose (afterCalls (worked ++ after-settle) start)
+nothing-to-close = settled-closes (worked ++ after-settle) (stays-settled .settled)
+
+-- Stored by elements that are no roots: f of 1 is 3 and f of 2 is 1; the close's impositions, which come last, make 0 and the marked 1 one.
+stale : List Call
+stale =
+    typ plain []
+    ∷ typ plain (0 ∷ [])
+    ∷ func [] (0 ∷ []) 0
+    ∷ plainEl
+    ∷ markedEl
+    ∷ plainEl
+    ∷ plainEl
+    ∷ app 0 [] (1 ∷ []) 3
+    ∷ app 0 [] (2 ∷ []) 1
+    ∷ impose 2 1 (0 ∷ [])
+    ∷ impose 2 1 (1 ∷ [])
+    ∷ close
+    ∷ []
+
+-- f of 2 is 0: stored with 1, which is of the same class
+said-again : Call
+said-again = app 0 [] (2 ∷ []) 0
+
+record StaleUnchanged (m : Machine) : Type 0 where
+  no-root : rootOf (m .structure .links) 1 ≡ 0
+  apps : m .structure .func-apps ≡ func-app 0 [] (1 ∷ []) 3 ∷ func-app 0 [] (2 ∷ []) 1 ∷ []
+  unchanged : NextUnchanged m
+  -- answered with no, and queued as a pair of the two results
+  no : step said-again m .answer ≡ says false
+  queued : step said-again m .after .structure .pairs ≡ pair 1 0 ∷ []
+
+stale-unchanged : StaleUnchanged (afterCalls stale start)
+unfolding computed stale said-again
+stale-unchanged = record { no-root = refl; apps = refl; unchanged = refl; no = refl; queued = refl }
+
+-- so the next close reports no change after it too
+still-unchanged : NextUnchanged (step said-again (afterCalls stale start) .after)
+unfolding asserts isYes said-again
+still-unchanged =
+    step-next-unchanged said-again (afterCalls stale start) (calls-valid stale) (stale-unchanged .unchanged)
+    (ap (saidYes said-again) (stale-unchanged .no))

@@ -1,6 +1,6 @@
 -- `functionality`: what it does to partitions, and what its table is like.
 use mathlib.Core.Path.{_≡_, refl, sym, subst, ap, ap₂, _∙_}
-use mathlib.Core.Bool.{Bool}
+use mathlib.Core.Bool.{Bool, false}
 use mathlib.Core.List.{List, [], _∷_, _++_, map, append-assoc, append-nil, List·Memᴰ}
 use mathlib.Core.Option.{some, none, Option·some-injective}
 use Prim.Native.Nat.{ℕ}
@@ -13,8 +13,9 @@ use Rattle.unification.proofs.Laws.{root-root}
 use Rattle.semantics.specs.Structure.{FuncApp, Pair, compareFuncApp, canonicalFuncApp, func-app}
 use Rattle.semantics.specs.Close.{Rewritten, enterAt, enter, enterAll, rewriting}
 use Rattle.ids.proofs.Appending.{lookup-past}
-use Rattle.semantics.proofs.Functionality.{enter-cases}
+use Rattle.semantics.proofs.Functionality.{enter-cases, enterAll-all, enterAll-sorted}
 use Rattle.semantics.proofs.Orders.{func-app-ordered, func-app-same, same-func-app, SameKey}
+use Rattle.semantics.proofs.Queues.{fresh}
 use Rattle.history.specs.Book.{Together, none, more, Meet}
 use Rattle.history.proofs.Relation.{Equivalence, Rooted, OneRoot, Respects, meet-key, says-image, image-says}
 use Rattle.history.proofs.Drain.{HoldsOfPair}
@@ -136,5 +137,27 @@ module _ (ls : List ℕ) (ps : List Pair) (b : Bool) where
       (c .1)
       ∙ ap table (append-assoc done (x ∷ []) xs)
 
-  pub canonical-same : (l : List FuncApp) → Sorted compareFuncApp l → All (Canon ls) l → enterAll ls l (table []) ≡ table l
+  canonical-same : (l : List FuncApp) → Sorted compareFuncApp l → All (Canon ls) l → enterAll ls l (table []) ≡ table l
   canonical-same l s c = settled-from l [] s (all-of (λ x. tt) l) c
+
+-- the table rewritten, as after a drain
+abbrev pub entered : List ℕ → List FuncApp → Rewritten
+entered ls l = enterAll ls l fresh
+
+pub entered-same : (ls : List ℕ) (l : List FuncApp) → Sorted compareFuncApp l → All (Canon ls) l → entered ls l ≡ rewriting l [] false
+entered-same ls = canonical-same ls [] false
+
+-- once is enough
+pub entered-again : (ls : List ℕ) (l : List FuncApp) → entered ls (entered ls l .apps) ≡ rewriting (entered ls l .apps) [] false
+entered-again ls l =
+    entered-same ls (entered ls l .apps) (enterAll-sorted ls l fresh tt)
+    (enterAll-all (Canon ls) ls l fresh (all-of (λ x. canon-image ls x) l) tt)
+
+-- of the links only the roots count
+pub enterAll-alike : (ls ks : List ℕ) → ((e : ℕ) → rootOf ks e ≡ rootOf ls e) → (xs : List FuncApp) (t : Rewritten) → enterAll ks xs t ≡ enterAll ls xs t
+unfolding enterAll canonicalFuncApp
+enterAll-alike ls ks roots [] t = refl
+enterAll-alike ls ks roots (x ∷ xs) t =
+    ap (λ (y : FuncApp). enterAll ks xs (enter y t))
+    (λ i. func-app (x .func) (map (λ e. roots e i) (x .parents)) (map (λ e. roots e i) (x .args)) (roots (x .result) i))
+    ∙ enterAll-alike ls ks roots xs (enter (canonicalFuncApp ls x) t)

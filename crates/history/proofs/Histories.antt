@@ -15,7 +15,7 @@ use Rattle.unification.proofs.Arrays.{link-past}
 use Rattle.semantics.specs.Structure.{Structure, empty, compareFuncApp}
 use Rattle.semantics.specs.Types.{anyMarked}
 use Rattle.semantics.specs.Close.{Closed, coreAtStart}
-use Rattle.semantics.specs.Calls.{Call, push-el, close, number, closed, isAccepted, Machine, Step, start, rule, acceptance, step}
+use Rattle.semantics.specs.Calls.{Call, push-el, close, number, closed, isAccepted, Machine, Step, start, rule, acceptance, step, afterCalls}
 use Rattle.history.specs.Book.{blank, elements, taken, fed, mergesOf, History, noted, next, run, begin, history, Shared, RanCloses, closes, settles}
 use Rattle.semantics.proofs.Counts.{roots}
 use Rattle.semantics.proofs.Judged.{step-by}
@@ -87,6 +87,16 @@ pushed-number m mark n =
 pub next-element : (ks : List Call) (mark : Bool) (n : ℕ) → step (push-el mark) (history ks .machine) .answer ≡ number n → n ≡ elements (history ks .book)
 unfolding coreAtStart
 next-element ks mark n e = pushed-number (history ks .machine) mark n e ∙ history-valid ks .book .long
+
+-- what a history notes beside the machine does not change what the calls leave
+after-run : (ks : List Call) (h : History) → afterCalls ks (h .machine) ≡ run ks h .machine
+unfolding afterCalls run next noted
+after-run [] h = refl
+after-run (k ∷ ks) h = after-run ks (next k h)
+
+pub after-history : (ks : List Call) → afterCalls ks start ≡ history ks .machine
+unfolding history begin
+after-history ks = after-run ks begin
 
 -- calls after calls go on from where those came to
 pub run-append : (ks js : List Call) (h : History) → run (ks ++ js) h ≡ run js (run ks h)

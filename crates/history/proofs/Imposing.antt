@@ -4,11 +4,11 @@ use mathlib.Core.Logic.{_≢_}
 use mathlib.Core.Bool.{Bool, true, false, not, _&&_, _||_, and-false}
 use mathlib.Core.List.{List, [], _∷_}
 use mathlib.Core.Option.{Option, none, some}
-use Prim.Native.Nat.{ℕ, _≤_, _<_}
+use Prim.Native.Nat.{ℕ, _+_, _≤_, _<_}
 use native.Mathlib.Omega.{arith}
 use lib.ListN.{length}
 use lib.Dec.{eqb, ltb}
-use borrow.Author.Tests.{eqb-false, not-true}
+use borrow.Author.Tests.{eqb-false, ltb-false, not-true}
 use Rattle.ids.specs.Answers.{tooManyFacts}
 use Rattle.ids.specs.Table.{present, placed}
 use Rattle.ids.proofs.Sorted.{All, placed-there, placed-all}
@@ -16,12 +16,12 @@ use Rattle.unification.specs.Roots.{rootOf}
 use Rattle.unification.proofs.Laws.{root-root}
 use Rattle.semantics.specs.Structure.{Fact, compareFact, canonicalFact, maxFacts, pair}
 use Rattle.semantics.specs.Types.{Core, with-pairs, with-added, with-met, marked, concreteTypesOf, refineRoots, refine, refineParents, refineAll}
-use Rattle.semantics.specs.Types.{insertFact, insertCanonical, impose, imposeAll}
+use Rattle.semantics.specs.Types.{insertFact, insertCanonical, impose, imposeAll, grew}
 use Rattle.semantics.proofs.Orders.{fact-ordered}
 use Rattle.semantics.proofs.Cases.{and-first}
 use Rattle.validity.proofs.Drain.{drain-merges}
 use Rattle.history.proofs.Tables.{present-stays}
-use Rattle.history.proofs.Drain.{Counted, counted-none, counted-then, Unmarked}
+use Rattle.history.proofs.Drain.{Counted, counted-none, counted-then, drain-counted, Unmarked}
 
 -- "Where two roots differ and either is marked": the test that makes two parents one
 abbrev pub joins : List ℕ → List Bool → ℕ → ℕ → Bool
@@ -43,10 +43,17 @@ module _ (w : Core) (p q : ℕ) where
   refine-none e = rw (refine, refineRoots, e)
 
   pub refine-counted : Counted w (refine p q w)
+  unfolding refine refineRoots
   refine-counted = go (joins (w .links) (w .marks) p q) refl
     where
       go : (t : Bool) → joins (w .links) (w .marks) p q ≡ t → Counted w (refine p q w)
-      go true e = let l = refine-merges e in record { grew = omega arith; still = λ z. absurd (omega arith) }
+      go true e =
+          let l = refine-merges e in
+          record {
+            grew = omega arith;
+            still = λ z. absurd (omega arith);
+            added = rw (refine, refineRoots, e) (drain-counted (with-pairs (pair (rootOf (w .links) p) (rootOf (w .links) q) ∷ w .pairs) w) .added);
+          }
       go false e = rw (refine-none e) (counted-none w)
 
   -- conversely
@@ -106,11 +113,12 @@ pub record OnlyFactsGrew (w v : Core) : Type 0 where
   pub marks : v .marks ≡ w .marks
   pub pairs : v .pairs ≡ w .pairs
   pub merges : v .merges ≡ w .merges
+  pub added : w .added ≤ v .added
   pub met : v .met ≡ none → w .met ≡ none
   pub facts : (f : Fact) → present compareFact f (w .facts) ≡ true → present compareFact f (v .facts) ≡ true
 
 pub grown-none : (w : Core) → OnlyFactsGrew w w
-grown-none w = record { links = refl; marks = refl; pairs = refl; merges = refl; met = λ q. q; facts = λ f h. h }
+grown-none w = record { links = refl; marks = refl; pairs = refl; merges = refl; added = omega arith; met = λ q. q; facts = λ f h. h }
 
 pub grown-then : (w v u : Core) → OnlyFactsGrew w v → OnlyFactsGrew v u → OnlyFactsGrew w u
 grown-then w v u a b = record {
@@ -118,6 +126,7 @@ grown-then w v u a b = record {
   marks = b .marks ∙ a .marks;
   pairs = b .pairs ∙ a .pairs;
   merges = b .merges ∙ a .merges;
+  added = omega (arith, a .added, b .added);
   met = λ q. a .met (b .met q);
   facts = λ f h. b .facts f (a .facts f h);
 }
@@ -130,10 +139,11 @@ insertFact-grown f w =
       marks = refl;
       pairs = refl;
       merges = refl;
+      added = omega arith;
       met = λ q. q;
       facts = λ g h. present-stays fact-ordered f g (w .facts) h;
     })
-    (λ e. record { links = refl; marks = refl; pairs = refl; merges = refl; met = λ q. met-stays (w .met) tooManyFacts q; facts = λ g h. h })
+    (λ e. record { links = refl; marks = refl; pairs = refl; merges = refl; added = omega arith; met = λ q. met-stays (w .met) tooManyFacts q; facts = λ g h. h })
 
 insertFact-there : (f : Fact) (w : Core) → insertFact f w .met ≡ none → present compareFact f (insertFact f w .facts) ≡ true
 insertFact-there f w =
@@ -143,6 +153,12 @@ insertFact-there f w =
 insertFact-idle : (f : Fact) (w : Core) → present compareFact f (w .facts) ≡ true → insertFact f w ≡ w
 unfolding insertFact
 insertFact-idle f w e = rw (insertFact, e)
+
+-- an insertion that added nothing and met no number
+insertFact-still : (f : Fact) (w : Core) → insertFact f w .added ≡ w .added → insertFact f w .met ≡ none → insertFact f w ≡ w
+insertFact-still f w =
+    insert-cases (λ v. v .added ≡ w .added → v .met ≡ none → v ≡ w) f w (λ e a m. refl) (λ e a m. absurd (omega arith))
+    (λ e a m. met-stays (w .met) tooManyFacts m)
 
 -- the fact, its parents as roots and at the root, is stored
 abbrev pub Stored : List ℕ → List Fact → Fact → Type 0
@@ -160,6 +176,10 @@ module _ (f : Fact) (w : Core) where
   pub insert-idle : Stored (w .links) (w .facts) f → insertCanonical f w ≡ w
   unfolding insertCanonical
   insert-idle = insertFact-idle (canonicalFact (w .links) f) w
+
+  insert-still : insertCanonical f w .added ≡ w .added → insertCanonical f w .met ≡ none → insertCanonical f w ≡ w
+  unfolding insertCanonical
+  insert-still = insertFact-still (canonicalFact (w .links) f) w
 
   -- what holds of the facts and of the one inserted holds of what is left
   pub insert-all : (P : Fact → Type 0) → P (canonicalFact (w .links) f) → All P (w .facts) → All P (insertCanonical f w .facts)
@@ -194,6 +214,15 @@ unfolding insertAll
 insertAll-idle [] w h = refl
 insertAll-idle (f ∷ fs) w h = ap (insertAll fs) (insert-idle f w (h .0)) ∙ insertAll-idle fs w (h .1)
 
+insertAll-still : (fs : List Fact) (w : Core) → insertAll fs w .added ≡ w .added → insertAll fs w .met ≡ none → insertAll fs w ≡ w
+unfolding insertAll
+insertAll-still [] w a m = refl
+insertAll-still (f ∷ fs) w a m =
+    let g = insertAll-grown fs (insertCanonical f w) in
+    let one = insert-still f w (omega (arith, a, insert-grown f w .added, g .added)) (g .met m) in
+    let rest = ap (insertAll fs) one in
+    rest ∙ insertAll-still fs w (ap (λ (v : Core). v .added) (sym rest) ∙ a) (ap (λ (v : Core). v .met) (sym rest) ∙ m)
+
 -- Imposing with no merge.
 
 impose-counts : (f : Fact) (w : Core) → w .merges ≤ impose f w .merges
@@ -206,6 +235,20 @@ pub imposeAll-counts : (fs : List Fact) (w : Core) → w .merges ≤ imposeAll f
 unfolding imposeAll
 imposeAll-counts [] w = omega arith
 imposeAll-counts (f ∷ fs) w = omega (arith, impose-counts f w, imposeAll-counts fs (impose f w))
+
+imposeAll-adds : (fs : List Fact) (w : Core) → w .added ≤ imposeAll fs w .added
+unfolding imposeAll impose
+imposeAll-adds [] w = omega arith
+imposeAll-adds (f ∷ fs) w =
+    let gs = concreteTypesOf (w .links) (w .facts) (f .el) in
+    omega (arith, refineAll-counted gs f w .added, insert-grown f (refineAll gs f w) .added, imposeAll-adds fs (impose f w))
+
+-- no answer was yes
+pub imposeAll-still : (fs : List Fact) (w : Core) → grew w (imposeAll fs w) ≡ false → imposeAll fs w .merges ≡ w .merges
+unfolding grew
+imposeAll-still fs w e =
+    let v = imposeAll fs w in
+    omega (arith, ltb-false (w .merges + w .added) (v .merges + v .added) e, imposeAll-counts fs w, imposeAll-adds fs w)
 
 -- nothing was refined
 pub impose-refined : (f : Fact) (w : Core) → impose f w .merges ≡ w .merges
@@ -234,6 +277,16 @@ unfolding imposeAll insertAll
 impose-inserts [] w q = refl
 impose-inserts (f ∷ fs) w q =
     let a = first-still f fs w q in impose-inserts fs (impose f w) (a .1) ∙ ap (insertAll fs) (a .0)
+
+-- no answer was yes and no number met: nothing changed
+pub imposeAll-same : (fs : List Fact) (w : Core) → grew w (imposeAll fs w) ≡ false → imposeAll fs w .met ≡ none → imposeAll fs w ≡ w
+unfolding grew
+imposeAll-same fs w e m =
+    let v = imposeAll fs w in
+    let still = imposeAll-still fs w e in
+    let plain = impose-inserts fs w still in
+    let added : v .added ≡ w .added = omega (arith, ltb-false (w .merges + w .added) (v .merges + v .added) e, still, imposeAll-adds fs w) in
+    plain ∙ insertAll-still fs w (ap (λ (x : Core). x .added) (sym plain) ∙ added) (ap (λ (x : Core). x .met) (sym plain) ∙ m)
 
 -- Imposing with no mark.
 

@@ -10,7 +10,9 @@ pub mod Passes
 pub mod Rounds
 pub mod Closing
 pub mod SecondClose
+pub mod NextClose
 pub mod Settling
+pub mod Settled
 pub mod Calls
 pub mod Classes
 pub mod Histories
@@ -20,3 +22,4 @@ pub mod Unchanged
 pub mod Examples
 pub mod Versions
 pub mod Refutations
+pub mod WrongFlags

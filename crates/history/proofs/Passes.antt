@@ -9,7 +9,7 @@ use native.Mathlib.Omega.{arith}
 use native.Mathlib.Nat.{le-refl, le-trans}
 use lib.ListN.{length}
 use lib.Dec.{ltb}
-use borrow.Author.Tests.{le-ltb}
+use borrow.Author.Tests.{le-ltb, ltb-false}
 use Rattle.ids.proofs.Sorted.{All, all-map, Sorted}
 use Rattle.unification.specs.Roots.{rootOf, Formed}
 use Rattle.unification.proofs.Laws.{root-le, root-root}
@@ -22,14 +22,15 @@ use Rattle.semantics.specs.Close.{typingPass, Pass, passes, runPasses, round}
 use Rattle.semantics.proofs.Cases.{or-first, or-second}
 use Rattle.semantics.proofs.Counts.{roots}
 use Rattle.semantics.proofs.Functionality.{enterAll-all, enterAll-sorted, enterAll-pairs, enterAll-none}
-use Rattle.semantics.proofs.Queues.{drain-pairs}
+use Rattle.semantics.proofs.Queues.{drain-pairs, fresh}
 use Rattle.semantics.proofs.Stages.{Stage, Along}
 use Rattle.validity.proofs.Drain.{TwoRoots, drain-merges}
 use Rattle.history.proofs.Tables.{all-of}
 use Rattle.history.proofs.Relation.{Equivalence, Rooted, Respects}
 use Rattle.history.proofs.Drain.{RootsAndMerges, HoldsOfPair, Inside, Unmarked, Joined, drain-law, drain-counted, WithinClass, drain-same}
-use Rattle.history.proofs.Functionality.{Canon, canon-image, enterAll-on, enterAll-back, canonical-same}
-use Rattle.history.proofs.Imposing.{OnlyFactsGrew, plain-grown, unmarked-inserts, impose-inserts, imposeAll-counts}
+use Rattle.history.proofs.Drain.{drain-within}
+use Rattle.history.proofs.Functionality.{Canon, canon-image, enterAll-on, enterAll-back, entered, entered-same, entered-again}
+use Rattle.history.proofs.Imposing.{OnlyFactsGrew, plain-grown, unmarked-inserts, impose-inserts, imposeAll-counts, imposeAll-still, imposeAll-same}
 use Rattle.history.proofs.Unjoined.{Safe, OnRoots, imposed-safe, safe-idle, safe-moved, insertAll-roots}
 
 -- what a partition and a claim on applications say of what a round works on
@@ -55,27 +56,56 @@ pub record Passed (n total : ℕ) (w : Core) (xs : List FuncApp) (v : Core) (ys 
   pub ready : Ready n total v ys
   pub sound : Sound w xs v ys
 
--- nothing remains to do, marks or not: the queue may hold pairs within one class
+-- imposing what the applications of r and the predicate applications demand does nothing
+abbrev pub DemandsSafe : Sig → List PredApp → Core → Rewritten → Type 0
+DemandsSafe g preds w r = All (Safe (w .links) (w .marks) (w .facts)) (demands g (r .apps) preds)
+
+-- nothing was done and nothing remains to do, marks or not: pairs wait only within one class, no key has two results once the applications are rewritten,
+-- and what these demand is stored
 pub record NoWork (g : Sig) (preds : List PredApp) (t : Turn) : Type 0 where
+  pub unworked : t .worked ≡ false
+  pub unmet : t .core .met ≡ none
   pub joined : All (WithinClass (t .core .links)) (t .core .pairs)
-  pub sorted : Sorted compareFuncApp (t .apps)
-  pub canon : All (Canon (t .core .links)) (t .apps)
-  pub safe : All (Safe (t .core .links) (t .core .marks) (t .core .facts)) (demands g (t .apps) preds)
+  pub agree : entered (t .core .links) (t .apps) .queued ≡ false
+  pub safe : DemandsSafe g preds (t .core) (entered (t .core .links) (t .apps))
 
--- the turn with no pair queued
-abbrev pub emptied : Turn → Turn
-emptied t = turn (types.with-pairs [] (t .core)) (t .apps) (t .worked)
+-- where the applications are rewritten already
+pub canonical-no-work : (g : Sig) (preds : List PredApp) (w : Core) (xs : List FuncApp) → w .met ≡ none → All (WithinClass (w .links)) (w .pairs)
+    → Sorted compareFuncApp xs → All (Canon (w .links)) xs → All (Safe (w .links) (w .marks) (w .facts)) (demands g xs preds)
+    → NoWork g preds (turn w xs false)
+canonical-no-work g preds w xs m joined sorted canon safe =
+    let own = entered-same (w .links) xs sorted canon in
+    record {
+      unworked = refl;
+      unmet = m;
+      joined = joined;
+      agree = ap (λ (r : Rewritten). r .queued) own;
+      safe = subst (DemandsSafe g preds w) (sym own) safe;
+    }
 
--- all is as it was, but that the queue may be dropped
-abbrev pub UnchangedButQueue : Turn → Turn → Type 0
-UnchangedButQueue t u = (u ≡ t) ⊎ (u ≡ emptied t)
+-- from t to u nothing is done, but that the queue may be dropped and the applications rewritten
+pub record OnlyTidied (g : Sig) (preds : List PredApp) (t u : Turn) : Type 0 where
+  pub pairs : List Pair
+  pub apps : List FuncApp
+  pub is : u ≡ turn (types.with-pairs pairs (t .core)) apps (t .worked)
+  pub left : NoWork g preds u
+  -- no pair is queued, and applications that are rewritten already stay
+  pub none : t .core .pairs ≡ [] → pairs ≡ []
+  pub same : Sorted compareFuncApp (t .apps) → All (Canon (t .core .links)) (t .apps) → apps ≡ t .apps
 
-emptied-no-work : {g : Sig} {preds : List PredApp} (t : Turn) → NoWork g preds t → NoWork g preds (emptied t)
-emptied-no-work t r = record { joined = tt; sorted = r .sorted; canon = r .canon; safe = r .safe }
-
-emptied-rests : (t u : Turn) → UnchangedButQueue (emptied t) u → UnchangedButQueue t u
-emptied-rests t u (inl e) = inr e
-emptied-rests t u (inr e) = inr e
+tidied-then : {g : Sig} {preds : List PredApp} (t u v : Turn) → OnlyTidied g preds t u → OnlyTidied g preds u v → OnlyTidied g preds t v
+tidied-then {g} {preds} t u v a =
+    subst (λ (x : Turn). OnlyTidied g preds x v → OnlyTidied g preds t v) (sym (a .is))
+    (λ b. record {
+      pairs = b .pairs;
+      apps = b .apps;
+      is = b .is;
+      left = b .left;
+      none = λ e. b .none (a .none e);
+      same = λ s c.
+          let e = a .same s c in
+          b .same (subst (Sorted compareFuncApp) (sym e) s) (subst (All (Canon (t .core .links))) (sym e) c) ∙ e;
+    })
 
 -- The stages of a round that begins with the core w.
 
@@ -114,13 +144,17 @@ module _ (g : Sig) (preds : List PredApp) where
     pub passed : (n total : ℕ) (t : Turn) → Ready n total (t .core) (t .apps)
         → Passed n total (t .core) (t .apps) (p g preds t .core) (p g preds t .apps)
     pub leads : (t : Turn) → Quiet p t → A t → B (p g preds t)
-    -- where nothing remains to do it does nothing, and says so; pairs within one class may be dropped
-    pub idle : (t : Turn) → NoWork g preds t → UnchangedButQueue t (p g preds t)
+    -- where nothing remains to do it does nothing, and says so; pairs within one class may be dropped, and applications rewritten
+    pub idle : (t : Turn) → A t → NoWork g preds t → OnlyTidied g preds t (p g preds t)
+    -- conversely, where nothing was done and nothing remains to do after it, nothing remained before it
+    pub was-idle : (t : Turn) → A t → NoWork g preds (p g preds t) → NoWork g preds t
     -- merges only add up
     pub more : (t : Turn) → t .core .merges ≤ p g preds t .core .merges
     -- where it merges nothing, facts stay on roots
     pub rooted : (t : Turn) → p g preds t .core .merges ≡ t .core .merges → OnRoots (t .core .links) (t .core .facts)
         → OnRoots (p g preds t .core .links) (p g preds t .core .facts)
+    -- where no work is reported after it, none was before it and it merged nothing
+    pub unworked : (t : Turn) → p g preds t .worked ≡ false → (t .worked ≡ false) × (p g preds t .core .merges ≡ t .core .merges)
 
 -- A list of passes.
 
@@ -141,14 +175,14 @@ module _ (g : Sig) (preds : List PredApp) where
   abbrev AllLawful : List Pass → Stage → Stage → Type 1
   AllLawful = Along (Lawful g preds)
 
-  run-idle : (ps : List Pass) (A B : Stage) → AllLawful ps A B → (t : Turn) → NoWork g preds t → UnchangedButQueue t (runPasses ps g preds t)
+  run-idle : (ps : List Pass) (A B : Stage) → AllLawful ps A B → (t : Turn) → A t → NoWork g preds t → OnlyTidied g preds t (runPasses ps g preds t)
   unfolding runPasses
-  run-idle [] A B l t r = inl refl
-  run-idle (p ∷ ps) A C l t r = elim (l .1 .idle t r) [
-    | inl e ↦ subst (λ (u : Turn). UnchangedButQueue t (runPasses ps g preds u)) (sym e) (run-idle ps (l .0) C (l .2) t r)
-    | inr e ↦ subst (λ (u : Turn). UnchangedButQueue t (runPasses ps g preds u)) (sym e)
-        (emptied-rests t (runPasses ps g preds (emptied t)) (run-idle ps (l .0) C (l .2) (emptied t) (emptied-no-work t r)))
-  ]
+  run-idle [] A B l t h r =
+      record { pairs = t .core .pairs; apps = t .apps; is = refl; left = r; none = λ e. e; same = λ s c. refl }
+  run-idle (p ∷ ps) A C l t h r =
+      let a = l .1 .idle t h r in
+      let next = l .1 .leads t (inr (ap (λ (u : Turn). u .core .merges) (a .is))) h in
+      tidied-then t (p g preds t) _ a (run-idle ps (l .0) C (l .2) (p g preds t) next (a .left))
 
   run-more : (ps : List Pass) (A B : Stage) → AllLawful ps A B → (t : Turn) → t .core .merges ≤ runPasses ps g preds t .core .merges
   unfolding runPasses
@@ -197,10 +231,27 @@ module _ (g : Sig) (preds : List PredApp) where
       let both = still-both p ps A (l .0) C (l .1) (l .2) t e in
       run-rooted ps (l .0) C (l .2) (p g preds t) (both .1) (l .1 .rooted t (both .0) h)
 
--- a report of no work by a pass that left the core v and the applications as they were
-reports-none : (t : Turn) (w v : Core) (work : Bool) → w ≡ v → work ≡ false → reports w (t .apps) work t ≡ turn v (t .apps) (t .worked)
-reports-none t w v work p e =
-    λ i. turn (p i) (t .apps) ((ap (λ (b : Bool). t .worked || b) e ∙ or-false (t .worked)) i)
+  run-was-idle : (ps : List Pass) (A B : Stage) → AllLawful ps A B → (t : Turn) → Still ps t → A t → NoWork g preds (runPasses ps g preds t)
+      → NoWork g preds t
+  unfolding runPasses
+  run-was-idle [] A B l t e h r = r
+  run-was-idle (p ∷ ps) A C l t e h r =
+      let both = still-both p ps A (l .0) C (l .1) (l .2) t e in
+      l .1 .was-idle t h (run-was-idle ps (l .0) C (l .2) (p g preds t) (both .1) (l .1 .leads t (inr (both .0)) h) r)
+
+  -- where no work is reported
+  run-unworked : (ps : List Pass) (A B : Stage) → AllLawful ps A B → (t : Turn) → runPasses ps g preds t .worked ≡ false → (t .worked ≡ false) × Still ps t
+  unfolding runPasses
+  run-unworked [] A B l t e = (e, refl)
+  run-unworked (p ∷ ps) A C l t e =
+      let later = run-unworked ps (l .0) C (l .2) (p g preds t) e in
+      let first = l .1 .unworked t (later .0) in
+      (first .0, later .1 ∙ first .1)
+
+-- a report of no work by a pass that left the core v
+reports-none : (t : Turn) (xs : List FuncApp) (w v : Core) (work : Bool) → w ≡ v → work ≡ false → reports w xs work t ≡ turn v xs (t .worked)
+reports-none t xs w v work p e =
+    λ i. turn (p i) xs ((ap (λ (b : Bool). t .worked || b) e ∙ or-false (t .worked)) i)
 
 -- The drain.
 
@@ -232,13 +283,32 @@ drain-lawful g preds w = record {
   passed = drain-passed;
   leads = λ t q h.
       subst (λ (x : Core). AfterDrain x (drainPass g preds t)) h (record { merges = drain-merges (t .core); none = drain-pairs (t .core) });
-  idle = λ t r.
+  idle = λ t h r.
       let v = t .core in
       let e = drain-same v (r .joined) in
-      inr (reports-none t (drain v) (types.with-pairs [] v) (ltb (v .merges) (drain v .merges)) e
-      (ap (λ (x : Core). ltb (v .merges) (x .merges)) e ∙ le-ltb (v .merges) (v .merges) (le-refl (v .merges))));
+      let is = reports-none t (t .apps) (drain v) (types.with-pairs [] v) (ltb (v .merges) (drain v .merges)) e
+      (ap (λ (x : Core). ltb (v .merges) (x .merges)) e ∙ le-ltb (v .merges) (v .merges) (le-refl (v .merges))) in
+      let left : NoWork g preds (turn (types.with-pairs [] v) (t .apps) (t .worked)) =
+      record { unworked = r .unworked; unmet = r .unmet; joined = tt; agree = r .agree; safe = r .safe } in
+      record { pairs = []; apps = t .apps; is = is; left = subst (NoWork g preds) (sym is) left; none = λ q. refl; same = λ s c. refl };
+  was-idle = λ t h r.
+      let v = t .core in
+      let quiet = or-second (t .worked) (ltb (v .merges) (drain v .merges)) (r .unworked) in
+      let still : drain v .merges ≡ v .merges = omega (arith, ltb-false (v .merges) (drain v .merges) quiet, drain-counted v .grew) in
+      let left = subst (λ (x : Core). NoWork g preds (drained x t)) (drain-counted v .still still) r in
+      record {
+        unworked = or-first (t .worked) (ltb (v .merges) (drain v .merges)) (r .unworked);
+        unmet = left .unmet;
+        joined = drain-within v still;
+        agree = left .agree;
+        safe = left .safe;
+      };
   more = λ t. drain-counted (t .core) .grew;
   rooted = λ t e h. subst (λ (x : Core). OnRoots (x .links) (x .facts)) (sym (drain-counted (t .core) .still e)) h;
+  unworked = λ t e.
+      let n = t .core .merges in
+      let k = drain (t .core) .merges in
+      (or-first (t .worked) (ltb n k) e, omega (arith, ltb-false n k (or-second (t .worked) (ltb n k) e), drain-counted (t .core) .grew));
 }
 
 -- `functionality`.
@@ -249,6 +319,14 @@ module _ (t : Turn) where
 
   abbrev rewritten : Rewritten
   rewritten = enterAll (t .core .links) (t .apps) begin
+
+  -- where no pair waits and none is queued
+  rewritten-only : t .core .pairs ≡ [] → entered (t .core .links) (t .apps) .queued ≡ false
+      → rewritten ≡ rewriting (entered (t .core .links) (t .apps) .apps) (t .core .pairs) false
+  rewritten-only e q =
+      let r = entered (t .core .links) (t .apps) in
+      ap (λ (ps : List Pair). enterAll (t .core .links) (t .apps) (rewriting [] ps false)) e
+      ∙ (λ i. rewriting (r .apps) ((enterAll-none (t .core .links) (t .apps) fresh q .1 ∙ sym e) i) (q i))
 
   functionality-passed : (n total : ℕ) → Ready n total (t .core) (t .apps)
       → Passed n total (t .core) (t .apps) (types.with-pairs (rewritten .pairs) (t .core)) (rewritten .apps)
@@ -287,11 +365,42 @@ functionality-lawful g preds w = record {
             (all-of (λ x. root-root ls (x .result)) (t .apps)) tt (subst (All (TwoRoots ls)) (sym (h .none)) tt);
         idle = λ e. enterAll-none ls (t .apps) (begin t) (or-second (t .worked) (rewritten t .queued) e) .1 ∙ h .none;
       };
-  idle = λ t r.
-      inl (ap (λ (x : Rewritten). rewrote x t) (canonical-same (t .core .links) (t .core .pairs) false (t .apps) (r .sorted) (r .canon))
-      ∙ reports-none t (t .core) (t .core) false refl refl);
+  idle = λ t h r.
+      let ls = t .core .links in
+      let xs = entered ls (t .apps) .apps in
+      let again = entered-again ls (t .apps) in
+      let is = ap (λ (x : Rewritten). rewrote x t) (rewritten-only t (h .none) (r .agree)) ∙ reports-none t xs (t .core) (t .core) false refl refl in
+      let left : NoWork g preds (turn (t .core) xs (t .worked)) = record {
+        unworked = r .unworked;
+        unmet = r .unmet;
+        joined = r .joined;
+        agree = ap (λ (x : Rewritten). x .queued) again;
+        safe = subst (DemandsSafe g preds (t .core)) (sym again) (r .safe);
+      } in
+      record {
+        pairs = t .core .pairs;
+        apps = xs;
+        is = is;
+        left = subst (NoWork g preds) (sym is) left;
+        none = λ e. e;
+        same = λ s c. ap (λ (x : Rewritten). x .apps) (entered-same ls (t .apps) s c);
+      };
+  was-idle = λ t h r.
+      let ls = t .core .links in
+      let agree : entered ls (t .apps) .queued ≡ false =
+      ap (λ (ps : List Pair). enterAll ls (t .apps) (rewriting [] ps false) .queued) (sym (h .none))
+      ∙ or-second (t .worked) (rewritten t .queued) (r .unworked) in
+      let left = subst (λ (x : Rewritten). NoWork g preds (rewrote x t)) (rewritten-only t (h .none) agree) r in
+      record {
+        unworked = or-first (t .worked) (rewritten t .queued) (r .unworked);
+        unmet = r .unmet;
+        joined = left .joined;
+        agree = agree;
+        safe = subst (DemandsSafe g preds (t .core)) (entered-again ls (t .apps)) (left .safe);
+      };
   more = λ t. le-refl (t .core .merges);
   rooted = λ t e h. h;
+  unworked = λ t e. (or-first (t .worked) (rewritten t .queued) e, refl);
 }
 
 -- `typing`.
@@ -362,11 +471,33 @@ module _ (g : Sig) (preds : List PredApp) where
   typing-lawful w = record {
     passed = λ n total t r. grown-passed n total (t .core) (imposed t) (t .apps) (unmarked-grown (asked t) (t .core) (r .plain)) r;
     leads = λ t q. elim q [ inl u ↦ typing-done w t (unmarked-grown (asked t) (t .core) u .merges) | inr e ↦ typing-done w t e ];
-    idle = λ t r.
-        let e = safe-idle (asked t) (t .core) (r .safe) in
-        inl (reports-none t (imposed t) (t .core) (grew (t .core) (imposed t)) e (grew-none (t .core) (imposed t) e));
+    idle = λ t h r.
+        let own = entered-same (t .core .links) (t .apps) (h .sorted) (h .canon) in
+        let e = safe-idle (asked t) (t .core) (subst (DemandsSafe g preds (t .core)) own (r .safe)) in
+        let is = reports-none t (t .apps) (imposed t) (t .core) (grew (t .core) (imposed t)) e (grew-none (t .core) (imposed t) e) in
+        record {
+          pairs = t .core .pairs;
+          apps = t .apps;
+          is = is;
+          left = subst (NoWork g preds) (sym is) r;
+          none = λ q. q;
+          same = λ s c. refl;
+        };
+    was-idle = λ t h r.
+        let work = grew (t .core) (imposed t) in
+        let left = subst (λ (x : Core). NoWork g preds (typed x t)) (imposeAll-same (asked t) (t .core) (or-second (t .worked) work (r .unworked)) (r .unmet)) r in
+        record {
+          unworked = or-first (t .worked) work (r .unworked);
+          unmet = left .unmet;
+          joined = left .joined;
+          agree = left .agree;
+          safe = left .safe;
+        };
     more = λ t. imposeAll-counts (asked t) (t .core);
     rooted = λ t e h. subst (λ (x : Core). OnRoots (x .links) (x .facts)) (sym (impose-inserts (asked t) (t .core) e)) (insertAll-roots (asked t) (t .core) h);
+    unworked = λ t e.
+        let work = grew (t .core) (imposed t) in
+        (or-first (t .worked) work e, imposeAll-still (asked t) (t .core) (or-second (t .worked) work e));
   }
 
   -- The round.
@@ -383,20 +514,23 @@ module _ (g : Sig) (preds : List PredApp) where
     ),
   )
 
-  -- where nothing remains to do a round does nothing but drop pairs within one class
-  pub round-idle : (xs : List FuncApp) (w : Core) → NoWork g preds (turn w xs false) → UnchangedButQueue (turn w xs false) (round g preds xs w)
+  -- where nothing remains to do a round does nothing but tidy
+  pub round-idle : (xs : List FuncApp) (w : Core) → NoWork g preds (turn w xs false) → OnlyTidied g preds (turn w xs false) (round g preds xs w)
   unfolding round
-  round-idle xs w = run-idle g preds passes (BeginsWith w) (RoundDone g preds w) (all-lawful w) (turn w xs false)
+  round-idle xs w = run-idle g preds passes (BeginsWith w) (RoundDone g preds w) (all-lawful w) (turn w xs false) refl
 
-  -- after a round that left no pair and met no number, another does nothing
+  -- after a round that left no pair and met no number, nothing remains to do
+  done-no-work : (w : Core) (t : Turn) → RoundDone g preds w t → t .core .met ≡ none → t .core .pairs ≡ [] → NoWork g preds (turn (t .core) (t .apps) false)
+  done-no-work w t d m e =
+      canonical-no-work g preds (t .core) (t .apps) m (subst (All (WithinClass (t .core .links))) (sym e) tt) (d .table .sorted) (d .table .canon)
+      (d .safe m)
+
+  -- and another does nothing
   pub done-idle : (w : Core) (t : Turn) → RoundDone g preds w t → t .core .met ≡ none → t .core .pairs ≡ []
       → round g preds (t .apps) (t .core) ≡ turn (t .core) (t .apps) false
   done-idle w t d m e =
-      elim (round-idle (t .apps) (t .core)
-      (record { joined = subst (All (WithinClass (t .core .links))) (sym e) tt; sorted = d .table .sorted; canon = d .table .canon; safe = d .safe m })) [
-        | inl q ↦ q
-        | inr q ↦ q ∙ (λ i. turn (types.with-pairs (sym e i) (t .core)) (t .apps) false)
-      ]
+      let a = round-idle (t .apps) (t .core) (done-no-work w t d m e) in
+      a .is ∙ (λ i. turn (types.with-pairs ((a .none e ∙ sym e) i) (t .core)) (a .same (d .table .sorted) (d .table .canon) i) false)
 
   module _ (xs : List FuncApp) (w : Core) where
     pub round-more : w .merges ≤ round g preds xs w .core .merges
@@ -423,3 +557,13 @@ module _ (g : Sig) (preds : List PredApp) where
         → OnRoots (round g preds xs w .core .links) (round g preds xs w .core .facts)
     unfolding round
     still-rooted = run-rooted g preds passes (BeginsWith w) (RoundDone g preds w) (all-lawful w) (turn w xs false)
+
+    -- where no work is reported and no number met, nothing remained to do
+    pub round-was-idle : round g preds xs w .worked ≡ false → round g preds xs w .core .met ≡ none → NoWork g preds (turn w xs false)
+    unfolding round
+    round-was-idle e m =
+        let still = run-unworked g preds passes (BeginsWith w) (RoundDone g preds w) (all-lawful w) (turn w xs false) e .1 in
+        let d = still-done still in
+        run-was-idle g preds passes (BeginsWith w) (RoundDone g preds w) (all-lawful w) (turn w xs false) still refl
+        (subst (λ (b : Bool). NoWork g preds (turn (round g preds xs w .core) (round g preds xs w .apps) b)) (sym e)
+        (done-no-work w (round g preds xs w) d m (d .table .idle e)))

@@ -9,7 +9,7 @@ use Rattle.ids.proofs.Sorted.{All, Sorted, no-test}
 use Rattle.signature.specs.Model.{Sig}
 use Rattle.semantics.specs.Structure.{FuncApp, PredApp, Pair, compareFuncApp}
 use Rattle.semantics.specs.Types.{Core}
-use Rattle.semantics.specs.Close.{Turn, round, Rounds, isNone, lastRound, oneMore, roundsFrom, rounds, fuel}
+use Rattle.semantics.specs.Close.{Turn, round, Rounds, isNone, lastRound, oneMore, goesOn, roundsFrom, rounds, fuel}
 use Rattle.semantics.proofs.Cases.{and-second}
 use Rattle.validity.proofs.Drain.{TwoRoots}
 use Rattle.history.proofs.Functionality.{Canon}
@@ -32,9 +32,10 @@ unfolding isNone
 isNone-none none e = refl
 isNone-none (some n) e = no-test e refl
 
-pub none-isNone : (o : Option ℕ) → o ≡ none → isNone o ≡ true
+-- with no number met, a round that is the last reports nothing
+pub last-unworked : (t : Turn) → goesOn t ≡ false → t .core .met ≡ none → t .worked ≡ false
 unfolding isNone
-none-isNone o e = ap isNone e
+last-unworked t e m = sym (and-true (t .worked)) ∙ ap (λ (o : Option ℕ). t .worked && isNone o) (sym m) ∙ e
 
 -- a round that reports nothing is the last
 pub stop : (g : Sig) (preds : List PredApp) (k : ℕ) (t : Turn) → t .worked ≡ false → roundsFrom k g preds t ≡ lastRound t
@@ -96,8 +97,7 @@ module _ (n total : ℕ) (g : Sig) (preds : List PredApp) where
       go : (b : Bool) → (t .worked && isNone (t .core .met)) ≡ b → Later
           → RoundsLeaveFrom n total t (elim b [ true ↦ oneMore (roundsFrom k g preds u) | false ↦ lastRound t ])
       go true e f = next (t .core .pairs) refl (isNone-none (t .core .met) (and-second (t .worked) _ e)) f
-      go false e f =
-          last w t r d (λ m. d .table .idle (sym (and-true (t .worked)) ∙ ap (λ (b : Bool). t .worked && b) (sym (none-isNone (t .core .met) m)) ∙ e))
+      go false e f = last w t r d (λ m. d .table .idle (last-unworked t e m))
 
   -- all the rounds, of a close: it begins with no merge, and its fuel is enough
   pub rounds-law : (apps : List FuncApp) (w : Core) → Ready n total w apps → w .merges ≡ 0 → total < fuel

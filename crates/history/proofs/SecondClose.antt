@@ -1,13 +1,14 @@
--- A close that merges nothing is followed by one that reports no change, marks or not.
+-- What it is that the next close is accepted and reports no change, marks or not; and that a close which merges nothing leaves it so.
 use mathlib.Core.Path.{_≡_, refl, sym, subst, ap, ap₂, _∙_}
-use mathlib.Core.Bool.{Bool, true, false, _&&_, and-true}
-use mathlib.Core.Logic.{inl, inr}
+use mathlib.Core.Bool.{Bool, true, false, not, _&&_}
 use mathlib.Core.List.{List, [], _∷_, _++_, map, map-append}
 use mathlib.Core.Option.{none}
 use Prim.Native.Nat.{ℕ, zero, suc, _≤_, _<_}
 use native.Mathlib.Omega.{arith}
 use lib.ListN.{length, length-map}
-use Rattle.ids.specs.Answers.{Outcome, outcome, accepted, refusing, accepting}
+use lib.Dec.{ltb}
+use borrow.Author.Tests.{ltb-false}
+use Rattle.ids.specs.Answers.{Answered, Outcome, outcome, accepted, refusing, accepting}
 use Rattle.ids.specs.Table.{rewriteInto}
 use Rattle.ids.proofs.Sorted.{All, all-map, all-join, all-left, all-right, all-image, Sorted, rewrite-all}
 use Rattle.ids.proofs.Judging.{decided-accepts}
@@ -19,21 +20,23 @@ use Rattle.semantics.specs.Structure.{Fact, FuncApp, PredApp, Pair, Structure, 
 use Rattle.semantics.specs.Structure.{with-flags}
 use Rattle.semantics.specs.Types as types
 use Rattle.semantics.specs.Types.{Core, imposeAll, grew}
-use Rattle.semantics.specs.Close.{demanded, demandedAt, demandedArgs, funcArgs, predArgs, funcResults, demands, Turn, round, Rounds, isNone, close-run}
-use Rattle.semantics.specs.Close.{lastRound, oneMore, roundsFrom, rounds, fuel, Closed, coreAtStart, canonicaliseRefs, withCore, imposedAfter, CloseRun, closeRun}
+use Rattle.semantics.specs.Close.{demanded, demandedAt, demandedArgs, funcArgs, predArgs, funcResults, demands, Turn, round, Rounds, isNone, goesOn, close-run}
+use Rattle.semantics.specs.Close.{lastRound, oneMore, roundsFrom, rounds, fuel, Closed, coreAtStart, canonicaliseRefs, withCore, imposedAfter, closeRun}
 use Rattle.semantics.specs.Close.{reportOf, afterClose, closeBy, close, turn, report}
 use Rattle.semantics.specs.Calls as calls
-use Rattle.semantics.specs.Calls.{closed, machine, Step, rule, closeRule, acceptance, refusal, stepBy, step}
+use Rattle.semantics.specs.Calls.{closed, summed, totals, Machine, Step, leaves, SettleRun, settle-run, reportedFirst, settleAfter, settleBy, settleFrom}
+use Rattle.semantics.specs.Calls.{settleRun, mergesIn, sumsOf, rule, closeRule, acceptance, refusal, stepBy, step}
 use Rattle.semantics.proofs.Judged.{close-first}
-use Rattle.semantics.proofs.Cases.{and-second}
+use Rattle.semantics.proofs.Settling.{settle-by}
+use Rattle.semantics.proofs.Cases.{and-second, or-first, or-second, none-some}
 use Rattle.validity.proofs.Drain.{TwoRoots}
 use Rattle.history.proofs.Drain.{WithinClass}
 use Rattle.history.proofs.Functionality.{Canon}
-use Rattle.history.proofs.Imposing.{impose-inserts, imposeAll-counts, plain-grown}
-use Rattle.history.proofs.Passes.{RoundDone, UnchangedButQueue, round-idle, done-idle, round-more, still-done, still-rooted}
-use Rattle.history.proofs.Rounds.{stop, isNone-none, none-isNone}
-use Rattle.history.proofs.Closing.{accepted-close}
-use Rattle.history.proofs.Unjoined.{Safe, OnRoots, imposed-safe, safe-idle, rewrittenFacts, safe-rewritten, safe-image, safe-moved}
+use Rattle.history.proofs.Imposing.{impose-inserts, imposeAll-counts, imposeAll-same, plain-grown}
+use Rattle.history.proofs.Passes.{NoWork, canonical-no-work, RoundDone, OnlyTidied, round-idle, done-idle, round-more, still-done, still-rooted, round-was-idle}
+use Rattle.history.proofs.Rounds.{stop, isNone-none, last-unworked}
+use Rattle.history.proofs.Closing.{AcceptedClose, accepted-close, closedMachine, closed-step}
+use Rattle.history.proofs.Unjoined.{Safe, OnRoots, imposed-safe, safe-idle, same-safe, rewrittenFacts, safe-rewritten, safe-image, safe-moved}
 use Rattle.history.proofs.Unjoined.{insertAll-roots}
 
 -- What `typing` demands of rewritten predicate applications are the images of what it demanded.
@@ -147,83 +150,54 @@ module _ (g : Sig) (preds : List PredApp) where
         go false q e m = record {
           core = refl;
           apps = refl;
-          pairs = done .table .idle (sym (and-true (u .worked)) ∙ ap (λ (b : Bool). u .worked && b) (sym (none-isNone (u .core .met) m)) ∙ q);
+          pairs = done .table .idle (last-unworked u q m);
         }
 
--- The second close.
+  rounds-some : (k : ℕ) (t : Turn) → 1 ≤ roundsFrom k g preds t .count
+  unfolding roundsFrom lastRound oneMore
+  rounds-some zero t = omega arith
+  rounds-some (suc k) t = go (goesOn t)
+    where
+      go : (b : Bool)
+          → 1 ≤ (elim b as (λ _. Rounds) [ true ↦ oneMore (roundsFrom k g preds (round g preds (t .apps) (t .core))) | false ↦ lastRound t ]) .count
+      go true = omega arith
+      go false = omega arith
+
+  -- the round that left t reported no work, provided that none followed and none was stopped
+  abbrev IfOnly : Turn → Rounds → Type 0
+  IfOnly t r = r .count ≤ 1 → r .core .met ≡ none → t .worked ≡ false
+
+  only-unworked : (k : ℕ) → 0 < k → (t : Turn) → IfOnly t (roundsFrom k g preds t)
+  unfolding roundsFrom lastRound oneMore
+  only-unworked zero l t = absurd (omega arith)
+  only-unworked (suc k) l t = go (goesOn t) refl
+    where
+      go : (b : Bool) → goesOn t ≡ b
+          → IfOnly t (elim b [ true ↦ oneMore (roundsFrom k g preds (round g preds (t .apps) (t .core))) | false ↦ lastRound t ])
+      go true q n m = absurd (omega (arith, n, rounds-some k (round g preds (t .apps) (t .core))))
+      go false q n m = last-unworked t q m
+
+-- A close that does nothing.
 
 -- "close 0 0 1"
 abbrev pub noChange : Closed
 noChange = report false 0 1
 
--- a structure in which nothing remains to do: its queue may hold pairs within one class
+-- what the first round of a close begins with
+abbrev begun : Structure → Turn
+begun s = turn (coreAtStart s) (s .func-apps) false
+
+-- a structure in which nothing remains to do: exactly one whose close is accepted and reports no change (`idle-next`, `next-idle`)
 pub record Idle (g : Sig) (s : Structure) : Type 0 where
-  pub joined : All (WithinClass (s .links)) (s .pairs)
-  pub sorted : Sorted compareFuncApp (s .func-apps)
-  pub canon : All (Canon (s .links)) (s .func-apps)
-  pub demanded : All (Safe (s .links) (s .marks) (s .facts)) (demands g (s .func-apps) (s .pred-apps))
+  pub rounds : NoWork g (s .pred-apps) (begun s)
   pub imposed : All (Safe (s .links) (s .marks) (s .facts)) (s .impositions)
-
-module _ (g : Sig) (s : Structure) (i : Idle g s) where
-  abbrev begun : Turn
-  begun = turn (coreAtStart s) (s .func-apps) false
-
-  rest : UnchangedButQueue begun (round g (s .pred-apps) (s .func-apps) (coreAtStart s))
-  unfolding coreAtStart
-  rest =
-      round-idle g (s .pred-apps) (s .func-apps) (coreAtStart s)
-      (record { joined = i .joined; sorted = i .sorted; canon = i .canon; safe = i .demanded })
-
-  -- what a close comes to whose one round leaves the pairs ps
-  abbrev idleRun : List Pair → CloseRun
-  idleRun ps =
-      let w = types.with-pairs ps (coreAtStart s) in
-      close-run (lastRound (turn w (s .func-apps) false)) w
-
-  -- its close runs one round, which does nothing but drop pairs
-  idle-run : (ps : List Pair) × (closeRun g s ≡ idleRun ps)
-  idle-run = elim rest [ inl e ↦ (s .pairs, (unfold coreAtStart in run (s .pairs) e)) | inr e ↦ ([], run [] e) ]
-    where
-      run : (ps : List Pair) → round g (s .pred-apps) (s .func-apps) (coreAtStart s) ≡ turn (types.with-pairs ps (coreAtStart s)) (s .func-apps) false
-          → closeRun g s ≡ idleRun ps
-      run ps e = unfold closeRun rounds imposedAfter lastRound coreAtStart in
-          ap (λ (r : Rounds). imposedAfter r s) (ap (roundsFrom fuel g (s .pred-apps)) e
-          ∙ stop g (s .pred-apps) fuel (turn (types.with-pairs ps (coreAtStart s)) (s .func-apps) false) refl)
-          ∙ (λ j. close-run (lastRound (turn (types.with-pairs ps (coreAtStart s)) (s .func-apps) false))
-          (safe-idle (s .impositions) (types.with-pairs ps (coreAtStart s)) (i .imposed) j))
-
-  pub idle-met : closeRun g s .core .met ≡ none
-  idle-met = rw (idle-run .1) (unfold coreAtStart in refl)
-
-  pub idle-report : reportOf (closeRun g s) ≡ noChange
-  idle-report = rw (idle-run .1) (unfold reportOf lastRound grew coreAtStart in refl)
-
-  idle-close : close g s .answer ≡ accepted noChange
-  unfolding close closeBy outcome
-  idle-close =
-      let c = closeRun g s in
-      ap (λ (o : Outcome Closed Structure). o .answer)
-      (decided-accepts (refusing s) (accepting (reportOf c) (afterClose c s)) (close-first c ∙ idle-met))
-      ∙ ap (λ (r : Closed). accepted r) idle-report
 
 -- flags do not bear on it
 pub idle-flags : (g : Sig) (s : Structure) (x y : Bool) → Idle g s → Idle g (with-flags x y s)
-idle-flags g s x y i = record { joined = i .joined; sorted = i .sorted; canon = i .canon; demanded = i .demanded; imposed = i .imposed }
+unfolding coreAtStart
+idle-flags g s x y i = record { rounds = i .rounds; imposed = i .imposed }
 
--- and the call that closes it, whatever its flags
-pub idle-step : (g : Sig) (s : Structure) (x y : Bool) → Idle g s → step calls.close (machine g (with-flags x y s)) .answer ≡ closed noChange
-unfolding step stepBy rule closeRule acceptance
-idle-step g s x y i =
-    let s′ = with-flags x y s in
-    let i′ = idle-flags g s x y i in
-    let m = machine g s′ in
-    ap (λ (t : Step). t .answer) (decided-accepts (refusal m) (acceptance (closeRule (closeRun g s′) m)) (close-first (closeRun g s′) ∙ idle-met g s′ i′))
-    ∙ ap closed (idle-report g s′ i′)
-
-module _ (g : Sig) (s : Structure) (on : OnRoots (s .links) (s .facts)) where
-  abbrev preds : List PredApp
-  preds = s .pred-apps
-
+module _ (g : Sig) (s : Structure) where
   -- the first round, all of them, and what the impositions make of it
   abbrev first : Turn
   first = round g (s .pred-apps) (s .func-apps) (coreAtStart s)
@@ -234,50 +208,149 @@ module _ (g : Sig) (s : Structure) (on : OnRoots (s .links) (s .facts)) where
   abbrev w : Core
   w = imposeAll (s .impositions) (r .core)
 
-  -- what a close leaves that merged nothing
-  pub after-idle : closeRun g s .core .met ≡ none → reportOf (closeRun g s) .merges ≡ 0 → Idle g (afterClose (closeRun g s) s)
-  unfolding closeRun imposedAfter reportOf afterClose canonicaliseRefs withCore coreAtStart rounds fuel
-  after-idle m z =
-      let a = imposeAll-counts (s .impositions) (r .core) in
-      let b = rounds-count g (s .pred-apps) fuel first in
-      let none-first : first .core .merges ≡ 0 = omega (arith, a, b, z) in
-      let none-rounds : r .core .merges ≡ first .core .merges = omega (arith, a, b, z) in
-      let none-imposed : w .merges ≡ r .core .merges = omega (arith, a, z) in
-      let did = still-done g (s .pred-apps) (s .func-apps) (coreAtStart s) none-first in
-      let plain = impose-inserts (s .impositions) (r .core) none-imposed in
-      let grown = plain-grown (s .impositions) (r .core) plain in
-      let same = still-rounds g (s .pred-apps) (coreAtStart s) first did fuel (omega arith) none-rounds (grown .met m) in
-      let ls = w .links in
-      let ms = w .marks in
-      let ds = demands g (r .apps) (s .pred-apps) in
-      let links : ls ≡ first .core .links = grown .links ∙ ap (λ (v : Core). v .links) (same .core) in
-      let demanded : All (Safe (r .core .links) (r .core .marks) (r .core .facts)) ds =
-      subst (λ (v : Core). All (Safe (v .links) (v .marks) (v .facts)) ds) (sym (same .core))
-      (subst (λ xs. All (Safe (first .core .links) (first .core .marks) (first .core .facts)) (demands g xs (s .pred-apps))) (sym (same .apps))
-      (did .safe (ap (λ (v : Core). v .met) (sym (same .core)) ∙ grown .met m))) in
-      let imposed = imposed-safe (s .impositions) (r .core) none-imposed m ds demanded in
-      let on-now : OnRoots ls (w .facts) =
-      subst (λ (v : Core). OnRoots (v .links) (v .facts)) (sym plain)
-      (insertAll-roots (s .impositions) (r .core) (subst (λ (v : Core). OnRoots (v .links) (v .facts)) (sym (same .core)) (still-rooted g (s .pred-apps) (s .func-apps) (coreAtStart s) none-first on))) in
-      let now : (l : List Fact) → All (Safe (r .core .links) (r .core .marks) (w .facts)) l → All (Safe ls ms (rewrittenFacts ls ms (w .facts))) l =
-      λ l h. all-map (safe-rewritten ls ms (w .facts) on-now) l (safe-moved (sym (grown .links)) (sym (grown .marks)) (w .facts) l h) in
-      let image = safe-image ls ms (rewrittenFacts ls ms (w .facts)) in
-      record {
-        joined = subst (All (WithinClass ls)) (sym (grown .pairs ∙ ap (λ (v : Core). v .pairs) (same .core) ∙ same .pairs)) tt;
-        sorted = subst (Sorted compareFuncApp) (sym (same .apps)) (did .table .sorted);
-        canon = subst (λ k. All (Canon k) (r .apps)) (sym links) (subst (All (Canon (first .core .links))) (sym (same .apps)) (did .table .canon));
-        demanded = demands-rewritten (Safe ls ms (rewrittenFacts ls ms (w .facts))) g ls image (r .apps) (s .pred-apps)
-            (now ds (imposed .0));
-        imposed = all-image (Safe ls ms (rewrittenFacts ls ms (w .facts))) (canonicalFact ls) (s .impositions)
-            (all-map image (s .impositions) (now (s .impositions) (imposed .1)));
-      }
+  -- where a round has nothing to do
+  module _ (n : NoWork g (s .pred-apps) (begun s)) where
+    abbrev rest : OnlyTidied g (s .pred-apps) (begun s) first
+    rest = round-idle g (s .pred-apps) (s .func-apps) (coreAtStart s) n
 
-  -- For every signature and every structure whose facts stand on roots, as in every valid one.
+    -- it leaves this
+    abbrev tidied : Turn
+    tidied = turn (types.with-pairs (rest .pairs) (coreAtStart s)) (rest .apps) false
 
-  pub closed-idle : (c : Closed) → close g s .answer ≡ accepted c → c .merges ≡ 0 → Idle g (close g s .after)
-  closed-idle c e z =
-      let a = accepted-close g s c e in
-      rw (a .after) (after-idle (a .met) (sym (ap (λ (x : Closed). x .merges) (a .answer)) ∙ z))
+    -- what is safe after it was so before
+    safe-before : (fs : List Fact) → All (Safe (first .core .links) (first .core .marks) (first .core .facts)) fs
+        → All (Safe (s .links) (s .marks) (s .facts)) fs
+    unfolding coreAtStart
+    safe-before fs = subst (λ (t : Turn). All (Safe (t .core .links) (t .core .marks) (t .core .facts)) fs) (rest .is)
 
-  pub second-close : (c : Closed) → close g s .answer ≡ accepted c → c .merges ≡ 0 → close g (close g s .after) .answer ≡ accepted noChange
-  second-close c e z = idle-close g (close g s .after) (closed-idle c e z)
+  module _ (i : Idle g s) where
+    abbrev left : Turn
+    left = tidied (i .rounds)
+
+    idle-run : closeRun g s ≡ close-run (lastRound left) (left .core)
+    unfolding closeRun rounds imposedAfter lastRound coreAtStart
+    idle-run =
+        ap (λ (x : Rounds). imposedAfter x s) (ap (roundsFrom fuel g (s .pred-apps)) (rest (i .rounds) .is) ∙ stop g (s .pred-apps) fuel left refl)
+        ∙ ap (close-run (lastRound left)) (safe-idle (s .impositions) (left .core) (i .imposed))
+
+    pub idle-met : closeRun g s .core .met ≡ none
+    idle-met = rw idle-run (unfold coreAtStart in refl)
+
+    pub idle-report : reportOf (closeRun g s) ≡ noChange
+    idle-report = rw idle-run (unfold reportOf lastRound grew coreAtStart in refl)
+
+    idle-close : close g s .answer ≡ accepted noChange
+    unfolding close closeBy outcome
+    idle-close =
+        let c = closeRun g s in
+        ap (λ (o : Outcome Closed Structure). o .answer)
+        (decided-accepts (refusing s) (accepting (reportOf c) (afterClose c s)) (close-first c ∙ idle-met))
+        ∙ ap (λ (c : Closed). accepted c) idle-report
+
+  -- conversely: such a close is one round, which reports no work, and impositions that are all answered with no
+  was-idle : closeRun g s .core .met ≡ none → reportOf (closeRun g s) .changed ≡ false → Idle g s
+  unfolding closeRun imposedAfter reportOf coreAtStart rounds fuel lastRound
+  was-idle m e =
+      let more = ltb 1 (r .count) in
+      let same = imposeAll-same (s .impositions) (r .core) (or-second more (grew (r .core) w) e) m in
+      let met = ap (λ (v : Core). v .met) (sym same) ∙ m in
+      let few = ltb-false 1 (r .count) (or-first more (grew (r .core) w) e) in
+      let unworked = only-unworked g (s .pred-apps) fuel (omega arith) first few met in
+      let one : r .core ≡ first .core = ap (λ (x : Rounds). x .core) (stop g (s .pred-apps) fuel first unworked) in
+      let no-work = round-was-idle g (s .pred-apps) (s .func-apps) (coreAtStart s) unworked (ap (λ (v : Core). v .met) (sym one) ∙ met) in
+      let safe = subst (λ (v : Core). All (Safe (v .links) (v .marks) (v .facts)) (s .impositions)) one (same-safe (s .impositions) (r .core) same m) in
+      record { rounds = no-work; imposed = safe-before no-work (s .impositions) safe }
+
+  -- What a close leaves that merged nothing, of every structure whose facts stand on roots, as in every valid one.
+  module _ (on : OnRoots (s .links) (s .facts)) where
+    pub after-idle : closeRun g s .core .met ≡ none → reportOf (closeRun g s) .merges ≡ 0 → Idle g (afterClose (closeRun g s) s)
+    unfolding closeRun imposedAfter reportOf afterClose canonicaliseRefs withCore coreAtStart rounds fuel
+    after-idle m z =
+        let a = imposeAll-counts (s .impositions) (r .core) in
+        let b = rounds-count g (s .pred-apps) fuel first in
+        let none-first : first .core .merges ≡ 0 = omega (arith, a, b, z) in
+        let none-rounds : r .core .merges ≡ first .core .merges = omega (arith, a, b, z) in
+        let none-imposed : w .merges ≡ r .core .merges = omega (arith, a, z) in
+        let did = still-done g (s .pred-apps) (s .func-apps) (coreAtStart s) none-first in
+        let plain = impose-inserts (s .impositions) (r .core) none-imposed in
+        let grown = plain-grown (s .impositions) (r .core) plain in
+        let same = still-rounds g (s .pred-apps) (coreAtStart s) first did fuel (omega arith) none-rounds (grown .met m) in
+        let ls = w .links in
+        let ms = w .marks in
+        let ds = demands g (r .apps) (s .pred-apps) in
+        let links : ls ≡ first .core .links = grown .links ∙ ap (λ (v : Core). v .links) (same .core) in
+        let demanded : All (Safe (r .core .links) (r .core .marks) (r .core .facts)) ds =
+        subst (λ (v : Core). All (Safe (v .links) (v .marks) (v .facts)) ds) (sym (same .core))
+        (subst (λ xs. All (Safe (first .core .links) (first .core .marks) (first .core .facts)) (demands g xs (s .pred-apps))) (sym (same .apps))
+        (did .safe (ap (λ (v : Core). v .met) (sym (same .core)) ∙ grown .met m))) in
+        let imposed = imposed-safe (s .impositions) (r .core) none-imposed m ds demanded in
+        let on-now : OnRoots ls (w .facts) =
+        subst (λ (v : Core). OnRoots (v .links) (v .facts)) (sym plain)
+        (insertAll-roots (s .impositions) (r .core) (subst (λ (v : Core). OnRoots (v .links) (v .facts)) (sym (same .core)) (still-rooted g (s .pred-apps) (s .func-apps) (coreAtStart s) none-first on))) in
+        let now : (l : List Fact) → All (Safe (r .core .links) (r .core .marks) (w .facts)) l → All (Safe ls ms (rewrittenFacts ls ms (w .facts))) l =
+        λ l h. all-map (safe-rewritten ls ms (w .facts) on-now) l (safe-moved (sym (grown .links)) (sym (grown .marks)) (w .facts) l h) in
+        let image = safe-image ls ms (rewrittenFacts ls ms (w .facts)) in
+        record {
+          rounds = canonical-no-work g _ (coreAtStart (afterClose (closeRun g s) s)) (r .apps) refl
+              (subst (All (WithinClass ls)) (sym (grown .pairs ∙ ap (λ (v : Core). v .pairs) (same .core) ∙ same .pairs)) tt)
+              (subst (Sorted compareFuncApp) (sym (same .apps)) (did .table .sorted))
+              (subst (λ k. All (Canon k) (r .apps)) (sym links) (subst (All (Canon (first .core .links))) (sym (same .apps)) (did .table .canon)))
+              (demands-rewritten (Safe ls ms (rewrittenFacts ls ms (w .facts))) g ls image (r .apps) (s .pred-apps) (now ds (imposed .0)));
+          imposed = all-image (Safe ls ms (rewrittenFacts ls ms (w .facts))) (canonicalFact ls) (s .impositions)
+              (all-map image (s .impositions) (now (s .impositions) (imposed .1)));
+        }
+
+    pub closed-idle : (c : Closed) → close g s .answer ≡ accepted c → c .merges ≡ 0 → Idle g (close g s .after)
+    closed-idle c e z =
+        let a = accepted-close g s c e in
+        rw (a .after) (after-idle (a .met) (sym (ap (λ (x : Closed). x .merges) (a .answer)) ∙ z))
+
+-- The call.
+
+-- the next close is accepted and reports no change
+abbrev pub NextUnchanged : Machine → Type 0
+NextUnchanged m = step calls.close m .answer ≡ closed noChange
+
+pub idle-next : (m : Machine) → Idle (m .sig) (m .structure) → NextUnchanged m
+unfolding step stepBy rule closeRule acceptance
+idle-next m i =
+    let c = closeRun (m .sig) (m .structure) in
+    ap (λ (t : Step). t .answer) (decided-accepts (refusal m) (acceptance (closeRule c m)) (close-first c ∙ idle-met (m .sig) (m .structure) i))
+    ∙ ap closed (idle-report (m .sig) (m .structure) i)
+
+module _ (m : Machine) (c : Closed) (e : step calls.close m .answer ≡ closed c) (unchanged : c .changed ≡ false) where
+  abbrev a : AcceptedClose (closeRun (m .sig) (m .structure)) c (closedMachine m c) (step calls.close m .after)
+  a = closed-step m c e
+
+  idle-before : Idle (m .sig) (m .structure)
+  idle-before = was-idle (m .sig) (m .structure) (a .met) (sym (ap (λ (x : Closed). x .changed) (a .answer)) ∙ unchanged)
+
+  -- a close that reports no change merges nothing, in one round
+  pub unchanged-report : c ≡ noChange
+  unchanged-report = a .answer ∙ idle-report (m .sig) (m .structure) idle-before
+
+pub next-idle : (m : Machine) → NextUnchanged m → Idle (m .sig) (m .structure)
+next-idle m u = idle-before m noChange u refl
+
+-- and a settle is one close
+
+settle-run-one : (g : Sig) (s : Structure) → Idle g s → settleRun g s ≡ settle-run (noChange ∷ []) none (leaves true (closed noChange) (close g s .after))
+unfolding settleRun settleFrom settleBy settleAfter reportedFirst
+settle-run-one g s i = ap (λ (a : Answered Closed). settleAfter a (close g s .after) (settleFrom (length (s .links)) g)) (idle-close g s i)
+
+pub next-settles : (m : Machine) → NextUnchanged m → step calls.settle m .answer ≡ summed (totals 1 0)
+unfolding sumsOf mergesIn
+next-settles m u =
+    let one = settle-run-one (m .sig) (m .structure) (next-idle m u) in
+    settle-by m (λ (t : Step). t .answer ≡ summed (totals 1 0)) (λ e. ap (λ (r : SettleRun). summed (sumsOf (r .reports))) one)
+    (λ n e. none-some (sym (ap (λ (r : SettleRun). r .met) one) ∙ e))
+
+-- where the facts stand on roots, "close C 0 R" is followed by "close 0 0 1"
+pub second-close : (m : Machine) (c : Closed) → OnRoots (m .structure .links) (m .structure .facts) → step calls.close m .answer ≡ closed c → c .merges ≡ 0
+    → NextUnchanged (step calls.close m .after)
+second-close m c on e z =
+    let a = closed-step m c e in
+    subst NextUnchanged (sym (a .after))
+    (idle-next (closedMachine m c)
+    (idle-flags (m .sig) (afterClose (closeRun (m .sig) (m .structure)) (m .structure)) true (not (c .changed))
+    (after-idle (m .sig) (m .structure) on (a .met) (sym (ap (λ (x : Closed). x .merges) (a .answer)) ∙ z))))

@@ -18,16 +18,17 @@ use Rattle.unification.proofs.Laws.{root-le}
 use Rattle.signature.specs.Model.{Sig}
 use Rattle.semantics.specs.Structure.{Structure}
 use Rattle.semantics.specs.Valid.{countsOf, ValidStructure, Valid}
-use Rattle.semantics.specs.Close.{demands, Closed, close}
+use Rattle.semantics.specs.Close.{demands, Closed, coreAtStart, close}
 use Rattle.semantics.specs.Calls as calls
 use Rattle.semantics.specs.Calls.{settle, closed, summed, Totals, Machine, machine, Step, leaves, settledBy, SettleRun, settle-run, reportedFirst, settleAfter}
 use Rattle.semantics.specs.Calls.{settleBy, settleFrom, settleRun, mergesIn, sumsOf, step}
 use Rattle.semantics.proofs.Counts.{isRoot, roots, roots-most, count-yes, count-no}
 use Rattle.semantics.proofs.Cases.{none-some}
 use Rattle.semantics.proofs.Judged.{closedAnswer, close-steps}
-use Rattle.semantics.proofs.Settling.{closesLeave, settle-by, settle-totals}
+use Rattle.semantics.proofs.Settling.{closesLeave, settle-few, settle-by, settle-totals}
 use Rattle.validity.proofs.Demands.{demands-valid}
 use Rattle.validity.proofs.Settling.{Reaches, closes-reach}
+use Rattle.history.proofs.Passes.{canonical-no-work}
 use Rattle.history.proofs.Closing.{accepted-close}
 use Rattle.history.proofs.SecondClose.{Idle, idle-report, idle-flags, closed-idle}
 
@@ -83,12 +84,13 @@ module _ (k : ℕ) (g : Sig) where
 
 -- With no element nothing remains to do.
 none-idle : (g : Sig) (s : Structure) → Valid g s → length (s .links) ≡ 0 → Idle g s
+unfolding coreAtStart
 none-idle g s v e = record {
-  joined = all-map (λ p h. absurd (omega (arith, e, h .lhs))) (s .pairs) (vs .pairs .each);
-  sorted = vs .func-apps .sorted;
-  canon = all-map (λ x h. absurd (omega (arith, e, h .result))) (s .func-apps) (vs .func-apps .each);
-  demanded = all-map (λ f h. absurd (omega (arith, e, h .el))) (demands g (s .func-apps) (s .pred-apps))
-      (demands-valid g (v .sig) (length (s .links)) (s .func-apps) (s .pred-apps) (vs .func-apps .each) (vs .pred-apps .each));
+  rounds = canonical-no-work g (s .pred-apps) (coreAtStart s) (s .func-apps) refl
+      (all-map (λ p h. absurd (omega (arith, e, h .lhs))) (s .pairs) (vs .pairs .each)) (vs .func-apps .sorted)
+      (all-map (λ x h. absurd (omega (arith, e, h .result))) (s .func-apps) (vs .func-apps .each))
+      (all-map (λ f h. absurd (omega (arith, e, h .el))) (demands g (s .func-apps) (s .pred-apps))
+      (demands-valid g (v .sig) (length (s .links)) (s .func-apps) (s .pred-apps) (vs .func-apps .each) (vs .pred-apps .each)));
   imposed = all-map (λ f h. absurd (omega (arith, e, h .el))) (s .impositions) (vs .impositions .each);
 }
   where
@@ -157,35 +159,11 @@ module _ (g : Sig) (s : Structure) (v : Valid g s) where
   unfolding settleRun
   settle-unchanged = ended .unchanged
 
-  run-settled : settleRun g s .met ≡ none → settleRun g s .after .settled ≡ true
+  pub run-settled : settleRun g s .met ≡ none → settleRun g s .after .settled ≡ true
   unfolding settleRun
   run-settled = ended .settled
 
--- The closes are at most as many as the bound says, of any structure.
-
-few-after : (k : ℕ) (rest : Structure → SettleRun) → ((t : Structure) → length (rest t .reports) ≤ k) → (a : Answered Closed) (t : Structure)
-    → length (settleAfter a t rest .reports) ≤ suc k
-unfolding settleAfter reportedFirst
-few-after k rest h (refused n) t = omega arith
-few-after k rest h (accepted c) t = go (c .changed)
-  where
-    go : (b : Bool)
-        → length (reportedFirst c (elim b [
-          | true ↦ rest (leaves true (closed c) t)
-          | false ↦ settle-run [] none (leaves true (closed c) t)
-        ]) .reports) ≤ suc k
-    go true = omega (arith, h (leaves true (closed c) t))
-    go false = omega arith
-
-from-few : (k : ℕ) (g : Sig) (s : Structure) → length (settleFrom k g s .reports) ≤ k
-unfolding settleFrom settleBy
-from-few zero g s = omega arith
-from-few (suc k) g s = few-after k (settleFrom k g) (from-few k g) (close g s .answer) (close g s .after)
-
-pub settle-few : (g : Sig) (s : Structure) → length (settleRun g s .reports) ≤ suc (length (s .links))
-unfolding settleRun
-settle-few g s = from-few (suc (length (s .links))) g s
-
+-- where there is a last one there is one
 pub last-some : {cs : List Closed} → LastUnchanged cs → 0 < length cs
 last-some (last e) = omega arith
 last-some (later h) = omega arith

@@ -254,6 +254,12 @@ unfolding imposeAll
 safe-idle [] w h = refl
 safe-idle (f ∷ fs) w h = ap (imposeAll fs) (impose-idle f w (h .0)) ∙ safe-idle fs w (h .1)
 
+-- and what was imposed with no change is safe
+pub same-safe : (fs : List Fact) (w : Core) → imposeAll fs w ≡ w → imposeAll fs w .met ≡ none → All (Safe (w .links) (w .marks) (w .facts)) fs
+same-safe fs w e m =
+    subst (λ (v : Core). All (Safe (w .links) (w .marks) (v .facts)) fs) e
+    (imposed-safe fs w (ap (λ (v : Core). v .merges) e) m [] tt .1)
+
 -- What is safe among facts is safe when they are rewritten, if they stand on roots.
 
 abbrev pub OnRoots : List ℕ → List Fact → Type 0

@@ -1,6 +1,6 @@
 -- Laws of verdicts: what the code judges cause by cause is the first cause of a list, and what a verdict tells of a call.
 use mathlib.Core.Path.{_≡_, refl, sym, ap, _∙_}
-use mathlib.Core.Bool.{Bool, true, false, _||_}
+use mathlib.Core.Bool.{Bool, true, false}
 use mathlib.Core.List.{List, [], _∷_, _++_, map, List·Memᴰ, List·Memᴰ·head, List·Memᴰ·tail}
 use mathlib.Core.Option.{Option, none, some}
 use Prim.Native.Nat.{ℕ}
@@ -70,18 +70,6 @@ behind {A} n false given held rest same = ap (λ (x : A). firstOf (rest x)) (sym
 pub as-given : (n : ℕ) (given held : List ℕ) (rest : List ℕ → List Cause) → (tooLong given ≡ false → given ≡ held)
     → firstOf (n if tooLong given ∷ rest held) ≡ firstOf (n if tooLong given ∷ rest given)
 as-given n given held rest same = behind n (tooLong given) given held rest same
-
--- two such lists
-pub as-given-two : (n : ℕ) (g₁ h₁ g₂ h₂ : List ℕ) (rest : List ℕ → List ℕ → List Cause) → (tooLong g₁ ≡ false → g₁ ≡ h₁)
-    → (tooLong g₂ ≡ false → g₂ ≡ h₂)
-    → firstOf (n if (tooLong g₁ || tooLong g₂) ∷ rest h₁ h₂) ≡ firstOf (n if (tooLong g₁ || tooLong g₂) ∷ rest g₁ g₂)
-as-given-two n g₁ h₁ g₂ h₂ rest same₁ same₂ = go (tooLong g₁) (tooLong g₂) same₁ same₂
-  where
-    go : (b₁ b₂ : Bool) → (b₁ ≡ false → g₁ ≡ h₁) → (b₂ ≡ false → g₂ ≡ h₂)
-        → firstOf (n if (b₁ || b₂) ∷ rest h₁ h₂) ≡ firstOf (n if (b₁ || b₂) ∷ rest g₁ g₂)
-    go true b₂ s₁ s₂ = unfold firstOf in refl
-    go false true s₁ s₂ = unfold firstOf in refl
-    go false false s₁ s₂ = unfold firstOf in λ i. firstOf (rest (sym (s₁ refl) i) (sym (s₂ refl) i))
 
 -- What a verdict tells of the call that it is of.
 

@@ -139,6 +139,11 @@ fn pred_app_line(app: PredApp) -> Line {
     two.put(b'\n')
 }
 
+// `s B S`
+fn flags_line(started: bool, settled: bool) -> Line {
+    pair_line(b"s", bit(started), bit(settled))
+}
+
 // Where the text ends, and the first fact that is not printed yet.
 pub struct Dumped {
     pub n: usize,
@@ -244,6 +249,11 @@ fn put_impositions(text: &mut [u8; MAX_TEXT], n: usize, impositions: Impositions
     at
 }
 
+// The last line of a structure: whether a call of kinds 6 to 15 was accepted, and whether it is settled.
+fn put_flags(text: &mut [u8; MAX_TEXT], n: usize, s: Structure) -> usize {
+    put_line(text, n, flags_line(s.started, s.is_settled()))
+}
+
 fn put_structure(text: &mut [u8; MAX_TEXT], n: usize, s: Structure) -> usize {
     let u = s.unification;
     let marks = s.inferred_parent_els;
@@ -261,7 +271,7 @@ fn put_structure(text: &mut [u8; MAX_TEXT], n: usize, s: Structure) -> usize {
     let f = put_pairs(text, e, pairs);
     let impositions = s.pending_type_impositions;
     let g = put_impositions(text, f, impositions);
-    put_line(text, g, pair_line(b"s", bit(s.started), bit(s.settled)))
+    put_flags(text, g, s)
 }
 
 fn put_dump(text: &mut [u8; MAX_TEXT], n: usize, machine: Machine, dumps: bool) -> usize {
@@ -417,18 +427,27 @@ fn run_sheet(
     at
 }
 
-// The same, and the structure after it where the stream asks for it.
+// What the mode of a list prints after each call.
+fn put_after_call(text: &mut [u8; MAX_TEXT], n: usize, machine: Machine, mode: usize) -> usize {
+    match mode {
+        2 => put_dump(text, n, machine, true),
+        4 => put_flags(text, n, machine.structure),
+        _ => n,
+    }
+}
+
+// A record, and what the mode prints after it.
 fn run_record(
     bytes: &[u8; Record::MAX_BYTES],
     text: &mut [u8; MAX_TEXT],
     n: usize,
     machine: Machine,
-    dumps: bool,
+    mode: usize,
 ) -> Printed {
     let printed = respond(text, n, machine, bytes);
     let next = printed.machine;
     Printed {
-        n: put_dump(text, printed.n, next, dumps),
+        n: put_after_call(text, printed.n, next, mode),
         machine: next,
     }
 }
@@ -439,7 +458,7 @@ fn run_list(
     text: &mut [u8; MAX_TEXT],
     n: usize,
     length: usize,
-    dumps: bool,
+    mode: usize,
 ) -> usize {
     let mut at = n;
     let mut machine = Machine::new();
@@ -448,7 +467,7 @@ fn run_list(
         if read(bytes, Record::BYTES) != Record::BYTES {
             return at;
         }
-        let printed = run_record(bytes, text, at, machine, dumps);
+        let printed = run_record(bytes, text, at, machine, mode);
         let next = printed.machine;
         machine = next;
         at = printed.n;
@@ -469,7 +488,7 @@ fn run_entry(
             let there = read_sheet(bytes, length);
             run_sheet(bytes, text, n, there, mode == 3)
         }
-        1 | 2 => run_list(bytes, text, n, length, mode == 2),
+        1 | 2 | 4 => run_list(bytes, text, n, length, mode),
         _ => {
             skip(bytes, length);
             n

@@ -16,6 +16,7 @@ use Rattle.signature.specs.Model.{mor-app-entry}
 use Rattle.semantics.specs.Structure.{Fact, fact, func-app, pred-app, variable, ambient, compareFuncApp, resultOf, maxPairs}
 use Rattle.semantics.specs.Structure.{maxImpositions, maxFuncApps, maxPredApps, maxFacts, maxVars, with-facts, with-impositions}
 use Rattle.semantics.specs.Types.{factsAt}
+use Rattle.semantics.specs.Close.{report}
 use Rattle.semantics.specs.Conflicts.{Conflict, conflict}
 use Rattle.semantics.specs.Calls.{Call, push-type, push-func, push-pred, push-el, equate-els, impose-type, apply-func, apply-pred}
 use Rattle.semantics.specs.Calls.{push-model, push-mor-app, bind-var, bind-ambient}
@@ -252,6 +253,18 @@ holding n = setFacts (factsBefore n []) (afterCalls (downFrom maxTypes (λ n. ty
 abbrev pub impositionOnNone : Machine
 impositionOnNone = steps.machine (afterCalls (typ plain [] ∷ []) start .sig) (with-impositions (fact 0 0 [] ∷ []) (start .structure))
 
+-- Two types, the second a Model; f of 0 is 0; the predicate holds of 1; type 0 is imposed on 1; 1 and 2 are one; a settle. Then each of six calls is
+-- answered with yes; the last says of 2 what was said of 1, which is new as given.
+
+abbrev pub settled101 : List Call
+settled101 =
+    typ plain [] ∷ typ model [] ∷ func [] (0 ∷ []) 0 ∷ pred [] (0 ∷ []) ∷ plainEl ∷ plainEl ∷ plainEl
+    ∷ app 0 [] (0 ∷ []) 0 ∷ predicate 0 [] (1 ∷ []) ∷ impose 1 0 [] ∷ equate-els 1 2 ∷ settle ∷ []
+
+abbrev pub yes101 : List Call
+yes101 =
+    equate-els 0 1 ∷ impose 0 0 [] ∷ app 0 [] (1 ∷ []) 1 ∷ app 0 [] (0 ∷ []) 1 ∷ predicate 0 [] (0 ∷ []) ∷ predicate 0 [] (2 ∷ []) ∷ []
+
 -- a sheet of one settle whose word i is 1
 abbrev pub settleWith : ℕ → Row
 settleWith i = record {
@@ -417,6 +430,40 @@ table =
     -- "a structure counts as settled when its latest accepted close reported no change; a fresh one does not"
     ∷ record { source = calls []; output = tells []; claims = settled is flag false ∷ [] }
     ∷ record { source = calls (close ∷ plainEl ∷ []); output = tells (closes 0 0 1 ∷ []); claims = settled is flag true ∷ [] }
+    -- M-101: ".. and no equality, imposition or application accepted since was answered with yes"; each of these is
+    ∷ record {
+      source = calls settled101;
+      output = tells (settles 2 1 ∷ []);
+      claims =
+          settled is flag true
+          ∷ map (λ (k : Call). answer k is said (says true)) yes101;
+    }
+    ∷ map (λ (k : Call). record { source = calls (settled101 ++ (k ∷ [])); output = tells (settles 2 1 ∷ []); claims = settled is flag false ∷ [] }) yes101
+    -- the question goes by answers: it says no here, and a close would report no change
+    ++ record {
+      source = calls (settled101 ++ (predicate 0 [] (2 ∷ []) ∷ []));
+      output = tells (settles 2 1 ∷ []);
+      claims = settled is flag false ∷ answer close is said (closed (report false 0 1)) ∷ [];
+    }
+    -- after a yes nothing but a close gives it back
+    ∷ record {
+      source = calls
+          (settled101
+          ++ (equate-els 0 1 ∷ equate-els 1 2 ∷ impose 2 0 [] ∷ plainEl ∷ var 0 2 ∷ type-conflicts ∷ steps.root 2 ∷ lookup-type 0 []
+          ∷ ambient-parents [] ∷ equate-els 0 9 ∷ []));
+      output = tells (settles 2 1 ∷ conflicts [] ∷ types (some (concrete-type 0 [])) ∷ refuses 5 ∷ []);
+      claims = settled is flag false ∷ answer close is said (closed (report true 1 2)) ∷ [];
+    }
+    -- calls answered with no, calls that are none of these, and refused ones: settled stays, and the next close and settle find nothing to do
+    ∷ record {
+      source = calls
+          (settled101
+          ++ (equate-els 1 2 ∷ impose 2 0 [] ∷ app 0 [] (0 ∷ []) 0 ∷ predicate 0 [] (1 ∷ []) ∷ plainEl ∷ markedEl ∷ var 0 2 ∷ ambientEl 1 0
+          ∷ type-conflicts ∷ steps.root 2 ∷ steps.root-const 2 ∷ lookup-type 0 [] ∷ ambient-parents (1 ∷ []) ∷ equate-els 0 9 ∷ typ plain [] ∷ []));
+      output = tells (settles 2 1 ∷ conflicts [] ∷ types (some (concrete-type 0 [])) ∷ refuses 5 ∷ refuses 4 ∷ []);
+      claims =
+          settled is flag true ∷ answer close is said (closed (report false 0 1)) ∷ answer settle is said (steps.summed (totals 1 0)) ∷ [];
+    }
     -- "Impositions stay queued", with parents as roots, and the same one is not queued again
     ∷ record {
       source = calls (imposed4 ++ (equate-els 0 1 ∷ close ∷ []));
@@ -654,7 +701,7 @@ unfolding everything stated answersOf outputOf machineOf look shownBy statedBy b
 rowsShow = refl
 
 -- two functions that agree on a list agree at each of its entries
-agree : {A B : Type 0} (f g : A → B) (l : List A) → map f l ≡ map g l → (a : A) → List·Memᴰ a l → f a ≡ g a
+pub agree : {A B : Type 0} (f g : A → B) (l : List A) → map f l ≡ map g l → (a : A) → List·Memᴰ a l → f a ≡ g a
 agree f g (x ∷ xs) e a (List·Memᴰ·head p) = cc
 agree f g (x ∷ xs) e a (List·Memᴰ·tail m) = agree f g xs (cc) a m
 

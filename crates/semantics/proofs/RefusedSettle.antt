@@ -17,7 +17,7 @@ use Rattle.ids.specs.Table.{placed, rewriteInto}
 use Rattle.ids.proofs.Sorted.{All, Sorted, all-map, placed-last, no-test}
 use Rattle.unification.specs.Roots.{rootOf}
 use Rattle.signature.specs.Model.{Sig, plain, maxTypes}
-use Rattle.semantics.specs.Structure.{Fact, fact, Structure, structure, compareFact, canonicalFact, factAt, maxFacts}
+use Rattle.semantics.specs.Structure.{Fact, fact, Structure, structure, compareFact, canonicalFact, factAt, maxFacts, with-flags}
 use Rattle.semantics.specs.Types.{Core, core, with-added, with-met, factsAt, concreteTypesOf, refineAll, insertCanonical, impose, imposeAll, grew}
 use Rattle.semantics.specs.Close as closing
 use Rattle.semantics.specs.Close.{Closed, report, rounds-made, CloseRun, close-run, closeRun, closeBy, metCauses, reportOf, afterClose}
@@ -295,7 +295,7 @@ module _ (F : List Fact) (h : Others F) where
 
 -- The machine.
 
--- all types that there can be, elements 0 to 3, of which 1 and 2 are marked, and as many more as types; a close, and then the impositions
+-- all types that there can be, elements 0 to 3, of which 1 and 2 are marked, and as many more as types, and the impositions
 unfoldable pub base : Machine
 base =
     afterCalls
@@ -304,15 +304,16 @@ base =
     ∷ downFrom (maxTypes - 3) (λ n. typ plain [])
     ++ (plainEl ∷ markedEl ∷ markedEl ∷ plainEl
     ∷ downFrom maxTypes (λ n. plainEl)
-    ++ (close ∷ rows.impose 0 1 (0 ∷ []) ∷ rows.impose 2 2 (1 ∷ []) ∷ rows.impose 3 1 (2 ∷ []) ∷ []))))
+    ++ (rows.impose 0 1 (0 ∷ []) ∷ rows.impose 2 2 (1 ∷ []) ∷ rows.impose 3 1 (2 ∷ []) ∷ []))))
     start
 
 -- 1,020 facts at the elements from 4 on
 unfoldable pub others : List Fact
 others = drop (4 * maxTypes) (factsBefore (4 * maxTypes + (maxFacts - 4)) [])
 
+-- settled is set by hand, since the impositions were answered with yes: a refused settle leaves this too
 unfoldable pub crowded : Machine
-crowded = setFacts (facts0 ++ others) base
+crowded = let m = setFacts (facts0 ++ others) base in steps.machine (m .sig) (with-flags true true (m .structure))
 
 kept : (φ : Fact → Fact) (k : List Fact) → map φ others ≡ others → ascending (k ++ others) ≡ true → rewriteInto compareFact φ others k ≡ k ++ others
 kept φ k e a = rewrite-same φ others k e (ascending-sorted (k ++ others) a)

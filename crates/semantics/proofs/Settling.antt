@@ -3,11 +3,12 @@ use mathlib.Core.Path.{_≡_, refl, sym, ap, subst, _∙_}
 use mathlib.Core.Bool.{Bool, true, false}
 use mathlib.Core.List.{List, [], _∷_}
 use mathlib.Core.Option.{Option, none, some}
-use Prim.Native.Nat.{ℕ, zero, suc}
+use Prim.Native.Nat.{ℕ, zero, suc, _≤_}
 use native.Mathlib.Omega.{arith}
 use lib.ListN.{length, replicate}
 use Rattle.ids.specs.Answers.{Answered, accepted, refused, Outcome}
 use Rattle.ids.proofs.Judging.{refused-after}
+use Rattle.signature.specs.Model.{Sig}
 use Rattle.semantics.specs.Structure.{Structure, with-flags}
 use Rattle.semantics.specs.Close as closing
 use Rattle.semantics.specs.Close.{Closed, closeRun, metCauses, closeCauses, closeBy, reportOf, afterClose}
@@ -127,6 +128,31 @@ settle-ran : (k : ℕ) (m : Machine) → ComesTo m (settleFrom k (m .sig) (m .st
 unfolding settleFrom
 settle-ran zero m = ran-none m
 settle-ran (suc k) m = ran-by m k (settle-ran k)
+
+-- one close, and then at most k
+few-after : (k : ℕ) (rest : Structure → SettleRun) → ((t : Structure) → length (rest t .reports) ≤ k) → (a : Answered Closed) (t : Structure)
+    → length (settleAfter a t rest .reports) ≤ suc k
+unfolding settleAfter reportedFirst
+few-after k rest h (refused n) t = omega arith
+few-after k rest h (accepted c) t = go (c .changed)
+  where
+    go : (b : Bool)
+        → length (reportedFirst c (elim b [
+          | true ↦ rest (leaves true (closed c) t)
+          | false ↦ settle-run [] none (leaves true (closed c) t)
+        ]) .reports) ≤ suc k
+    go true = omega (arith, h (leaves true (closed c) t))
+    go false = omega arith
+
+-- the closes are at most as many as the bound says
+from-few : (k : ℕ) (g : Sig) (s : Structure) → length (settleFrom k g s .reports) ≤ k
+unfolding settleFrom settleBy
+from-few zero g s = omega arith
+from-few (suc k) g s = few-after k (settleFrom k g) (from-few k g) (closing.close g s .answer) (closing.close g s .after)
+
+pub settle-few : (g : Sig) (s : Structure) → length (settleRun g s .reports) ≤ suc (length (s .links))
+unfolding settleRun
+settle-few g s = from-few (suc (length (s .links))) g s
 
 module _ (m : Machine) where
   -- the settle of the structure

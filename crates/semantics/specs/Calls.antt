@@ -236,6 +236,7 @@ totals closes merges = record { closes = closes; merges = merges }
 -- what a call answers, with the number of a refusal
 pub data Answer : Type 0 where
   number : ℕ → Answer
+  -- yes or no: of an equality, an imposition and an application
   says : Bool → Answer
   done : Answer
   closed : Closed → Answer
@@ -280,11 +281,12 @@ start = machine signature.empty empty
 
 -- What an accepted call leaves behind.
 
--- "a structure counts as settled when its latest accepted close reported no change"; the closes of a settle have set it
+-- "a structure counts as settled when its latest accepted close reported no change" and, as M-101 of 02 has it, "no equality, imposition or application
+-- accepted since was answered with yes"; the closes of a settle have set it
 unfoldable pub settledBy : Answer → Bool → Bool
 settledBy (closed c) was = not (c .changed)
+settledBy (says b) was = not b && was
 settledBy (number n) was = was
-settledBy (says b) was = was
 settledBy done was = was
 settledBy (conflicting cs) was = was
 settledBy (summed t) was = was

@@ -141,7 +141,7 @@ pub record Structure : Type 0 where
   pub impositions : List Fact
   -- some call of kinds 6 to 15 was accepted: number 4 reads this
   pub started : Bool
-  -- "a structure counts as settled when its latest accepted close reported no change"
+  -- "a structure counts as settled when its latest accepted close reported no change", and nothing accepted since was answered with yes
   pub settled : Bool
 
 -- The one place that builds a structure: the fields in their order.

@@ -52,7 +52,7 @@ pub struct Structure {
     pub inferred_parent_els: [bool; Structure::MAX_ELS],
     // A call of kinds 6 to 15 was accepted.
     pub started: bool,
-    // The latest accepted close reported no change.
+    // The latest accepted close reported no change, and nothing accepted since was answered with yes.
     pub settled: bool,
 }
 
@@ -183,12 +183,13 @@ impl Structure {
         }
     }
 
-    // Whether the structure is settled after an answer: a close says so, and after any other it is as before.
+    // Whether the structure is settled after an answer: a close sets it by its report, a yes clears it, and after any other answer it is as before.
     fn settled_by(self, answer: Answer) -> bool
         ensures { λ r. ⌜ r ≡ settledBy (answerOf [] answer) (self .settled) ⌝ }
     {
         match answer {
             Answer::Closed(closed) => !closed.changed,
+            Answer::Says(yes) => ids::and(!yes, self.settled),
             _ => self.settled,
         }
     }
@@ -206,6 +207,7 @@ impl Structure {
         }
     }
 
+    // Whether the latest accepted close reported no change, and no equality, imposition or application accepted since was answered with yes.
     pub fn is_settled(self) -> bool
         ensures { λ r. ⌜ r ≡ structureOf self .settled ⌝ }
     {

@@ -5,17 +5,18 @@ use oracle::record::{AMBIENT_LOOKUP, TYPE_LOOKUP};
 use oracle::stream::{Entry, SHEET, SHEET_WITH_DUMPS};
 
 use crate::history::{bytes, chained, record, History, Words};
-use crate::{proved, settles};
+use crate::{proved, settled, settles};
 
 /// All fixed histories in order. Small ones with dumps.
 pub fn all() -> Vec<Entry> {
     let mut entries = Vec::new();
     for history in proved::all() {
         entries.extend([history.sheet(), history.sheet_with_dumps()]);
-        entries.push(history.list_with_dumps());
+        entries.extend([history.list_with_dumps(), history.list_with_flags()]);
         if history.has_closes() {
             let settling = history.with_settles();
             entries.extend([settling.sheet(), settling.list_with_dumps()]);
+            entries.push(settling.list_with_flags());
         }
     }
     for (start, records) in numbered_refusals() {
@@ -38,14 +39,22 @@ pub fn all() -> Vec<Entry> {
         entries.push(history.list_with_dumps());
         entries.push(history.without_finds().sheet_with_dumps());
     }
+    entries.extend(settled::all().iter().map(History::list_with_flags));
+    for history in settled::accepted() {
+        entries.push(history.without_finds().sheet_with_dumps());
+    }
+    entries.extend(settled::full_queues().iter().map(|history| history.without_finds().sheet()));
     // A sheet cannot hold the kind of a find.
     entries.push(History::new().el().root(0).sheet());
     entries.extend(sheet_shapes());
-    for history in [signature_limits(), structure_limits()].concat() {
+    for history in signature_limits() {
         entries.extend([history.list(), history.without_finds().sheet()]);
     }
+    for history in structure_limits() {
+        entries.extend([history.list_with_flags(), history.without_finds().sheet()]);
+    }
     for history in fact_limits() {
-        entries.extend([history.list(), history.with_settles().list()]);
+        entries.extend([history.list_with_flags(), history.with_settles().list_with_flags()]);
     }
     entries.push(fact_limits()[0].without_finds().sheet());
     entries.push(refused_close_in_full().list_with_dumps());
@@ -53,7 +62,7 @@ pub fn all() -> Vec<Entry> {
     entries.extend([deep_links(256), long_rounds()].map(|history| history.with_settles().list()));
     entries.push(settles::as_many_closes(33).list());
     for (levels, one_more) in [(0, true), (1, false), (2, true)] {
-        entries.push(settles::at_the_fact_limit(levels, one_more).list());
+        entries.push(settles::at_the_fact_limit(levels, one_more).list_with_flags());
     }
     let refused = settles::at_the_fact_limit(1, true);
     entries.extend([refused.list_with_dumps(), refused.without_finds().sheet()]);

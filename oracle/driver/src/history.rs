@@ -1,7 +1,7 @@
 //! Histories in the making.
 
 use oracle::record::{AMBIENT_LOOKUP, ROOT, ROOT_CONST, TYPE_LOOKUP};
-use oracle::stream::{Entry, LIST, LIST_WITH_DUMPS, SHEET, SHEET_WITH_DUMPS};
+use oracle::stream::{Entry, LIST, LIST_WITH_DUMPS, LIST_WITH_FLAGS, SHEET, SHEET_WITH_DUMPS};
 
 pub type Words = [u16; 16];
 
@@ -89,6 +89,10 @@ impl History {
 
     pub fn list_with_dumps(&self) -> Entry {
         Entry { mode: LIST_WITH_DUMPS, ..self.list() }
+    }
+
+    pub fn list_with_flags(&self) -> Entry {
+        Entry { mode: LIST_WITH_FLAGS, ..self.list() }
     }
 
     pub fn plain(&mut self, parents: &[u16]) -> &mut Self {

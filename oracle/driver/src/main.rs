@@ -7,12 +7,13 @@ mod mutants;
 mod proved;
 mod random;
 mod rng;
+mod settled;
 mod settles;
 mod shrink;
+mod tally;
 #[cfg(test)]
 mod tests;
 
-use std::collections::BTreeMap;
 use std::io::{self, Read, Write};
 use std::path::Path;
 use std::process::ExitCode;
@@ -22,6 +23,7 @@ use std::{env, fs};
 use compare::{first_difference, report, stream_of, Subject};
 use oracle::stream::{self, Entry};
 use standin::{Fault, FAULTS};
+use tally::Tally;
 
 const USAGE: &str = "\
 driver answer                         the oracle's answers to the stream on standard input
@@ -149,60 +151,6 @@ fn print_smallest(subject: &Subject, entry: &Entry) {
     }
     let smallest = shrink::shrink(entry, &|candidate| subject.differs_on(candidate));
     println!("{}", report(subject, &smallest));
-}
-
-/// What the histories of a run came to.
-#[derive(Default)]
-struct Tally {
-    histories: usize,
-    bytes: usize,
-    closes: usize,
-    settles: usize,
-    merges: usize,
-    conflicts: usize,
-    refusals: BTreeMap<u16, usize>,
-}
-
-impl Tally {
-    fn add(&mut self, entries: &[Entry], answers: &str) {
-        self.histories += entries.len();
-        self.bytes += entries.iter().map(|entry| entry.bytes.len()).sum::<usize>();
-        for line in answers.lines() {
-            let mut words = line.split(' ');
-            let word = words.next().unwrap_or_default();
-            let mut number = || words.next().and_then(|word| word.parse::<usize>().ok());
-            match word {
-                "close" => {
-                    self.closes += 1;
-                    let _changed = number();
-                    self.merges += number().unwrap_or_default();
-                }
-                "settle" => {
-                    self.settles += 1;
-                    let _closes = number();
-                    self.merges += number().unwrap_or_default();
-                }
-                "conflicts" => self.conflicts += number().unwrap_or_default(),
-                "refused" => {
-                    let cause = number().unwrap_or_default() as u16;
-                    *self.refusals.entry(cause).or_default() += 1;
-                }
-                _ => {}
-            }
-        }
-    }
-}
-
-impl std::fmt::Display for Tally {
-    fn fmt(&self, f: &mut std::fmt::Formatter) -> std::fmt::Result {
-        write!(f, "{} histories, {} bytes: ", self.histories, self.bytes)?;
-        write!(
-            f,
-            "{} closes, {} settles, {} merges, {} conflicts, refusals",
-            self.closes, self.settles, self.merges, self.conflicts
-        )?;
-        self.refusals.iter().try_for_each(|(number, count)| write!(f, " {number}:{count}"))
-    }
 }
 
 fn write_sample(directory: &Path) -> bool {

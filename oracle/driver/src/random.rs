@@ -1,5 +1,6 @@
 //! Random histories: most of them valid, some damaged.
 
+use oracle::record::{Record, Table};
 use oracle::stream::Entry;
 
 use crate::history::{bytes, chained, record, History, Words};
@@ -18,6 +19,7 @@ pub fn entry(seed: u64, number: u64) -> Entry {
     // The structure after every record of a long history would be too much.
     let dumps = history.records.len() <= 60 && rng.percent(60);
     match (sheet, dumps) {
+        (false, false) if rng.percent(80) => history.list_with_flags(),
         (false, false) => history.list(),
         (false, true) => history.list_with_dumps(),
         (true, _) => {
@@ -92,8 +94,15 @@ impl<'a> Maker<'a> {
                 self.rng.between(2, 40)
             }
         };
-        for _ in 0..calls {
-            self.add_call();
+        // One in five stays settled for a while, among the other calls or after them.
+        let stay = self.rng.percent(20).then(|| self.rng.between(0, calls));
+        for number in 0..=calls {
+            if stay == Some(number) {
+                self.stay_settled();
+            }
+            if number < calls {
+                self.add_call();
+            }
         }
         for _ in 0..self.rng.between(0, 3) {
             self.add_close();
@@ -335,6 +344,97 @@ impl<'a> Maker<'a> {
         } else {
             self.history.close();
         }
+    }
+
+    /// Settles and goes on with calls that mostly leave it so: what was declared
+    /// before, as it was given or by other names, equalities within a class, and calls
+    /// that declare nothing; now and then something new, and a close after it.
+    fn stay_settled(&mut self) {
+        self.history.settle();
+        let classes = self.classes();
+        for _ in 0..self.rng.between(2, 16) {
+            let (a, key) = (self.an_el(), self.rng.below(64) as u16);
+            match self.rng.below(if self.is_list { 120 } else { 100 }) {
+                0..=34 => self.declare_again(&classes),
+                35..=49 => {
+                    let (a, b) = (self.a_name(&classes, a), self.a_name(&classes, a));
+                    self.history.equal(a, b);
+                }
+                50..=59 => self.add_el(),
+                60..=67 => _ = self.history.var(key, a),
+                68..=73 => _ = self.history.ambient(key % 6, a),
+                74..=80 => _ = self.history.conflicts(),
+                81..=88 => self.add_close(),
+                89..=90 => _ = self.history.equal(a, self.els as u16 - 1),
+                91..=93 => self.add_imposition(a),
+                94..=97 => self.add_application(),
+                98..=99 => self.add_predicate(),
+                100..=104 => _ = self.history.root(a),
+                105..=107 => _ = self.history.root_const(a),
+                108..=109 => {
+                    let typ = self.a_type();
+                    self.history.type_lookup(typ, &[a]);
+                }
+                110..=111 => {
+                    let types = self.some_types(3);
+                    self.history.ambient_lookup(&types);
+                }
+                // An earlier record with a word that is mostly refused.
+                _ => {
+                    let mut words = self.rng.pick(&self.history.records);
+                    words[self.rng.between(2, 15)] = 300;
+                    self.history.push(words);
+                }
+            }
+        }
+        if self.rng.percent(60) {
+            self.add_close();
+        }
+    }
+
+    /// For each element the least one that the equalities so far put together with it.
+    /// Applications and marks may join more.
+    fn classes(&self) -> Vec<u16> {
+        let mut least: Vec<u16> = (0..self.els as u16).collect();
+        for words in self.history.records.iter().filter(|words| words[1] == 7) {
+            let of = |word: usize| least.get(usize::from(words[word])).copied();
+            if let (Some(a), Some(b)) = (of(2), of(3)) {
+                for class in least.iter_mut().filter(|class| **class == a.max(b)) {
+                    *class = a.min(b);
+                }
+            }
+        }
+        least
+    }
+
+    /// An element of the same class.
+    fn a_name(&mut self, classes: &[u16], el: u16) -> u16 {
+        let Some(class) = classes.get(usize::from(el)) else {
+            return el;
+        };
+        let els = 0..classes.len() as u16;
+        let names: Vec<u16> = els.filter(|&el| classes[usize::from(el)] == *class).collect();
+        self.rng.pick(&names)
+    }
+
+    /// An earlier equality, imposition or application once more, half of the time with
+    /// other names.
+    fn declare_again(&mut self, classes: &[u16]) {
+        let records = self.history.records.iter().copied();
+        let declared: Vec<Words> = records.filter(|words| (7..=10).contains(&words[1])).collect();
+        if declared.is_empty() {
+            return;
+        }
+        let mut words = self.rng.pick(&declared);
+        if self.rng.percent(50) {
+            let record = Record { words };
+            for (word, table) in record.naming_words() {
+                if table == Table::Els {
+                    words[word] = self.a_name(classes, words[word]);
+                }
+            }
+        }
+        self.history.push(words);
     }
 
     fn add_imposition(&mut self, el: u16) {

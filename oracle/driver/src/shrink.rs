@@ -1,7 +1,7 @@
 //! Makes a history on which answers differ as small as dropping records can.
 
 use oracle::record::{self, Record, Table, AMBIENT_LOOKUP, ROOT, ROOT_CONST, TYPE_LOOKUP};
-use oracle::stream::{Entry, LIST, LIST_WITH_DUMPS, SHEET, SHEET_WITH_DUMPS};
+use oracle::stream::{Entry, LIST, LIST_WITH_DUMPS, LIST_WITH_FLAGS, SHEET, SHEET_WITH_DUMPS};
 
 use crate::history::{bytes, chained, Words};
 
@@ -15,19 +15,23 @@ pub fn shrink(entry: &Entry, differs: &dyn Fn(&Entry) -> bool) -> Entry {
         }
         smaller
     };
-    // Without dumps, if the printed lines differ too.
-    let mode = match entry.mode {
-        LIST_WITH_DUMPS => LIST,
-        SHEET_WITH_DUMPS => SHEET,
-        mode => mode,
+    // With less printed, if that differs too.
+    let shorter: &[u32] = match entry.mode {
+        LIST_WITH_DUMPS => &[LIST, LIST_WITH_FLAGS],
+        LIST_WITH_FLAGS => &[LIST],
+        SHEET_WITH_DUMPS => &[SHEET],
+        _ => &[],
     };
-    let bytes = entry.bytes.clone();
-    let mode = if take(Entry { mode, bytes }) { mode } else { entry.mode };
+    let in_mode = |mode: u32| Entry { mode, ..entry.clone() };
+    let mode = shorter.iter().copied().find(|&mode| take(in_mode(mode))).unwrap_or(entry.mode);
 
     let Some(mut records) = plain_records(entry) else {
         return best;
     };
-    let form = |records: &[Words]| Entry { mode, bytes: to_bytes(mode, records) };
+    let form = |records: &[Words]| {
+        let bytes = if entry.is_list() { bytes(records) } else { bytes(&chained(records)) };
+        Entry { mode, bytes }
+    };
     take(form(&records));
     if !differs(&form(&records)) {
         return best;
@@ -60,7 +64,7 @@ fn plain_records(entry: &Entry) -> Option<Vec<Words>> {
     }
     let records: Vec<Words> =
         entry.bytes.chunks(record::BYTES).map(|bytes| Record::read(bytes).words).collect();
-    if matches!(entry.mode, LIST | LIST_WITH_DUMPS) {
+    if entry.is_list() {
         return Some(records);
     }
     let mut visited = Vec::new();
@@ -74,14 +78,6 @@ fn plain_records(entry: &Entry) -> Option<Vec<Words>> {
         }
     }
     Some(visited)
-}
-
-fn to_bytes(mode: u32, records: &[Words]) -> Vec<u8> {
-    if matches!(mode, LIST | LIST_WITH_DUMPS) {
-        bytes(records)
-    } else {
-        bytes(&chained(records))
-    }
 }
 
 /// The records without those from `from` to before `to`. Later numbers move

@@ -5,12 +5,13 @@ use std::fs;
 use std::path::Path;
 
 use oracle::record::{self, Record};
-use oracle::stream::{self, Entry, LIST, LIST_WITH_DUMPS};
+use oracle::stream::{self, Entry, LIST};
 use standin::Fault;
 
 use crate::compare::{first_difference, stream_of, Subject};
 use crate::history::History;
 use crate::rng::Rng;
+use crate::settled::{self, Calls};
 use crate::{edges, histories, proved, random, settles, shrink, SAMPLE};
 
 /// What an entry prints, without the line that begins it.
@@ -167,6 +168,86 @@ fn a_refused_settle_leaves_everything() {
     }
 }
 
+/// The last line of each call's answer, and whether the structure is settled after it.
+fn asked(history: &History) -> Vec<(String, bool)> {
+    let lines = answers(&history.list_with_flags());
+    let is_flags = |line: &String| line.starts_with("s ");
+    let flags = (0..lines.len()).filter(|&at| is_flags(&lines[at]));
+    flags.map(|at| (lines[at - 1].clone(), lines[at].ends_with('1'))).collect()
+}
+
+/// What calls answer after the settled structure of `settled::start`, and what a close
+/// then does.
+fn asked_after_start(calls: Calls) -> (Vec<(String, bool)>, (String, bool)) {
+    let mut h = settled::start();
+    let before = asked(&h);
+    assert_eq!(before.last(), Some(&("settle 2 2".to_string(), true)));
+    calls(&mut h);
+    let mut after = asked(h.close()).split_off(before.len());
+    let closed = after.pop().expect("it closes");
+    (after, closed)
+}
+
+#[test]
+fn the_builder_is_told_no() {
+    let lines = ["settle 1 0", "answer 1", "close 1 1 2", "close 0 0 1"];
+    let flags = [true, false, false, true];
+    let expected: Vec<_> = lines.map(str::to_string).into_iter().zip(flags).collect();
+    assert_eq!(asked(&settled::builder())[2..], expected);
+}
+
+#[test]
+fn a_yes_takes_settled_away() {
+    for (calls, changes) in settled::YES_WITH_WORK
+        .map(|calls| (calls, true))
+        .into_iter()
+        .chain(settled::YES_WITHOUT_WORK.map(|calls| (calls, false)))
+    {
+        let (after, (line, is_settled)) = asked_after_start(calls);
+        assert!(after.iter().all(|asked| *asked == ("answer 1".to_string(), false)));
+        assert_eq!(line != "close 0 0 1", changes);
+        assert_eq!(is_settled, !changes);
+    }
+}
+
+#[test]
+fn settled_comes_back_with_the_last_of_three_closes() {
+    let mut h = settled::start();
+    settled::YES_WITH_WORK[5](&mut h);
+    let asked = asked(h.close().close().close());
+    let lines = ["close 1 1 2", "close 1 1 3", "close 0 0 1"].map(str::to_string);
+    let expected: Vec<_> = lines.into_iter().zip([false, false, true]).collect();
+    assert_eq!(asked[asked.len() - 3..], expected);
+}
+
+#[test]
+fn other_calls_leave_settled() {
+    let quiet = ("close 0 0 1".to_string(), true);
+    for calls in settled::NO {
+        let (after, closed) = asked_after_start(calls);
+        assert_eq!((after, closed), (vec![("answer 0".to_string(), true)], quiet.clone()));
+    }
+    for calls in settled::OTHERS {
+        let (after, closed) = asked_after_start(calls);
+        assert!(after.iter().all(|(line, is_settled)| !line.starts_with("refused") && *is_settled));
+        assert_eq!(closed, quiet);
+    }
+}
+
+/// P1 to P10: settled after a close that reports no change, and then at once no more.
+#[test]
+fn p1_to_p10_asked_after_every_call() {
+    for p in proved::all() {
+        let quiet = |(line, is_settled): &(String, bool)| *is_settled == (line == "close 0 0 1");
+        assert!(asked(&p).iter().all(quiet));
+        let settling = asked(&p.with_settles());
+        let quiet = |(line, is_settled): &(String, bool)| {
+            *is_settled == (line.starts_with("settle") || line.starts_with("conflicts"))
+        };
+        assert!(settling.iter().all(quiet));
+    }
+}
+
 /// A history that may grow by `limit` records of one kind and no more.
 fn assert_limit(start: &History, limit: u16, grow: &dyn Fn(&mut History, u16)) {
     let mut h = start.clone();
@@ -270,9 +351,7 @@ const NUMBERS: [(u16, &[u16]); 19] = [
 #[test]
 fn fixed_histories_meet_every_number_of_every_kind() {
     let mut met = BTreeSet::new();
-    for entry in
-        edges::all().iter().filter(|entry| entry.mode == LIST || entry.mode == LIST_WITH_DUMPS)
-    {
+    for entry in edges::all().iter().filter(|entry| entry.is_list()) {
         let lines = answers(&Entry { mode: LIST, ..entry.clone() });
         let last_lines = lines.iter().filter(|line| !line.starts_with("conflict "));
         for (bytes, line) in entry.bytes.chunks(record::BYTES).zip(last_lines) {
@@ -313,7 +392,7 @@ fn any_bytes_are_answered() {
             for place in 0..rng.below(16 * 24) {
                 bytes.extend(random_word(&mut rng, place % 16).to_le_bytes());
             }
-            let mode = rng.below(5) as u32;
+            let mode = rng.below(6) as u32;
             Entry { mode, bytes }.write(&mut stream);
         }
         stream.truncate(stream.len().saturating_sub(rng.below(3)));

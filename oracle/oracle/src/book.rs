@@ -1,5 +1,6 @@
 //! The book of 01's conservation rule: it is fed calls and answers, reads no
-//! structure, and says what the classes must be.
+//! structure, and says what the classes must be. It also says, by 02's own words,
+//! whether the structure is settled.
 
 use std::collections::BTreeMap;
 
@@ -14,9 +15,46 @@ pub struct Book {
     /// Applications as given.
     apps: Vec<Record>,
     merges: usize,
+    /// Every call in order, refused ones, finds and lookups too.
+    heard: Vec<Heard>,
+}
+
+/// A call, and of its answer what settled goes by.
+#[derive(Copy, Clone)]
+struct Heard {
+    kind: u16,
+    was_accepted: bool,
+    said_yes: bool,
+    reported_no_change: bool,
 }
 
 impl Book {
+    /// Takes in any call.
+    pub fn hear(&mut self, record: &Record, answer: &Answer) {
+        self.heard.push(Heard {
+            kind: record.kind(),
+            was_accepted: !matches!(answer, Answer::Refused(_)),
+            said_yes: matches!(answer, Answer::Said(true)),
+            // A settle ends with a close that reports no change.
+            reported_no_change: match answer {
+                Answer::Closed(closed) => !closed.changed,
+                answer => matches!(answer, Answer::Settled { .. }),
+            },
+        });
+    }
+
+    /// Whether the latest accepted close reported no change and no equality,
+    /// imposition or application accepted since was answered with yes.
+    pub fn is_settled(&self) -> bool {
+        let closes = |call: &Heard| call.was_accepted && [13, 15].contains(&call.kind);
+        let Some(latest) = self.heard.iter().rposition(closes) else {
+            return false;
+        };
+        let mut since = self.heard[latest + 1..].iter();
+        let declares = |call: &Heard| call.was_accepted && [7, 8, 9, 10].contains(&call.kind);
+        self.heard[latest].reported_no_change && !since.any(|call| declares(call) && call.said_yes)
+    }
+
     /// Takes in an accepted call.
     pub fn enter(&mut self, record: &Record, answer: &Answer) {
         match record.kind() {

@@ -35,7 +35,8 @@ pub struct Oracle {
     structure: Structure,
     /// Whether any call of kinds 6 to 15 was accepted (number 4).
     begun: bool,
-    /// Whether the latest accepted close reported no change.
+    /// Whether the latest accepted close reported no change and no equality,
+    /// imposition or application accepted since was answered with yes.
     settled: bool,
     /// What the calls said, to hold the structure against.
     book: Book,
@@ -47,6 +48,34 @@ struct TooManyFacts;
 impl Oracle {
     /// The calls of kinds 1 to 15. A refused one leaves everything as it was.
     pub fn call(&mut self, record: &Record) -> Answer {
+        let answer = self.answer(record);
+        self.assert_nothing_to_close();
+        answer
+    }
+
+    /// The finds and the lookups. `root` shortens paths; nothing else changes.
+    pub fn look_up(&mut self, record: &Record) -> Answer {
+        let answer = self.find(record);
+        self.hear(record, &answer);
+        self.assert_nothing_to_close();
+        answer
+    }
+
+    /// The calls of kinds 1 to 15, with no look at the close that may come next.
+    fn answer(&mut self, record: &Record) -> Answer {
+        let answer = self.carry_out_or_refuse(record);
+        self.hear(record, &answer);
+        answer
+    }
+
+    /// Enters a call of any kind, refused or not. What the answers so far say of
+    /// settled, and the flag, must be the same.
+    fn hear(&mut self, record: &Record, answer: &Answer) {
+        self.book.hear(record, answer);
+        assert_eq!(self.settled, self.book.is_settled(), "settled is what the answers say");
+    }
+
+    fn carry_out_or_refuse(&mut self, record: &Record) -> Answer {
         if let Some(number) = self.refusal(record) {
             return Answer::Refused(number);
         }
@@ -60,6 +89,7 @@ impl Oracle {
             return Answer::Refused(9);
         }
         next.begun |= record.kind() >= 6;
+        next.settled &= !unsettles(record, &answer);
         next.book.enter(record, &answer);
         next.assert_sound();
         match &answer {
@@ -82,8 +112,7 @@ impl Oracle {
         (self.structure.clone(), &self.signature)
     }
 
-    /// The finds and the lookups. `root` shortens paths; nothing else changes.
-    pub fn look_up(&mut self, record: &Record) -> Answer {
+    fn find(&mut self, record: &Record) -> Answer {
         match record.kind() {
             ROOT | ROOT_CONST if self.is_undeclared(Table::Els, record.a()) => Answer::Refused(5),
             ROOT => {
@@ -345,7 +374,7 @@ impl Oracle {
         let mut copy = self.clone();
         let (mut closes, mut merges) = (0, 0);
         loop {
-            let closed = match copy.call(&Record::of_kind(13)) {
+            let closed = match copy.answer(&Record::of_kind(13)) {
                 Answer::Closed(closed) => closed,
                 Answer::Refused(11) => return Err(TooManyFacts),
                 _ => unreachable!("a close is refused with 11 or not at all"),
@@ -433,6 +462,30 @@ impl Oracle {
         assert!(self.structure.pending_equalities.is_empty());
     }
 
+    /// What holds of a settled structure: a close of it is accepted, reports no
+    /// change and leaves all but the queue, which it empties, and the variables,
+    /// which it rewrites to roots; and a settle is that one close.
+    fn assert_nothing_to_close(&self) {
+        if !self.settled {
+            return;
+        }
+        let mut closed = self.clone();
+        let answer = closed.answer(&Record::of_kind(13));
+        let quiet = matches!(answer, Answer::Closed(Closed { changed: false, merges: 0, rounds: 1 }));
+        assert!(quiet, "a close of a settled structure answers {answer}");
+        let mut expected = self.structure.clone();
+        expected.pending_equalities.clear();
+        for el in expected.var_els.values_mut() {
+            *el = expected.unification.root_const(*el);
+        }
+        assert!(is_same(&expected, &closed.structure), "a quiet close leaves the structure");
+        assert!(closed.settled);
+
+        let answer = self.clone().answer(&Record::of_kind(15));
+        let quiet = matches!(answer, Answer::Settled { closes: 1, merges: 0 });
+        assert!(quiet, "a settle of a settled structure answers {answer}");
+    }
+
     /// The structure line by line; FORMAT.md says how.
     pub fn dump(&self, out: &mut String) {
         let structure = &self.structure;
@@ -465,8 +518,19 @@ impl Oracle {
         for (el, ct) in &structure.pending_type_impositions {
             *out += &format!("i {} {}\n", el.0, fact(ct.clone()));
         }
+        self.dump_flags(out);
+    }
+
+    /// The last line of the structure.
+    pub fn dump_flags(&self, out: &mut String) {
         *out += &format!("s {} {}\n", u8::from(self.begun), u8::from(self.settled));
     }
+}
+
+/// Whether an accepted call takes settled away: an equality, imposition or application
+/// that is answered with yes.
+fn unsettles(record: &Record, answer: &Answer) -> bool {
+    (7..=10).contains(&record.kind()) && matches!(answer, Answer::Said(true))
 }
 
 fn el_id(number: u16) -> ElId {

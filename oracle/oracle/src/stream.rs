@@ -7,6 +7,7 @@ pub const SHEET: u32 = 0;
 pub const LIST: u32 = 1;
 pub const LIST_WITH_DUMPS: u32 = 2;
 pub const SHEET_WITH_DUMPS: u32 = 3;
+pub const LIST_WITH_FLAGS: u32 = 4;
 
 /// One history of a stream.
 #[derive(Clone, Debug, PartialEq, Eq)]
@@ -16,6 +17,10 @@ pub struct Entry {
 }
 
 impl Entry {
+    pub fn is_list(&self) -> bool {
+        [LIST, LIST_WITH_DUMPS, LIST_WITH_FLAGS].contains(&self.mode)
+    }
+
     /// Appends the entry as a stream holds it.
     pub fn write(&self, stream: &mut Vec<u8>) {
         let length = u32::try_from(self.bytes.len()).expect("histories are short");
@@ -44,8 +49,7 @@ pub fn answer_entry(index: usize, entry: &Entry, out: &mut String) {
     *out += &format!("= {index}\n");
     match entry.mode {
         SHEET => sheet::run(&entry.bytes, false, out),
-        LIST => run_list(&entry.bytes, false, out),
-        LIST_WITH_DUMPS => run_list(&entry.bytes, true, out),
+        LIST | LIST_WITH_DUMPS | LIST_WITH_FLAGS => run_list(&entry.bytes, entry.mode, out),
         SHEET_WITH_DUMPS => sheet::run(&entry.bytes, true, out),
         _ => {}
     }
@@ -62,7 +66,7 @@ pub fn answer(stream: &[u8]) -> String {
 
 /// Runs records as public calls in order. A refused call does not stop the
 /// list; bytes past the last whole record are not looked at.
-fn run_list(bytes: &[u8], dumps: bool, out: &mut String) {
+fn run_list(bytes: &[u8], mode: u32, out: &mut String) {
     let mut oracle = Oracle::default();
     for chunk in bytes.chunks_exact(record::BYTES) {
         let record = Record::read(chunk);
@@ -72,8 +76,10 @@ fn run_list(bytes: &[u8], dumps: bool, out: &mut String) {
             oracle.call(&record)
         };
         *out += &answer.to_string();
-        if dumps {
-            oracle.dump(out);
+        match mode {
+            LIST_WITH_DUMPS => oracle.dump(out),
+            LIST_WITH_FLAGS => oracle.dump_flags(out),
+            _ => {}
         }
     }
 }

@@ -52,6 +52,73 @@ fn app(w: &Words) -> App {
 impl State {
     /// Kinds 1 to 15, and 101 to 104 for the finds and lookups.
     pub fn call(&mut self, w: &Words) -> Answer {
+        let apps = self.func_apps.len();
+        let answer = self.answer(w);
+        let stored = self.func_apps.len() > apps;
+        self.update_settled(w, &answer, stored);
+        answer
+    }
+
+    /// A yes of kinds 7 to 10 takes settled away. A close has set it, and every other
+    /// call leaves it.
+    fn update_settled(&mut self, w: &Words, answer: &Answer, stored: bool) {
+        use Answer::{Ambients, Closed, Conflicts, Found, Number, Refused, Said, Typed};
+        use Fault::*;
+        let is_yes = matches!((w[1], answer), (7..=10, Said(true)));
+        let Some(fault) = self.fault else {
+            self.settled &= !is_yes;
+            return;
+        };
+        let stays = match (fault, w[1]) {
+            (YesLeavesSettled, _) => true,
+            (EqualityLeavesSettled, 7) => true,
+            (ImpositionLeavesSettled, 8) => true,
+            (NewApplicationLeavesSettled, 9) => stored,
+            (QueuedResultLeavesSettled, 9) => !stored,
+            (PredicateLeavesSettled, 10) => true,
+            (IdleStaysSettled, _) => close(&mut self.clone()).is_ok_and(|closed| !closed.changed),
+            _ => false,
+        };
+        let goes = match (fault, w[1], answer) {
+            (CallsUnsettle, 6..=12, answer) => !matches!(answer, Refused(_)),
+            (EqualityNoUnsettles, 7, Said(false)) => true,
+            (ImpositionNoUnsettles, 8, Said(false)) => true,
+            (ApplicationNoUnsettles, 9, Said(false)) => true,
+            (PredicateNoUnsettles, 10, Said(false)) => true,
+            (ElementUnsettles, 6, Number(_)) => true,
+            (MarkedElementUnsettles, 6, Number(_)) => w[2] == 1,
+            (VariableUnsettles, 11, Said(_)) => true,
+            (AmbientUnsettles, 12, Said(_)) => true,
+            (OnlySettleSettles, 13, Closed(_)) => true,
+            (ConflictsUnsettle, 14, Conflicts(_)) => true,
+            (RootUnsettles, 101, Found(_)) => true,
+            (RootConstUnsettles, 102, Found(_)) => true,
+            (TypeLookupUnsettles, 103, Typed(_)) => true,
+            (AmbientLookupUnsettles, 104, Ambients(_)) => true,
+            (RefusedDeclarationUnsettles, 1..=5, Refused(_)) => true,
+            (RefusedEqualityUnsettles, 7, Refused(_)) => true,
+            (RefusedImpositionUnsettles, 8, Refused(_)) => true,
+            (RefusedApplicationUnsettles, 9, Refused(_)) => true,
+            (RefusedPredicateUnsettles, 10, Refused(_)) => true,
+            (RefusedCloseUnsettles, 13, Refused(_)) => true,
+            (RefusedConflictsUnsettle, 14, Refused(_)) => true,
+            (RefusedSettleUnsettles, 15, Refused(_)) => true,
+            (RefusedLookupUnsettles, 101..=104, Refused(_)) => true,
+            (NineUnsettles, _, Refused(9)) => true,
+            _ => false,
+        };
+        let comes = match (fault, answer) {
+            (YesSettles, _) => is_yes,
+            (NoSettles, Said(false)) => true,
+            (ElevenSettles, Refused(11)) => true,
+            _ => false,
+        };
+        let is_taken = is_yes && !stays;
+        self.was_taken |= self.settled && is_taken;
+        self.settled = (self.settled && !is_taken && !goes) || comes;
+    }
+
+    fn answer(&mut self, w: &Words) -> Answer {
         if (101..=104).contains(&w[1]) {
             self.begun |= self.is(Fault::FindsBegin);
             return self.look_up(w);
@@ -70,17 +137,11 @@ impl State {
                     _ => false,
                 };
                 self.begun |= w[1] >= 6 && !unseen;
-                if self.is(Fault::CallsUnsettle) && (6..=12).contains(&w[1]) {
-                    self.settled = false;
-                }
                 answer
             }
             Err(Full) => {
                 if let Some(before) = before.filter(|_| !self.is(Fault::RefusedCloseWorks)) {
                     *self = before;
-                }
-                if w[1] == 13 && self.is(Fault::RefusedCloseUnsettles) {
-                    self.settled = false;
                 }
                 Answer::Refused(11)
             }

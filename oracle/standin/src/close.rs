@@ -52,7 +52,9 @@ pub fn close(state: &mut State) -> Result<Closed, Full> {
     if state.is(Fault::OnlyMergesReported) {
         changed = merges > 0;
     }
-    state.settled = !changed || state.is(Fault::CloseSettles);
+    state.was_taken &= !changed;
+    let stays_taken = state.was_taken && state.is(Fault::QuietCloseLeavesTaken);
+    state.settled = (!changed && !stays_taken) || state.is(Fault::CloseSettles);
     Ok(Closed { changed, merges, rounds })
 }
 
@@ -103,6 +105,9 @@ pub fn settle(state: &mut State) -> Result<Settled, Full> {
     if state.is(Fault::SettleLeavesFlag) {
         state.settled = before.settled;
     }
+    if before.was_taken && state.is(Fault::SettleLeavesTaken) {
+        state.settled = false;
+    }
     if state.is(Fault::SettleLeavesNothing) {
         *state = before;
     }
@@ -137,7 +142,6 @@ fn leave_refused(state: &mut State, before: State, mut left: Vec<State>) {
             let links = left.pop().map_or(before.links.clone(), |last| last.links);
             *state = State { links, ..before };
         }
-        Some(Fault::RefusedSettleUnsettles) => *state = State { settled: false, ..before },
         _ => *state = before,
     }
 }

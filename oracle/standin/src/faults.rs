@@ -1,4 +1,5 @@
-//! The wrong versions, by name. Each departs from document 01 in one place.
+//! The wrong versions, by name. Each departs from document 01, or from M-100 or M-101 of
+//! document 02, in one place.
 
 macro_rules! faults {
     ($($fault:ident: $text:literal,)*) => {
@@ -88,10 +89,6 @@ faults! {
     FullBeforeMerges: "facts are counted before the merges of the same imposing",
     StaleCopiesUncounted: "a stale fact and its rewritten copy count once",
     RefusedCloseWorks: "a refused close leaves its work",
-    RefusedCloseUnsettles: "a refused close takes settled away",
-    FreshIsSettled: "a fresh structure is settled",
-    CallsUnsettle: "an accepted call of kinds 6 to 12 takes settled away",
-    CloseSettles: "every accepted close settles",
 
     // Settle.
     SettleClosesOnce: "a settle runs one close",
@@ -106,13 +103,54 @@ faults! {
     SettleCountsRounds: "a settle counts rounds, not closes",
     LastMergesOnly: "a settle answers the merges of its last close",
     FirstMergesOnly: "a settle answers the merges of its first close",
-    SettleLeavesFlag: "a settle leaves settled as it was before it",
     RefusedSettleKeepsFirst: "a refused settle keeps what its first close left",
     RefusedSettleKeepsAccepted: "a refused settle keeps what its accepted closes left",
     RefusedSettleWorks: "a refused settle leaves its work",
     RefusedSettleKeepsLinks: "a refused settle keeps the links of its accepted closes",
-    RefusedSettleUnsettles: "a refused settle takes settled away",
     SettleEndsAtEleven: "a settle with a refused close answers for the accepted ones before it",
+
+    // Settled. A structure that is settled meets no number 11, so what a refused close
+    // or settle takes away shows with number 3.
+    FreshIsSettled: "a fresh structure is settled",
+    CloseSettles: "every accepted close settles",
+    OnlySettleSettles: "a close takes settled away, and a settle gives it",
+    SettleLeavesFlag: "a settle leaves settled as it was before it",
+    YesLeavesSettled: "a yes leaves settled",
+    EqualityLeavesSettled: "an equality answered with yes leaves settled",
+    ImpositionLeavesSettled: "an imposition answered with yes leaves settled",
+    NewApplicationLeavesSettled: "a function application that is stored leaves settled",
+    QueuedResultLeavesSettled: "a function application that queues a pair leaves settled",
+    PredicateLeavesSettled: "a predicate application answered with yes leaves settled",
+    IdleStaysSettled: "a yes leaves settled where a close would change nothing",
+    YesSettles: "a yes settles",
+    NoSettles: "a no settles",
+    CallsUnsettle: "an accepted call of kinds 6 to 12 takes settled away",
+    EqualityNoUnsettles: "an equality answered with no takes settled away",
+    ImpositionNoUnsettles: "an imposition answered with no takes settled away",
+    ApplicationNoUnsettles: "a function application answered with no takes settled away",
+    PredicateNoUnsettles: "a predicate application answered with no takes settled away",
+    ElementUnsettles: "an element takes settled away",
+    MarkedElementUnsettles: "a marked element takes settled away",
+    VariableUnsettles: "a variable takes settled away",
+    AmbientUnsettles: "an ambient element takes settled away",
+    ConflictsUnsettle: "the conflicts take settled away",
+    RootUnsettles: "root takes settled away",
+    RootConstUnsettles: "root_const takes settled away",
+    TypeLookupUnsettles: "the type lookup takes settled away",
+    AmbientLookupUnsettles: "the ambient lookup takes settled away",
+    RefusedDeclarationUnsettles: "a refused call of kinds 1 to 5 takes settled away",
+    RefusedEqualityUnsettles: "a refused equality takes settled away",
+    RefusedImpositionUnsettles: "a refused imposition takes settled away",
+    RefusedApplicationUnsettles: "a refused function application takes settled away",
+    RefusedPredicateUnsettles: "a refused predicate application takes settled away",
+    RefusedCloseUnsettles: "a refused close takes settled away",
+    RefusedConflictsUnsettle: "refused conflicts take settled away",
+    RefusedSettleUnsettles: "a refused settle takes settled away",
+    RefusedLookupUnsettles: "a refused find or lookup takes settled away",
+    NineUnsettles: "a call refused with 9 takes settled away",
+    ElevenSettles: "a call refused with 11 settles",
+    QuietCloseLeavesTaken: "what a yes took away only a close after one with a change gives back",
+    SettleLeavesTaken: "a settle does not give back what a yes took away",
 
     // Types and conflicts.
     ShorterFirst: "facts are ordered by type, then by number of parents",

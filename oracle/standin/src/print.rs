@@ -100,6 +100,10 @@ impl State {
             put(out, &fact.parents);
             out.push('\n');
         }
+        self.put_flags(out);
+    }
+
+    pub fn put_flags(&self, out: &mut String) {
         *out += &format!("s {} {}\n", u16::from(self.begun), u16::from(self.settled));
     }
 }

@@ -18,7 +18,7 @@ pub fn answer(stream: &[u8], fault: Option<Fault>) -> String {
         let state = State::new(fault);
         match mode {
             0 | 3 => run_sheet(state, bytes, mode == 3, &mut out),
-            1 | 2 => run_list(state, bytes, mode == 2, &mut out),
+            1 | 2 | 4 => run_list(state, bytes, mode, &mut out),
             _ => {}
         }
         rest = &rest[end..];
@@ -35,12 +35,14 @@ fn words(record: &[u8]) -> Words {
     words
 }
 
-fn run_list(mut state: State, bytes: &[u8], dumps: bool, out: &mut String) {
+fn run_list(mut state: State, bytes: &[u8], mode: u32, out: &mut String) {
     for record in bytes.chunks_exact(32) {
         let answer = state.call(&words(record));
         state.put_answer(out, &answer);
-        if dumps {
-            state.put_dump(out);
+        match mode {
+            2 => state.put_dump(out),
+            4 => state.put_flags(out),
+            _ => {}
         }
     }
 }

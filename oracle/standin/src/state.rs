@@ -71,6 +71,9 @@ pub struct State {
     pub impositions: Vec<(u16, Fact)>,
     pub begun: bool,
     pub settled: bool,
+    /// Whether a yes took settled away and no close has changed anything since; only
+    /// wrong versions look at it.
+    pub was_taken: bool,
 }
 
 /// A find's answer.
@@ -99,6 +102,7 @@ impl State {
             impositions: Vec::new(),
             begun: false,
             settled: fault == Some(Fault::FreshIsSettled),
+            was_taken: false,
         }
     }
 

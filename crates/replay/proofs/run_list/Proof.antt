@@ -5,10 +5,10 @@ use Rattle.replay.proofs.run_list.Statement.{statement}
 use Rattle.replay.proofs.run_list.Tie as tie
 
 abbrev Inv-loop : tie.InvT-loop
-Inv-loop bytes₀ text₀ n length dumps at₀ machine₀ count i₀ bytes text at machine i = Unit {0}
+Inv-loop bytes₀ text₀ n length mode at₀ machine₀ count i₀ bytes text at machine i = Unit {0}
 
 abbrev μ-loop : tie.MeasureT-loop
-μ-loop bytes₀ text₀ n length dumps at₀ machine₀ count i₀ bytes text at machine i = count - i
+μ-loop bytes₀ text₀ n length mode at₀ machine₀ count i₀ bytes text at machine i = count - i
 
 new-requires : tie.Need-new-requires Inv-loop μ-loop
 new-requires c κs = search needs

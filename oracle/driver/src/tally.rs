@@ -1,0 +1,115 @@
+//! What a run came to.
+
+use std::collections::BTreeMap;
+use std::fmt;
+
+use oracle::record::{self, Record};
+use oracle::stream::Entry;
+
+/// What the histories of a run came to.
+#[derive(Default)]
+pub struct Tally {
+    histories: usize,
+    bytes: usize,
+    closes: usize,
+    settles: usize,
+    merges: usize,
+    conflicts: usize,
+    refusals: BTreeMap<u16, usize>,
+    settled: FoundSettled,
+}
+
+impl Tally {
+    pub fn add(&mut self, entries: &[Entry], answers: &str) {
+        self.settled.add(entries, answers);
+        self.histories += entries.len();
+        self.bytes += entries.iter().map(|entry| entry.bytes.len()).sum::<usize>();
+        for line in answers.lines() {
+            let mut words = line.split(' ');
+            let word = words.next().unwrap_or_default();
+            let mut number = || words.next().and_then(|word| word.parse::<usize>().ok());
+            match word {
+                "close" => {
+                    self.closes += 1;
+                    let _changed = number();
+                    self.merges += number().unwrap_or_default();
+                }
+                "settle" => {
+                    self.settles += 1;
+                    let _closes = number();
+                    self.merges += number().unwrap_or_default();
+                }
+                "conflicts" => self.conflicts += number().unwrap_or_default(),
+                "refused" => {
+                    let cause = number().unwrap_or_default() as u16;
+                    *self.refusals.entry(cause).or_default() += 1;
+                }
+                _ => {}
+            }
+        }
+    }
+}
+
+impl fmt::Display for Tally {
+    fn fmt(&self, f: &mut fmt::Formatter) -> fmt::Result {
+        write!(f, "{} histories, {} bytes: ", self.histories, self.bytes)?;
+        write!(
+            f,
+            "{} closes, {} settles, {} merges, {} conflicts, refusals",
+            self.closes, self.settles, self.merges, self.conflicts
+        )?;
+        self.refusals.iter().try_for_each(|(number, count)| write!(f, " {number}:{count}"))?;
+        let FoundSettled { calls, no, yes, refused } = self.settled;
+        write!(f, "; {calls} calls of lists found it settled, of kinds 7 to 10 ")?;
+        write!(f, "{no} answered with no, {yes} with yes, {refused} refused")
+    }
+}
+
+/// The calls of lists that found the structure settled, where the answers say so after
+/// every call; of these the ones of kinds 7 to 10 by what they were answered with.
+#[derive(Default)]
+struct FoundSettled {
+    calls: usize,
+    no: usize,
+    yes: usize,
+    refused: usize,
+}
+
+impl FoundSettled {
+    fn add(&mut self, entries: &[Entry], answers: &str) {
+        let (mut kinds, mut answer, mut was_settled) = (Vec::new(), "", false);
+        for line in answers.lines() {
+            match line.split_once(' ') {
+                Some(("=", index)) => {
+                    kinds = kinds_of(&entries[index.parse::<usize>().expect("an index")]);
+                    was_settled = false;
+                }
+                Some(("s", flags)) => {
+                    if let Some(kind) = kinds.pop().filter(|_| was_settled) {
+                        self.count(kind, answer);
+                    }
+                    was_settled = flags.ends_with('1');
+                }
+                Some(("answer" | "refused", _)) => answer = line,
+                _ => {}
+            }
+        }
+    }
+
+    fn count(&mut self, kind: u16, answer: &str) {
+        self.calls += 1;
+        if (7..=10).contains(&kind) {
+            match answer {
+                "answer 0" => self.no += 1,
+                "answer 1" => self.yes += 1,
+                _ => self.refused += 1,
+            }
+        }
+    }
+}
+
+/// The kinds of a list's calls, the last one first. A sheet has none.
+fn kinds_of(entry: &Entry) -> Vec<u16> {
+    let records = entry.bytes.chunks_exact(record::BYTES).filter(|_| entry.is_list());
+    records.rev().map(|bytes| Record::read(bytes).kind()).collect()
+}
