@@ -1,7 +1,7 @@
 -- Wrong versions of the question whether the structure is settled (02, M-101), each refuted by a list of calls. A version says what a call leaves of
 -- the flag, by the call, its answer and the flag before it, as `flagAfter` does, with which a list comes to `settledAfter` (`right-is`).
 use mathlib.Core.Path.{_≡_, refl, sym, ap, _∙_}
-use mathlib.Core.Bool.{Bool, true, false, not, _&&_}
+use mathlib.Core.Bool.{Bool, true, false, not, _&&_, not-eq-not}
 use mathlib.Core.List.{List, [], _∷_, _++_, map, List·Memᴰ, List·Memᴰ·head, List·Memᴰ·tail}
 use Prim.Native.Nat.{ℕ}
 use Prim.Native.String.{String}
@@ -147,10 +147,6 @@ rows-show : map shownBy table ≡ map statedBy table
 unfolding table computed flagBy flagAfter leaving clearing setting kindNumber trace reportedChange latestClose since asserts isYes anyYes unchanged settledAfter
 rows-show = refl
 
-not-self : (b : Bool) → not b ≡ b → ⊥
-not-self true e = no-test e refl
-not-self false e = no-test refl e
-
 module _ (r : Row) (m : List·Memᴰ r table) where
   holds : shownBy r ≡ statedBy r
   holds = agree shownBy statedBy table rows-show r m
@@ -158,8 +154,7 @@ module _ (r : Row) (m : List·Memᴰ r table) where
   -- no version of the table is the definition
   pub refuted : ((ks : List Call) → flagBy (r .version) ks start false ≡ settledAfter (trace ks start [])) → ⊥
   refuted same =
-      not-self (r .right)
-      (sym (ap (λ (x : Shown). x .wrong) holds) ∙ same (r .calls) ∙ ap (λ (x : Shown). x .right) holds)
+      not-eq-not .1 refl (sym (ap (λ (x : Shown). x .right) holds) ∙ sym (same (r .calls)) ∙ ap (λ (x : Shown). x .wrong) holds)
 
   -- and where one says yes before a close that reports a change, what 02 says of the next close is false of it too
   pub next-close-refutes : r .right ≡ false → r .next .changed ≡ true

@@ -79,9 +79,11 @@ isYes (typed t) = false
 isYes (els es) = false
 isYes (refuse n) = false
 
+-- an equality, imposition or application that was accepted and answered with yes
 abbrev pub saidYes : Call → Answer → Bool
 saidYes k a = asserts k && isYes a
 
+-- one of these calls was
 unfoldable pub anyYes : List Event → Bool
 anyYes [] = false
 anyYes (e ∷ es) = saidYes (e .call) (e .answer) || anyYes es
