@@ -9,7 +9,7 @@ ghost use mathlib.Core.Path.{_≡_};
 ghost use mathlib.Core.List.{_++_, [], _∷_};
 ghost use Prim.Native.Nat.{_+_, _≤_, _<_};
 ghost use lib.ListN.{take, drop};
-ghost use Rattle.ids.specs.Table.{Sized, goesLast, positionFrom, insertOf, lookupOf, lenOf};
+ghost use Rattle.ids.specs.Table.{Sized, positionFrom, insertOf, lookupOf, lenOf};
 ghost use Rattle.semantics.specs.Structure.{maxFuncApps, maxPredApps, compareFuncApp, comparePredApp, resultOf};
 ghost use Rattle.apps.specs.View.{newFuncApp, funcAppOf, funcAppsOf, insertedFuncApp, found, newPredApp, predAppOf, predAppsOf, insertedPredApp};
 
@@ -70,7 +70,7 @@ impl FuncApp {
         }
     }
 
-    fn compare(self, other: FuncApp) -> Ordering
+    pub fn compare(self, other: FuncApp) -> Ordering
         ensures { λ r. ⌜ r ≡ compareFuncApp (funcAppOf self) (funcAppOf other) ⌝ }
     {
         match ids::compare_numbers(self.func.0, other.func.0) {
@@ -89,23 +89,6 @@ impl FuncApp {
                     }
                 }
             }
-        }
-    }
-
-    // Whether it goes after `last`, the last of so many entries in order, where there is room.
-    pub fn goes_last(self, count: usize, last: FuncApp) -> bool
-        ensures { λ r. ⌜ r ≡ goesLast compareFuncApp maxFuncApps count (funcAppOf last) (funcAppOf self) ⌝ }
-    {
-        if FuncApps::MAX_LEN <= count {
-            return false;
-        }
-        if count == 0 {
-            return true;
-        }
-        match last.compare(self) {
-            Ordering::Less => true,
-            Ordering::Equal => false,
-            Ordering::Greater => false,
         }
     }
 }
@@ -140,23 +123,6 @@ impl PredApp {
                     }
                 }
             }
-        }
-    }
-
-    // Whether it goes after `last`, the last of so many entries in order, where there is room.
-    pub fn goes_last(self, count: usize, last: PredApp) -> bool
-        ensures { λ r. ⌜ r ≡ goesLast comparePredApp maxPredApps count (predAppOf last) (predAppOf self) ⌝ }
-    {
-        if PredApps::MAX_LEN <= count {
-            return false;
-        }
-        if count == 0 {
-            return true;
-        }
-        match last.compare(self) {
-            Ordering::Less => true,
-            Ordering::Equal => false,
-            Ordering::Greater => false,
         }
     }
 }

@@ -17,6 +17,7 @@ use signature::Signature;
 use signature::Type;
 use signature::TypeKind;
 use structure::Answer;
+use structure::Closed;
 use structure::Machine;
 use structure::Stepped;
 use structure::Structure;
@@ -220,10 +221,29 @@ fn build(bytes: &[u8]) -> Machine {
     run
 }
 
-// Changed, merges, rounds and facts, or closes, merges, 0 and facts; a refusal's number with 2 for changed.
-fn report(stepped: Stepped, out: &mut [u64; 4]) {
-    let answer = stepped.answer;
-    out[3] = stepped.structure.els.len as u64;
+// A close that does nothing: it takes and gives the structure as a close does, and answers as a close of a fresh one. The
+// compiler puts no function that calls itself into the place that calls it, so the copies in and out stay; `more` is 0.
+fn nothing(structure: Structure, signature: Signature, more: u16) -> Stepped {
+    let mut next = structure;
+    next.started = true;
+    if 0 < more {
+        let stepped = nothing(next, signature, more - 1);
+        let inner = stepped.structure;
+        next.settled = inner.settled;
+    }
+    let answer = Answer::Closed(Closed {
+        changed: false,
+        merges: 0,
+        rounds: 1,
+    });
+    Stepped {
+        answer,
+        structure: next,
+    }
+}
+
+// Changed, merges and rounds, or closes, merges and 0; a refusal's number with 2 for changed.
+fn report(answer: Answer, out: &mut [u64; 4]) {
     match answer {
         Answer::Closed(c) => {
             out[0] = if c.changed { 1 } else { 0 };
@@ -245,16 +265,75 @@ fn report(stepped: Stepped, out: &mut [u64; 4]) {
     }
 }
 
-// Builds the sheet once and closes it so many times. The flag differs from one close to the next, so that none can be dropped.
+// A number out of one of the tables. Which one is known only when the program runs, so the whole structure has to be there.
+fn read_of(s: Structure, at: usize) -> u16 {
+    match at % 9 {
+        0 => {
+            let facts = s.els;
+            let fact = facts.items[at % Structure::MAX_FACTS];
+            fact.el.0
+        }
+        1 => {
+            let apps = s.pred_apps;
+            let app = apps.items[at % Structure::MAX_PRED_APPS];
+            app.pred.0
+        }
+        2 => {
+            let apps = s.func_apps;
+            let app = apps.items[at % Structure::MAX_FUNC_APPS];
+            app.result.0
+        }
+        3 => {
+            let vars = s.var_els;
+            let slot = vars.slots[at % Structure::MAX_VARS];
+            slot.el.0
+        }
+        4 => {
+            let ambients = s.ambient_model_els;
+            let slot = ambients.slots[at % Signature::MAX_TYPES];
+            slot.el.0
+        }
+        5 => {
+            let unification = s.unification;
+            unification.links[at % Structure::MAX_ELS]
+        }
+        6 => {
+            let pairs = s.pending_equalities;
+            let pair = pairs.items[at % Structure::MAX_PAIRS];
+            pair.lhs.0
+        }
+        7 => {
+            let impositions = s.pending_type_impositions;
+            let fact = impositions.items[at % Structure::MAX_IMPOSITIONS];
+            fact.el.0
+        }
+        _ => {
+            let marks = s.inferred_parent_els;
+            if marks[at % Structure::MAX_ELS] { 1 } else { 0 }
+        }
+    }
+}
+
+// A number out of the structure and the answer, so that both are used.
+fn keep(stepped: Stepped, i: u64, out: &mut [u64; 4]) {
+    let at = (out[3] % 1024 + i % 1024) as usize;
+    let read = read_of(stepped.structure, at);
+    let answer = stepped.answer;
+    report(answer, out);
+    out[3] = read as u64;
+}
+
+// Builds the sheet once and closes it so many times. What is read of one result says where the next one is read, and is a
+// flag of the next structure given, which no close and no settle looks at: so no close, and nothing that it returns, can be left out.
 #[no_mangle]
 pub extern "C" fn bench_close(bytes: &[u8], times: u64, out: &mut [u64; 4]) {
     let run = build(bytes);
     let signature = run.signature;
     let mut structure = run.structure;
     for i in 0..times {
-        structure.settled = i % 2 == 1;
+        structure.started = out[3] % 2 == 1;
         let stepped = close::close(structure, signature);
-        report(stepped, out);
+        keep(stepped, i, out);
     }
 }
 
@@ -265,8 +344,22 @@ pub extern "C" fn bench_settle(bytes: &[u8], times: u64, out: &mut [u64; 4]) {
     let signature = run.signature;
     let mut structure = run.structure;
     for i in 0..times {
-        structure.settled = i % 2 == 1;
+        structure.started = out[3] % 2 == 1;
         let stepped = settle::settle(structure, signature);
-        report(stepped, out);
+        keep(stepped, i, out);
+    }
+}
+
+// The same with closes that do nothing. The last word of a record is 0, which the compiler does not know.
+#[no_mangle]
+pub extern "C" fn bench_nothing(bytes: &[u8], times: u64, out: &mut [u64; 4]) {
+    let run = build(bytes);
+    let signature = run.signature;
+    let more = word(bytes, 0, 15);
+    let mut structure = run.structure;
+    for i in 0..times {
+        structure.started = out[3] % 2 == 1;
+        let stepped = nothing(structure, signature, more);
+        keep(stepped, i, out);
     }
 }

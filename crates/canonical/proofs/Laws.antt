@@ -7,8 +7,7 @@ use borrow.Author.Tests.{eq-eqb, ne-eqb}
 use Rattle.ids.specs.Table.{placed, rewriteInto}
 use Rattle.ids.proofs.Views.{view-next, view-done}
 use Rattle.unification.specs.Roots.{rootOf, FindM, findOf}
-use Rattle.semantics.specs.Structure.{Fact, fact, FuncApp, func-app, PredApp, pred-app, compareFact, canonicalFact, canonicalFuncApp}
-use Rattle.semantics.specs.Structure.{canonicalPredApp}
+use Rattle.semantics.specs.Structure.{Fact, fact, FuncApp, func-app, compareFact, canonicalFact, canonicalFuncApp}
 use Rattle.semantics.specs.Types.{factsAt, concreteTypesOf}
 use Rattle.facts.specs.declared.Fact as code
 use Rattle.facts.specs.declared.Facts.{Facts}
@@ -25,11 +24,6 @@ pub app-roots : (ls : List ℕ) (x : FuncApp) {r : FindM} {ps es : List ℕ} →
     → r ≡ findOf ls (x .result) → func-app (x .func) ps es (r .root) ≡ canonicalFuncApp ls x
 unfolding canonicalFuncApp findOf
 app-roots ls x p q r = λ i. func-app (x .func) (p i) (q i) (r i .root)
-
-pub pred-roots : (ls : List ℕ) (x : PredApp) {ps es : List ℕ} → ps ≡ map (rootOf ls) (x .parents) → es ≡ map (rootOf ls) (x .args)
-    → pred-app (x .pred) ps es ≡ canonicalPredApp ls x
-unfolding canonicalPredApp
-pred-roots ls x p q = λ i. pred-app (x .pred) (p i) (q i)
 
 -- A turn of the loop that collects the facts of an element's class, at the entry i of a table: it is of another element, or of this.
 module _ (ls : List ℕ) (root : ℕ) (t : Facts) (i : ℕ) (d : code.Fact) (done : List Fact) {R : List Fact} (at : i < length (factsOf t))

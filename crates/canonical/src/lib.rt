@@ -1,6 +1,5 @@
 // Entries with what they name as roots, and the types of an element.
 use apps::FuncApp;
-use apps::PredApp;
 use facts::ConcreteType;
 use facts::Fact;
 use facts::Facts;
@@ -8,10 +7,10 @@ use ids::ElId;
 use unification::Unification;
 ghost use mathlib.Core.Path.{_≡_};
 ghost use Rattle.unification.specs.Roots.{linksOf};
-ghost use Rattle.semantics.specs.Structure.{canonicalFact, canonicalFuncApp, canonicalPredApp};
+ghost use Rattle.semantics.specs.Structure.{canonicalFact, canonicalFuncApp};
 ghost use Rattle.semantics.specs.Types.{concreteTypesOf};
 ghost use Rattle.facts.specs.View.{factOf, factsOf};
-ghost use Rattle.apps.specs.View.{funcAppOf, predAppOf};
+ghost use Rattle.apps.specs.View.{funcAppOf};
 
 // A fact with its element and its parents as roots.
 pub fn canonical_fact(unification: Unification, fact: Fact) -> Fact
@@ -46,22 +45,6 @@ pub fn canonical_func_app(unification: Unification, app: FuncApp) -> FuncApp
         parents,
         args,
         result,
-    }
-}
-
-// A predicate application with its parents and arguments as roots.
-pub fn canonical_pred_app(unification: Unification, app: PredApp) -> PredApp
-    ensures { λ r. ⌜ predAppOf r ≡ canonicalPredApp (linksOf unification) (predAppOf app) ⌝ }
-{
-    let pred = app.pred;
-    let p = app.parents;
-    let a = app.args;
-    let parents = unification.roots(p);
-    let args = unification.roots(a);
-    PredApp {
-        pred,
-        parents,
-        args,
     }
 }
 

@@ -1,29 +1,49 @@
--- Laws of the rounds and of a close, over what the passes of a round leave (Passes.antt).
+-- Laws of arrays that are filled, and of the rounds.
 use mathlib.Core.Path.{_≡_, refl, sym, ap, _∙_}
-use mathlib.Core.Bool.{Bool, true, false, _&&_}
-use mathlib.Core.List.{List}
+use mathlib.Core.Bool.{Bool, true, false, _&&_, _||_}
+use mathlib.Core.List.{List, [], _∷_, _++_, map, map-append}
 use mathlib.Core.Option.{Option, none, some}
 use Prim.Native.Nat.{ℕ, zero, suc, _+_, _*_, _-_, _≤_, _<_}
+use native.Mathlib.Numerals.{add-one}
 use native.Mathlib.Omega.{arith}
-use lib.Dec.{eqb, ltb}
-use borrow.Author.Tests.{lt-ltb, le-ltb, ltb-true, ltb-false, ne-eqb}
+use lib.ListN.{length, take, getD, set}
+use lib.Seq.{take-suc}
+use lib.Dec.{eqb}
+use borrow.Author.Tests.{ne-eqb}
+use Rattle.ids.proofs.Views.{view-pushed}
 use Rattle.unification.specs.Roots.{maxEls}
 use Rattle.signature.specs.Model.{Sig}
-use Rattle.semantics.specs.Structure as model
 use Rattle.semantics.specs.Structure.{FuncApp, PredApp, maxFacts}
 use Rattle.semantics.specs.Types as types
-use Rattle.semantics.specs.Types.{imposeAll, grew}
+use Rattle.semantics.specs.Types.{anyMarked}
 use Rattle.semantics.specs.Close as closing
-use Rattle.semantics.specs.Close.{fuel, turn, rounds-made, isNone, lastRound, oneMore, roundsFrom, CloseRun, imposedAfter, closeRun, reportOf, close-run}
-use Rattle.semantics.specs.Close.{afterClose, metCauses}
-use Rattle.semantics.specs.Calls as calls
-use Rattle.semantics.specs.Calls.{machine, answers, closed, rule, closeRule, leaves, acceptance, refusal, step}
-use Rattle.semantics.proofs.Judged.{met-refuses, met-accepts}
-use Rattle.apps.specs.View.{funcAppsOf}
-use Rattle.merging.specs.declared.Core.{Core}
-use Rattle.close.specs.declared.Turn.{Turn}
-use Rattle.merging.specs.View.{coreOf, metOf}
-use Rattle.close.specs.View.{RoundIs}
+use Rattle.semantics.specs.Close.{fuel, rounds-made, isNone, lastRound, oneMore, roundsFrom}
+use Rattle.app_rows.specs.View.{funcAppsIn, predAppsIn}
+use Rattle.merging.specs.View.{Lent, coreOf, metOf, workOf}
+use Rattle.close.specs.View.{oneRound, LentAgain, RoundIs, RoundsAre}
+
+-- An array xs that is filled from ys, entry by entry: the first i entries have the views of those of ys.
+module _ {A B C : Type 0} (f : A → C) (g : B → C) (xs : List A) (ys : List B) where
+  pub filled : (i : ℕ) (x : A) (d : B) → i < length xs → i < length ys → map f (take i xs) ≡ map g (take i ys)
+      → f x ≡ g (getD ys i d) → map f (take (i + 1) (set xs i x)) ≡ map g (take (i + 1) ys)
+  filled i x d p q e is =
+      view-pushed f i xs x p ∙ (λ k. e k ++ is k ∷ [])
+      ∙ sym (rw (add-one, take-suc ys i d q) (map-append g (take i ys) (getD ys i d ∷ [])))
+
+-- A mark more at the end.
+
+or-none : (b : Bool) → (b || false) ≡ b
+or-none true = refl
+or-none false = refl
+
+any-pushed : (ms : List Bool) (m : Bool) → anyMarked (ms ++ m ∷ []) ≡ (anyMarked ms || m)
+unfolding anyMarked
+any-pushed [] m = or-none m
+any-pushed (true ∷ ms) m = refl
+any-pushed (false ∷ ms) m = any-pushed ms m
+
+pub any-more : (ms : List Bool) (i : ℕ) (d : Bool) → i < length ms → anyMarked (take (i + 1) ms) ≡ (anyMarked (take i ms) || getD ms i d)
+any-more ms i d h = rw (add-one, take-suc ms i d h) (any-pushed (take i ms) (getD ms i d))
 
 -- The number first met.
 
@@ -36,31 +56,11 @@ met-some n h = go (eqb n 0) (ne-eqb n 0 h)
     go : (b : Bool) → b ≡ false → _≡_ {A = Option ℕ} (elim b [ true ↦ none | false ↦ some n ]) (some n)
     go b e = rw e
 
--- What was counted: more than before where something was counted since.
-
-pub ltb-more : (x k n : ℕ) → n ≡ k + x → ltb x n ≡ ltb 0 k
-ltb-more x k n h = go (ltb 0 k) refl
-  where
-    go : (b : Bool) → ltb 0 k ≡ b → ltb x n ≡ b
-    go true e = lt-ltb x n (omega (arith, ltb-true 0 k e))
-    go false e = le-ltb x n (omega (arith, ltb-false 0 k e))
-
-pub grew-more : (before after : types.Core) (k l : ℕ) → after .merges ≡ k + before .merges → after .added ≡ l + before .added
-    → grew before after ≡ ltb 0 (k + l)
-unfolding grew
-grew-more before after k l p q = ltb-more (before .merges + before .added) (k + l) (after .merges + after .added) (omega arith)
-
 -- The rounds.
 
 pub fuel-is : fuel ≡ 2 * ((maxFacts + 2) * (maxEls + 1))
 unfolding fuel
 fuel-is = refl
-
--- a round made, with all that was counted by then
-pub round-made : {g : Sig} {preds : List PredApp} {apps : List FuncApp} {before : Core} (r : Turn) → RoundIs g preds apps before r
-    → (m a : ℕ) {n b : ℕ} → n ≡ r .merges + m → b ≡ r .added + a
-    → turn (coreOf (r .core) n b) (funcAppsOf (r .«func_apps»)) (r .worked) ≡ closing.round g preds apps (coreOf before m a)
-round-made r e m a p q = (λ i. turn (coreOf (r .core) (p i) (q i)) (funcAppsOf (r .«func_apps»)) (r .worked)) ∙ e .is m a
 
 -- with so many rounds before
 abbrev pub after : ℕ → closing.Rounds → closing.Rounds
@@ -129,31 +129,35 @@ module _ (g : Sig) (preds : List PredApp) where
         regroup : (x : ℕ) → (count + 1) + x ≡ count + suc x
         regroup x = omega arith
 
--- A close: r is what the rounds came to, and w what the impositions come to after them.
+-- The same on the tables: from `before` with the applications `apps` to `now` with `apps'`.
+pub record RoundsSoFar (g : Sig) (preds : List (List ℕ)) (before : Lent) (apps : List (List ℕ)) (now : Lent) (apps' : List (List ℕ)) (again : Bool) (count : ℕ) : Type 0 where
+  pub going : Going g (predAppsIn (before .counts .«pred_apps») preds)
+      (closing.rounds g (predAppsIn (before .counts .«pred_apps») preds) (funcAppsIn (before .counts .«func_apps») apps) (coreOf before))
+      (coreOf now) (funcAppsIn (now .counts .«func_apps») apps') again count
+  pub ready : LentAgain (before .counts) now apps'
+  pub count-most : workOf (now .counts) ≤ count * oneRound + workOf (before .counts)
 
-pub run-is : (g : Sig) (s : model.Structure) (r : closing.Rounds) (w : types.Core)
-    → r ≡ closing.rounds g (s .pred-apps) (s .func-apps) (closing.coreAtStart s) → w ≡ imposeAll (s .impositions) (r .core)
-    → close-run r w ≡ closeRun g s
-unfolding closeRun imposedAfter
-run-is g s r w ran imposed = (λ i. close-run r (imposed i)) ∙ (λ i. imposedAfter (ran i) s)
+module _ {g : Sig} {preds : List (List ℕ)} {before : Lent} {apps : List (List ℕ)} {now : Lent} {apps' : List (List ℕ)} {again : Bool} {count : ℕ}
+    (so-far : RoundsSoFar g preds before apps now apps' again count) where
+  -- one more
+  pub ran-more : again ≡ true → count ≤ fuel → {next : Lent} {apps'' : List (List ℕ)} {worked then : Bool}
+      → RoundIs g (predAppsIn (now .counts .«pred_apps») preds) now apps' next apps'' worked
+      → then ≡ (worked && isNone (metOf (next .counts .met))) → RoundsSoFar g preds before apps next apps'' then (count + 1)
+  ran-more h l e t = record {
+    going =
+        takes g (predAppsIn (before .counts .«pred_apps») preds) (so-far .going) h l
+        (e .is ∙ ap (λ (n : ℕ). closing.round g (predAppsIn n preds) (funcAppsIn (now .counts .«func_apps») apps') (coreOf now)) (so-far .ready .preds-same)) t;
+    ready = record {
+      holds = e .ready .holds;
+      apps-used = e .ready .apps-used;
+      els-same = e .ready .els-same ∙ so-far .ready .els-same;
+      preds-same = e .ready .preds-same ∙ so-far .ready .preds-same;
+    };
+    count-most = omega (arith, e .count-most, so-far .count-most);
+  }
 
--- The call.
-module _ (g : Sig) (s : model.Structure) where
-  abbrev run : CloseRun
-  run = closeRun g s
-
-  only-met : rule calls.close (machine g s) .causes ≡ metCauses (run .core .met)
-  unfolding rule closeRule
-  only-met = refl
-
-  -- a number is met
-  pub refuses : {n : ℕ} → run .core .met ≡ some n → refusal (machine g s) n ≡ step calls.close (machine g s)
-  refuses e = sym (met-refuses calls.close (machine g s) (run .core .met) only-met _ e)
-
-  -- none is met
-  pub accepts : run .core .met ≡ none → {a : closing.Closed} {t : model.Structure} → a ≡ reportOf run → t ≡ afterClose run s
-      → answers (closed a) (machine g (leaves true (closed a) t)) ≡ step calls.close (machine g s)
-  unfolding rule acceptance closeRule
-  accepts e p q =
-      (λ i. answers (closed (p i)) (machine g (leaves true (closed (p i)) (q i))))
-      ∙ sym (met-accepts calls.close (machine g s) (run .core .met) only-met e)
+  -- the last
+  pub ran-all : rounds-made (coreOf now) (funcAppsIn (now .counts .«func_apps») apps') count
+      ≡ closing.rounds g (predAppsIn (before .counts .«pred_apps») preds) (funcAppsIn (before .counts .«func_apps») apps) (coreOf before)
+      → RoundsAre g (predAppsIn (before .counts .«pred_apps») preds) before apps now apps' count
+  ran-all e = record { is = e; ready = so-far .ready; ran-most = so-far .going .few; count-most = so-far .count-most }

@@ -1,64 +1,79 @@
 -- A round by its passes: the contract of each as an equation of turns, composed along the list of passes.
-use mathlib.Core.Path.{_≡_, refl, sym, ap, _∙_}
+use mathlib.Core.Path.{_≡_, sym, ap, subst, _∙_}
 use mathlib.Core.Bool.{Bool, false, _||_}
 use mathlib.Core.List.{List, [], _∷_}
-use Prim.Native.Nat.{ℕ, _+_}
+use Prim.Native.Nat.{ℕ}
 use native.Mathlib.Omega.{arith}
 use lib.Dec.{ltb}
-use Rattle.unification.specs.Roots.{linksOf}
 use Rattle.signature.specs.Model.{Sig}
-use Rattle.semantics.specs.Structure.{FuncApp, PredApp, Pair, maxPairs}
+use Rattle.semantics.specs.Structure.{FuncApp, PredApp, maxPairs}
 use Rattle.semantics.specs.Types as types
 use Rattle.semantics.specs.Types.{drain, imposeAll, grew, with-pairs}
 use Rattle.semantics.specs.Close as closing
 use Rattle.semantics.specs.Close.{rewriting, enterAll, demands, turn, drained, drainPass, rewrote, functionalityPass, typed, typingPass, Pass, passes}
 use Rattle.semantics.specs.Close.{runPasses}
 use Rattle.semantics.proofs.Queues.{drain-pairs}
-use Rattle.apps.specs.View.{funcAppsOf}
-use Rattle.merging.specs.declared.Core.{Core}
-use Rattle.merging.specs.declared.Worked.{Worked}
-use Rattle.rewriting.specs.declared.Rewritten as code
-use Rattle.merging.specs.View.{coreOf, Passes}
-use Rattle.rewriting.specs.View.{rewrittenOf, nothing}
+use Rattle.app_rows.specs.View.{funcAppsIn, predAppsIn}
+use Rattle.el_rows.specs.View.{linksIn}
+use Rattle.merging.specs.declared.Tally.{Tally}
+use Rattle.merging.specs.View.{Lent, lent, coreOf, LentHeld, Passes, workOf}
+use Rattle.merging.proofs.Laws.{els-kept, func-apps-kept, pred-apps-kept}
+use Rattle.rewriting.specs.View.{Enters}
 use Rattle.typing.specs.Bounds.{allDemands}
 use Rattle.close.specs.View.{RoundIs}
-use Rattle.merging.proofs.Laws.{counts}
-use Rattle.close.proofs.Laws.{ltb-more, grew-more}
 
--- the core with the pairs that `functionality` queued
-abbrev pub requeued : Core → code.Rewritten → Core
-requeued now r = record { unification = now .unification; marks = now .marks; facts = now .facts; pairs = r .pairs; met = now .met }
+-- What `functionality` leaves: the tables as they were, with other applications and pairs.
+
+-- the tables after it
+abbrev pub requeued : Lent → List (List ℕ) → Tally → Lent
+requeued now pairs r = lent (now .els) (now .facts) pairs r
+
+module _ {ls : List ℕ} {c : Tally} {apps apps' pairs : List (List ℕ)} {r : Tally} (e : Enters ls c apps apps' pairs r) where
+  pub requeued-counted : workOf r ≡ workOf c
+  requeued-counted = ap (λ (n : Tally). workOf n) (e .counts)
+
+  pub requeued-els : r .els ≡ c .els
+  requeued-els = ap (λ (n : Tally). n .els) (e .counts)
+
+  pub requeued-preds : r .«pred_apps» ≡ c .«pred_apps»
+  requeued-preds = ap (λ (n : Tally). n .«pred_apps») (e .counts)
+
+  pub requeued-holds : {els facts before : List (List ℕ)} → LentHeld (lent els facts before c) → LentHeld (lent els facts pairs r)
+  requeued-holds {els} {facts} h =
+      subst (λ (n : Tally). LentHeld (lent els facts pairs n)) (sym (e .counts)) (record {
+        els-held = record { long = h .els-held .long; few = h .els-held .few; unmarked = h .els-held .unmarked };
+        facts-held = record { long = h .facts-held .long; few = h .facts-held .few; sorted = h .facts-held .sorted };
+        pairs-held = record { long = e .pairs-long; few = e .pairs-few };
+      })
 
 module _ (g : Sig) (preds : List PredApp) where
-  -- What each pass leaves, as a turn: b says whether one before it reported work, and m merges and a insertions were counted before it.
+  -- What each pass leaves, as a turn: b says whether one before it reported work.
 
-  drain-is : (before : Core) (apps : List FuncApp) (d : Worked) → Passes before d maxPairs drain → (b : Bool) (m a : ℕ)
-      → turn (coreOf (d .core) (d .merges + m) (d .added + a)) apps (b || ltb 0 (d .merges)) ≡ drainPass g preds (turn (coreOf before m a) apps b)
+  drain-is : {before now : Lent} → Passes before now maxPairs drain → (apps : List FuncApp) (b : Bool)
+      → turn (coreOf now) apps (b || ltb (before .counts .merges) (now .counts .merges)) ≡ drainPass g preds (turn (coreOf before) apps b)
   unfolding drainPass drained
-  drain-is before apps d e b m a = λ i. turn (e .is m a i) apps (b || merged i)
-    where
-      merged : ltb 0 (d .merges) ≡ ltb m (drain (coreOf before m a) .merges)
-      merged = sym (ltb-more m (d .merges) (d .merges + m) refl) ∙ (λ i. ltb m (e .is m a i .merges))
+  drain-is {before} e apps b = λ i. turn (e .is i) apps (b || ltb (before .counts .merges) (e .is i .merges))
 
-  functionality-is : (now : Core) (apps : List FuncApp) (r : code.Rewritten) → rewrittenOf r ≡ enterAll (linksOf (now .unification)) apps nothing
-      → (b : Bool) (m a : ℕ) → coreOf now m a .pairs ≡ []
-      → turn (coreOf (requeued now r) m a) (funcAppsOf (r .«func_apps»)) (b || r .queued) ≡ functionalityPass g preds (turn (coreOf now m a) apps b)
+  functionality-is : (now : Lent) {rows rows' pairs : List (List ℕ)} {r : Tally}
+      → Enters (linksIn (now .counts .els) (now .els)) (now .counts) rows rows' pairs r → coreOf now .pairs ≡ []
+      → {apps : List FuncApp} → funcAppsIn (now .counts .«func_apps») rows ≡ apps → (b : Bool)
+      → turn (coreOf (requeued now pairs r)) (funcAppsIn (r .«func_apps») rows') (b || ltb 0 (r .pairs))
+      ≡ functionalityPass g preds (turn (coreOf now) apps b)
   unfolding functionalityPass rewrote
-  functionality-is now apps r e b m a none = λ i. turn (with-pairs (all i .pairs) (coreOf now m a)) (all i .apps) (b || all i .queued)
-    where
-      all : rewrittenOf r ≡ enterAll (linksOf (now .unification)) apps (rewriting [] (coreOf now m a .pairs) false)
-      all = e ∙ sym (ap (λ (ps : List Pair). enterAll (linksOf (now .unification)) apps (rewriting [] ps false)) none)
+  functionality-is now {rows} {rows'} {pairs} {r} e none {apps} same b =
+      let ls : List ℕ = linksIn (now .counts .els) (now .els) in
+      let all : rewriting (funcAppsIn (r .«func_apps») rows') (coreOf (requeued now pairs r) .pairs) (ltb 0 (r .pairs))
+      ≡ enterAll ls apps (rewriting [] (coreOf now .pairs) false) = e .is ∙ (λ i. enterAll ls (same i) (rewriting [] (sym none i) false)) in
+      (λ i. turn (coreOf (requeued now pairs (e .counts i))) (funcAppsIn (r .«func_apps») rows') (b || ltb 0 (r .pairs)))
+      ∙ (λ i. turn (with-pairs (all i .pairs) (coreOf now)) (all i .apps) (b || all i .queued))
 
-  typing-is : (now : Core) (apps : List FuncApp) (t : Worked) → Passes now t allDemands (imposeAll (demands g apps preds)) → (b : Bool) (m a : ℕ)
-      → turn (coreOf (t .core) (t .merges + m) (t .added + a)) apps (b || ltb 0 (t .merges + t .added))
-      ≡ typingPass g preds (turn (coreOf now m a) apps b)
-  unfolding typingPass typed
-  typing-is now apps t e b m a = λ i. turn (e .is m a i) apps (b || grows i)
-    where
-      grows : ltb 0 (t .merges + t .added) ≡ grew (coreOf now m a) (imposeAll (demands g apps preds) (coreOf now m a))
-      grows =
-          sym (grew-more (coreOf now m a) (coreOf (t .core) (t .merges + m) (t .added + a)) (t .merges) (t .added) refl refl)
-          ∙ ap (grew (coreOf now m a)) (e .is m a)
+  typing-is : {before now : Lent} {apps : List FuncApp} {given : List PredApp} → Passes before now allDemands (imposeAll (demands g apps given))
+      → given ≡ preds → (b : Bool)
+      → turn (coreOf now) apps (b || ltb (workOf (before .counts)) (workOf (now .counts))) ≡ typingPass g preds (turn (coreOf before) apps b)
+  unfolding typingPass typed grew
+  typing-is {before} {now} {apps} e same b =
+      let all : coreOf now ≡ imposeAll (demands g apps preds) (coreOf before) = e .is ∙ (λ i. imposeAll (demands g apps (same i)) (coreOf before)) in
+      λ i. turn (all i) apps (b || grew (coreOf before) (all i))
 
   -- The list.
 
@@ -70,24 +85,34 @@ module _ (g : Sig) (preds : List PredApp) where
   unfolding runPasses
   no-pass e = e
 
-  module _ (apps : List FuncApp) (before : Core) (d t : Worked) (r : code.Rewritten) (drains : Passes before d maxPairs drain)
-      (rewrites : rewrittenOf r ≡ enterAll (linksOf (d .core .unification)) apps nothing)
-      (demanded : Passes (requeued (d .core) r) t allDemands (imposeAll (demands g (funcAppsOf (r .«func_apps»)) preds))) where
-    pub round-is : (worked : Bool) → worked ≡ ((ltb 0 (d .merges) || r .queued) || ltb 0 (t .merges + t .added))
-        → RoundIs g preds apps before
-        (record { core = t .core; «func_apps» = r .«func_apps»; merges = d .merges + t .merges; added = d .added + t .added; worked = worked })
-    unfolding closing.round passes
-    round-is worked e = record {
-      is = λ m a.
-          let k = d .merges + m in
-          let l = d .added + a in
-          let none : coreOf (d .core) k l .pairs ≡ [] = ap (λ (w : types.Core). w .pairs) (drains .is m a) ∙ drain-pairs (coreOf before m a) in
-          let sums : coreOf (t .core) ((d .merges + t .merges) + m) ((d .added + t .added) + a) ≡ coreOf (t .core) (t .merges + k) (t .added + l) =
-          counts (t .core) (omega arith) (omega arith) in
-          by-pass drainPass _ (drain-is before apps d drains false m a)
-          (by-pass functionalityPass _ (functionality-is (d .core) apps r rewrites (ltb 0 (d .merges)) k l none)
-          (by-pass typingPass _ (typing-is (requeued (d .core) r) (funcAppsOf (r .«func_apps»)) t demanded (ltb 0 (d .merges) || r .queued) k l)
-          (no-pass (λ i. turn (sums i) (funcAppsOf (r .«func_apps»)) (e i)))));
-      merges-most = omega (arith, drains .merges-most, demanded .merges-most);
-      added-most = omega (arith, drains .added-most, demanded .added-most);
-    }
+-- The round.
+module _ (g : Sig) (preds : List (List ℕ)) {before drained now : Lent} {apps apps' pairs : List (List ℕ)} {r : Tally}
+    (drains : Passes before drained maxPairs drain)
+    (rewrites : Enters (linksIn (drained .counts .els) (drained .els)) (drained .counts) apps apps' pairs r)
+    (demanded : Passes (requeued drained pairs r) now allDemands
+    (imposeAll (demands g (funcAppsIn (r .«func_apps») apps') (predAppsIn (r .«pred_apps») preds)))) where
+  same-preds : r .«pred_apps» ≡ before .counts .«pred_apps»
+  same-preds = requeued-preds rewrites ∙ pred-apps-kept drains
+
+  pub round-is : {worked : Bool}
+      → worked ≡ ((ltb (before .counts .merges) (drained .counts .merges) || ltb 0 (r .pairs)) || ltb (workOf r) (workOf (now .counts)))
+      → RoundIs g (predAppsIn (before .counts .«pred_apps») preds) before apps now apps' worked
+  unfolding closing.round passes
+  round-is e =
+      let ps : List PredApp = predAppsIn (before .counts .«pred_apps») preds in
+      let empty : coreOf drained .pairs ≡ [] = ap (λ (w : types.Core). w .pairs) (drains .is) ∙ drain-pairs (coreOf before) in
+      let same-apps = ap (λ (n : ℕ). funcAppsIn n apps) (func-apps-kept drains) in
+      let used : now .counts .«func_apps» ≡ r .«func_apps» = func-apps-kept demanded in record {
+        is =
+            by-pass g ps drainPass _ (drain-is g ps drains (funcAppsIn (before .counts .«func_apps») apps) false)
+            (by-pass g ps functionalityPass _ (functionality-is g ps drained rewrites empty same-apps _)
+            (by-pass g ps typingPass _ (typing-is g ps demanded (ap (λ (n : ℕ). predAppsIn n preds) same-preds) _)
+            (no-pass g ps (λ i. turn (coreOf now) (funcAppsIn (used i) apps') (e i)))));
+        ready = record {
+          holds = demanded .holds;
+          apps-used = (rw used (rewrites .apps-few), rewrites .apps-long);
+          els-same = els-kept demanded ∙ requeued-els rewrites ∙ els-kept drains;
+          preds-same = pred-apps-kept demanded ∙ same-preds;
+        };
+        count-most = omega (arith, demanded .count-most, requeued-counted rewrites, drains .count-most);
+      }

@@ -208,7 +208,7 @@ module _ (κs : Lfts 1) (bytes : _) (r : Responded) (ran : run-fn.Learnt κs (by
   pub run-then-close-conserves : (z : Stepped) (c : Closed) → close-fn.Learnt tt given z given → answerOf [] (z .answer) ≡ closed c
       → anyMarked (history (callsIn (now bytes) ++ (calls.close ∷ [])) .book .marks) ≡ false
       → Conserved (history (callsIn (now bytes) ++ (calls.close ∷ [])) .book) (linksOf (z .structure .unification)) (c ∷ [])
-  run-then-close-conserves z c did ok = then-conserves calls.close (c ∷ []) z did (closes (ap (λ (s : Step). s .answer) (sym did) ∙ ok))
+  run-then-close-conserves z c did ok = then-conserves calls.close (c ∷ []) z (did .0) (closes (ap (λ (s : Step). s .answer) (sym (did .0)) ∙ ok))
 
   pub run-then-settle-conserves : (z : Stepped) (t : Totals) → settle-fn.Learnt tt given z given → answerOf [] (z .answer) ≡ summed t
       → anyMarked (history (callsIn (now bytes) ++ (calls.settle ∷ [])) .book .marks) ≡ false

@@ -33,7 +33,7 @@ module _ (κs : Lfts 1) (bytes : _) (r : Responded) (ran : run-fn.Learnt κs (by
   nothing says = settled-closes-at (callsIn (now bytes)) (machineOf (r .machine)) (sym (left κs bytes r ran)) (sym says)
 
   pub run-then-close-unchanged : SaysSettledAfter true → (z : Stepped) → close-fn.Learnt tt (given κs bytes r ran) z (given κs bytes r ran) → answerOf [] (z .answer) ≡ closed noChange
-  run-then-close-unchanged says z did = ap (λ (s : Step). s .answer) did ∙ nothing says .closes
+  run-then-close-unchanged says z did = ap (λ (s : Step). s .answer) (did .0) ∙ nothing says .closes
 
   pub run-then-settle-unchanged : SaysSettledAfter true → (z : Stepped) → settle-fn.Learnt tt (given κs bytes r ran) z (given κs bytes r ran)
       → answerOf [] (z .answer) ≡ summed (totals 1 0)

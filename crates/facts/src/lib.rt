@@ -8,7 +8,7 @@ ghost use mathlib.Core.Path.{_≡_};
 ghost use mathlib.Core.List.{_++_, [], _∷_};
 ghost use Prim.Native.Nat.{_+_, _≤_, _<_};
 ghost use lib.ListN.{take, drop};
-ghost use Rattle.ids.specs.Table.{Sized, goesLast, positionFrom, insertOf, pushOf, lenOf};
+ghost use Rattle.ids.specs.Table.{Sized, positionFrom, insertOf, pushOf, lenOf};
 ghost use Rattle.semantics.specs.Structure.{maxFacts, maxImpositions, compareFact};
 ghost use Rattle.semantics.specs.Calls.{isImposed};
 ghost use Rattle.facts.specs.View.{newFact, factOf, factsOf, inserted, impositionsOf};
@@ -67,23 +67,6 @@ impl Fact {
                     p.compare(q)
                 }
             },
-        }
-    }
-
-    // Whether it goes after `last`, the last of so many entries in order, where there is room.
-    pub fn goes_last(self, count: usize, last: Fact) -> bool
-        ensures { λ r. ⌜ r ≡ goesLast compareFact maxFacts count (factOf last) (factOf self) ⌝ }
-    {
-        if Facts::MAX_LEN <= count {
-            return false;
-        }
-        if count == 0 {
-            return true;
-        }
-        match last.compare(self) {
-            Ordering::Less => true,
-            Ordering::Equal => false,
-            Ordering::Greater => false,
         }
     }
 }

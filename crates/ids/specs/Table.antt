@@ -5,7 +5,7 @@ use mathlib.Core.Bool.{Bool, true, false}
 use mathlib.Core.List.{List, [], _∷_, _++_}
 use mathlib.Core.Option.{Option, some, none}
 use lib.ListN.{length}
-use lib.Dec.{leb, ltb, eqb}
+use lib.Dec.{leb, ltb}
 use Rattle.ids.specs.declared.Ordering.{Ordering}
 use Rattle.ids.specs.declared.Ordering.the-variants.{Less, Equal, Greater}
 use Rattle.ids.specs.declared.Place.{Place}
@@ -62,15 +62,6 @@ pushOf cap ys x = elim (ltb (length ys) cap) [ true ↦ ys ++ (x ∷ []) | false
 -- the length that a table says after a change: how many entries it holds where it grew, else what it said before
 unfoldable pub lenOf : {A : Type 0} → ℕ → List A → List A → ℕ
 lenOf len before after = elim (ltb (length before) (length after)) [ true ↦ length after | false ↦ len ]
-
--- whether x goes after y, the last of a sorted table's n entries: there is room, and y is smaller or there is none.
--- It serves the proofs of loops that fill a table, and no public promise names it.
-unfoldable pub goesLast : {A : Type 0} → (A → A → Ordering) → ℕ → ℕ → A → A → Bool
-goesLast cmp cap n y x =
-    elim (ltb n cap) [
-      | true ↦ elim (eqb n 0) [ true ↦ true | false ↦ elim (cmp y x) [ Less ↦ true | Equal ↦ false | Greater ↦ false ] ]
-      | false ↦ false
-    ]
 
 -- each entry rewritten by f into the table `done`, in order: of entries that become equal the first stays
 unfoldable pub rewriteInto : {A : Type 0} → (A → A → Ordering) → (A → A) → List A → List A → List A

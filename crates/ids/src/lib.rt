@@ -2,7 +2,6 @@
 ghost use mathlib.Core.Path.{_≡_};
 ghost use mathlib.Core.Bool.{_&&_, _||_};
 ghost use mathlib.Core.List.{[]};
-ghost use Prim.Native.Nat.{_-_};
 ghost use Rattle.ids.specs.Answers.{_if_};
 ghost use Rattle.ids.specs.Judge.{verdictOf, orIf};
 ghost use Rattle.ids.specs.Limits.{maxList};
@@ -120,16 +119,6 @@ pub fn compare_numbers(a: u16, b: u16) -> Ordering
         return Ordering::Greater;
     }
     Ordering::Equal
-}
-
-// The index of the last of n entries; 0 where there are none.
-pub fn last_index(n: usize) -> usize
-    ensures { λ r. ⌜ r ≡ n - 1 ⌝ }
-{
-    if n == 0 {
-        return 0;
-    }
-    n - 1
 }
 
 impl ElIds {

@@ -1,59 +1,79 @@
 -- Laws of the passes that impose facts: what each definition does with an entry.
 use mathlib.Core.Path.{_≡_, refl, sym, ap, _∙_}
 use mathlib.Core.Bool.{Bool, true, false, not, _||_}
-use mathlib.Core.List.{List, [], _∷_}
+use mathlib.Core.List.{List, [], _∷_, _++_}
 use mathlib.Core.Option.{some}
-use Prim.Native.Nat.{ℕ, _+_, _≤_, _<_}
-use native.Mathlib.Nat.{add-comm, zero-add}
+use Prim.Native.Nat.{ℕ, _+_, _≤_, _<_, min, max}
 use native.Mathlib.Numerals.{add-one}
 use native.Mathlib.Omega.{arith}
-use lib.ListN.{length, drop, getD}
-use lib.Dec.{eqb, leb}
-use borrow.Author.Tests.{eq-eqb, ne-eqb, leb-true, leb-false, lt-ltb, le-ltb}
+use lib.ListN.{length, take, drop, getD}
+use lib.Dec.{eqb}
+use borrow.Author.Tests.{eq-eqb, ne-eqb, lt-ltb, le-ltb}
 use Rattle.ids.specs.Answers.{tooManyFacts}
 use Rattle.ids.specs.Ids.{elOf, elsOf}
-use Rattle.ids.specs.Table.{Insertion, present, insertOf}
+use Rattle.ids.specs.Table.{positionFrom, present, placed, rewriteInto}
+use Rattle.ids.specs.Sorted.{Sorted}
+use Rattle.ids.specs.declared.Place.the-variants.{Before, At}
 use Rattle.ids.specs.declared.ElId.{ElId}
 use Rattle.ids.specs.declared.ElIds.{ElIds}
 use Rattle.ids.proofs.Answers.{and-right}
-use Rattle.ids.proofs.Tables.{insert-present, insert-full, insert-new}
-use Rattle.ids.proofs.Views.{view-next, view-done}
-use Rattle.unification.specs.Roots.{linksOf, FindM, findOf}
-use Rattle.semantics.specs.Structure.{Fact, pair, maxFacts, compareFact, canonicalFact}
+use Rattle.ids.proofs.Sorted.{placed-sorted}
+use Rattle.ids.proofs.Tables.{at-present, before-spot}
+use Rattle.ids.proofs.Views.{length-view, view-cons, view-nil, view-placed, view-next, view-done}
+use Rattle.rows.specs.Table.{Placed, Inserted}
+use Rattle.unification.specs.Roots.{rootOf}
+use Rattle.semantics.specs.Structure.{Fact, Pair, pair, maxFacts, compareFact, canonicalFact}
 use Rattle.semantics.specs.Types as types
-use Rattle.semantics.specs.Types.{core, with-pairs, with-added, firstMet, with-met, marked, join, drainPairs, drain, refineRoots, refine, refineParents}
-use Rattle.semantics.specs.Types.{refineAll, insertFact, insertCanonical, concreteTypesOf, impose, imposeAll}
+use Rattle.semantics.specs.Types.{core, with-pairs, firstMet, marked, merge, joinRoots, join, drainPairs, drain, refineRoots, refine, refineParents}
+use Rattle.semantics.specs.Types.{refineAll, insertFact, insertCanonical, factsAt, concreteTypesOf, impose, imposeAll}
+use Rattle.semantics.proofs.Orders.{fact-ordered}
 use Rattle.facts.specs.declared.Fact as code
-use Rattle.facts.specs.declared.Facts.{Facts}
 use Rattle.facts.specs.declared.Impositions.{Impositions}
-use Rattle.facts.specs.declared.InsertedFact.{InsertedFact}
-use Rattle.facts.specs.View.{factOf, factsOf, inserted, impositionsOf}
-use Rattle.equalities.specs.View.{pairsOf}
-use Rattle.merging.specs.declared.Core.{Core}
-use Rattle.merging.specs.View.{coreOf, marksOf, metOf, Toward}
-use Rattle.merging.proofs.Laws.{counts}
+use Rattle.facts.specs.View.{factOf, impositionsOf}
+use Rattle.fact_rows.specs.View.{factIn, factsIn}
+use Rattle.merging.specs.declared.Tally.{Tally}
+use Rattle.merging.specs.View.{lent, metOf, coreOf, ElsHeld, FactsHeld, PairsHeld, LentHeld}
+use Rattle.merging.proofs.Laws.{idle}
+use Rattle.imposing.specs.View.{TypesOf, Inserts, refined}
 
--- Two parents, by the finds of their roots.
-module _ (p q : ℕ) (w : types.Core) {x y : FindM} (first : x ≡ findOf (w .links) p) (second : y ≡ findOf (w .links) q) where
-  refine-roots : refineRoots (x .root) (y .root) w ≡ refine p q w
-  unfolding refine findOf
-  refine-roots = λ i. refineRoots (first i .root) (second i .root) w
+-- Two parents.
+
+-- a pair joined before the queue is drained is drained first
+join-drained : (p : Pair) (w : types.Core) → drain (join p w) ≡ drain (with-pairs (p ∷ w .pairs) w)
+unfolding join joinRoots merge drain drainPairs
+join-drained p w = go (eqb a b)
+  where
+    a : ℕ
+    a = rootOf (w .links) (p .lhs)
+
+    b : ℕ
+    b = rootOf (w .links) (p .rhs)
+
+    go : (t : Bool) → drain (elim t [ true ↦ w | false ↦ merge (min a b) (max a b) w ])
+        ≡ drainPairs (w .pairs) (elim t [ true ↦ with-pairs [] w | false ↦ merge (min a b) (max a b) (with-pairs [] w) ])
+    go true = refl
+    go false = refl
+
+-- by their roots
+module _ (p q : ℕ) (w : types.Core) {a b : ℕ} (first : a ≡ rootOf (w .links) p) (second : b ≡ rootOf (w .links) q) where
+  refine-roots : refineRoots a b w ≡ refine p q w
+  unfolding refine
+  refine-roots = λ i. refineRoots (first i) (second i) w
 
   -- they have one root
-  pub refine-same : x .root ≡ y .root → w ≡ refine p q w
+  pub refine-same : a ≡ b → w ≡ refine p q w
   unfolding refineRoots
-  refine-same e = sym (rw (eq-eqb (x .root) (y .root) e, refineRoots)) ∙ refine-roots
+  refine-same e = sym (rw (eq-eqb a b e, refineRoots)) ∙ refine-roots
 
   -- neither root is marked
-  pub refine-unmarked : (marked (w .marks) (x .root) || marked (w .marks) (y .root)) ≡ false → w ≡ refine p q w
+  pub refine-unmarked : (marked (w .marks) a || marked (w .marks) b) ≡ false → w ≡ refine p q w
   unfolding refineRoots
-  refine-unmarked n = sym (rw (n, and-right (not (eqb (x .root) (y .root))) {b = false} refl, refineRoots)) ∙ refine-roots
+  refine-unmarked n = sym (rw (n, and-right (not (eqb a b)) {b = false} refl, refineRoots)) ∙ refine-roots
 
   -- the new pair is drained, then the queue
-  pub refine-merged : (x .root ≡ y .root → ⊥) → (marked (w .marks) (x .root) || marked (w .marks) (y .root)) ≡ true
-      → drainPairs (w .pairs) (join (pair (x .root) (y .root)) (with-pairs [] w)) ≡ refine p q w
-  unfolding refineRoots drain drainPairs
-  refine-merged d t = sym (rw (ne-eqb (x .root) (y .root) d, t, refineRoots)) ∙ refine-roots
+  pub refine-merged : (a ≡ b → ⊥) → (marked (w .marks) a || marked (w .marks) b) ≡ true → drain (join (pair a b) w) ≡ refine p q w
+  unfolding refineRoots
+  refine-merged d t = join-drained (pair a b) w ∙ sym (rw (ne-eqb a b d, t, refineRoots)) ∙ refine-roots
 
 -- Two lists of parents.
 module _ (ps qs : ElIds) (i : ℕ) where
@@ -64,79 +84,108 @@ module _ (ps qs : ElIds) (i : ℕ) where
   parents-next d e h k w =
       λ j. refineParents (sym (view-next elOf (ps .len) (ps .ids) i d h) j) (sym (view-next elOf (qs .len) (qs .ids) i e k) j) w
 
-  -- the shorter list is passed
+  -- the second list is passed
   pub parents-short : length (elsOf qs) ≤ i → (w : types.Core)
       → refineParents (drop (i + 1) (elsOf ps)) (drop (i + 1) (elsOf qs)) w ≡ refineParents (drop i (elsOf ps)) (drop i (elsOf qs)) w
   unfolding refineParents
-  parents-short h w =
-      let more : length (elsOf qs) ≤ i + 1 = omega arith in
-      ap (λ (l : List ℕ). refineParents (drop (i + 1) (elsOf ps)) l w) (view-done elOf (qs .len) (qs .ids) (i + 1) more)
-      ∙ no-parents (drop (i + 1) (elsOf ps))
-      ∙ sym (ap (λ (l : List ℕ). refineParents (drop i (elsOf ps)) l w) (view-done elOf (qs .len) (qs .ids) i h) ∙ no-parents (drop i (elsOf ps)))
+  parents-short h w = none (i + 1) (omega arith) ∙ sym (none i h)
     where
       no-parents : (l : List ℕ) → refineParents l [] w ≡ w
       no-parents [] = refl
       no-parents (x ∷ xs) = refl
 
+      none : (j : ℕ) → length (elsOf qs) ≤ j → refineParents (drop j (elsOf ps)) (drop j (elsOf qs)) w ≡ w
+      none j past =
+          ap (λ (l : List ℕ). refineParents (drop j (elsOf ps)) l w) (view-done elOf (qs .len) (qs .ids) j past) ∙ no-parents (drop j (elsOf ps))
+
   pub parents-done : length (elsOf ps) ≤ i → (w : types.Core) → w ≡ refineParents (drop i (elsOf ps)) (drop i (elsOf qs)) w
   unfolding refineParents
   parents-done h w = ap (λ (l : List ℕ). refineParents l (drop i (elsOf qs)) w) (sym (view-done elOf (ps .len) (ps .ids) i h))
 
--- The types of an element, against a fact.
-module _ (t : Facts) (f : Fact) (i : ℕ) where
-  all-next : (d : code.Fact) → i < length (factsOf t) → (w : types.Core)
-      → refineAll (factOf (getD (t .items) i d) ∷ drop (i + 1) (factsOf t)) f w ≡ refineAll (drop i (factsOf t)) f w
-  all-next d h w = ap (λ (l : List Fact). refineAll l f w) (sym (view-next factOf (t .len) (t .items) i d h))
+-- The facts of an element's class that are taken as roots: i of n rows are done, into the first k of `types`.
+pub record Taking (ls : List ℕ) (root n : ℕ) (rows types : List (List ℕ)) (i k : ℕ) : Type 0 where
+  pub few : k ≤ i
+  pub within : i ≤ n
+  pub sorted : Sorted compareFact (factsIn k types)
+  pub rest : rewriteInto compareFact (canonicalFact ls) (factsAt root (drop i (factsIn n rows))) (factsIn k types)
+      ≡ rewriteInto compareFact (canonicalFact ls) (factsAt root (factsIn n rows)) []
+  pub long : length types ≡ maxFacts
 
-  -- a fact of the same type
-  pub all-same : (d : code.Fact) → i < length (factsOf t) → factOf (getD (t .items) i d) .typ ≡ f .typ → (w : types.Core)
-      → refineAll (drop (i + 1) (factsOf t)) f (refineParents (factOf (getD (t .items) i d) .parents) (f .parents) w)
-      ≡ refineAll (drop i (factsOf t)) f w
-  unfolding refineAll
-  all-same d h e w = sym (rw (eq-eqb (factOf (getD (t .items) i d) .typ) (f .typ) e, refineAll)) ∙ all-next d h w
+pub taking-none : (ls : List ℕ) (root n : ℕ) (rows types : List (List ℕ)) → length types ≡ maxFacts → Taking ls root n rows types 0 0
+taking-none ls root n rows types h = record { few = omega arith; within = omega arith; sorted = tt; rest = refl; long = h }
 
-  -- a fact of another type
-  pub all-other : (d : code.Fact) → i < length (factsOf t) → (factOf (getD (t .items) i d) .typ ≡ f .typ → ⊥) → (w : types.Core)
-      → refineAll (drop (i + 1) (factsOf t)) f w ≡ refineAll (drop i (factsOf t)) f w
-  unfolding refineAll
-  all-other d h n w = sym (rw (ne-eqb (factOf (getD (t .items) i d) .typ) (f .typ) n, refineAll)) ∙ all-next d h w
+-- A table of facts, at the row i, which says g.
+module _ (n : ℕ) (rows : List (List ℕ)) (i : ℕ) where
+  module _ (d : List ℕ) {g : Fact} (is : g ≡ factIn (getD rows i d)) (at : i < n) (there : n ≤ length rows) where
+    next-row : g ∷ drop (i + 1) (factsIn n rows) ≡ drop i (factsIn n rows)
+    next-row = ap (λ (x : Fact). x ∷ drop (i + 1) (factsIn n rows)) is ∙ sym (view-cons factIn n rows i d at (omega arith))
 
-  pub all-done : length (factsOf t) ≤ i → (w : types.Core) → w ≡ refineAll (drop i (factsOf t)) f w
-  unfolding refineAll
-  all-done h w = ap (λ (l : List Fact). refineAll l f w) (sym (view-done factOf (t .len) (t .items) i h))
+    -- The types of an element, against a fact f.
+    module _ (f : Fact) where
+      -- a fact of the same type
+      pub all-same : g .typ ≡ f .typ → (w : types.Core)
+          → refineAll (drop (i + 1) (factsIn n rows)) f (refineParents (g .parents) (f .parents) w) ≡ refineAll (drop i (factsIn n rows)) f w
+      unfolding refineAll
+      all-same e w = sym (rw (eq-eqb (g .typ) (f .typ) e, refineAll)) ∙ ap (λ (l : List Fact). refineAll l f w) next-row
+
+      -- a fact of another type
+      pub all-other : (g .typ ≡ f .typ → ⊥) → (w : types.Core)
+          → refineAll (drop (i + 1) (factsIn n rows)) f w ≡ refineAll (drop i (factsIn n rows)) f w
+      unfolding refineAll
+      all-other e w = sym (rw (ne-eqb (g .typ) (f .typ) e, refineAll)) ∙ ap (λ (l : List Fact). refineAll l f w) next-row
+
+    -- The facts of an element's class, taken as roots.
+    module _ (ls : List ℕ) (root : ℕ) {types : List (List ℕ)} {k : ℕ} (so-far : Taking ls root n rows types i k) where
+      from-row : rewriteInto compareFact (canonicalFact ls) (factsAt root (g ∷ drop (i + 1) (factsIn n rows))) (factsIn k types)
+          ≡ rewriteInto compareFact (canonicalFact ls) (factsAt root (factsIn n rows)) []
+      from-row =
+          ap (λ (l : List Fact). rewriteInto compareFact (canonicalFact ls) (factsAt root l) (factsIn k types)) next-row ∙ so-far .rest
+
+      -- a fact of another element
+      pub other-el : (g .el ≡ root → ⊥) → Taking ls root n rows types (i + 1) k
+      unfolding factsAt
+      other-el e = record {
+        few = omega (arith, so-far .few);
+        within = omega arith;
+        sorted = so-far .sorted;
+        rest = rw (ne-eqb (g .el) root e, factsAt) at from-row;
+        long = so-far .long;
+      }
+
+      -- a fact of this one
+      pub this-el : g .el ≡ root → {x : Fact} {types' : List (List ℕ)} {r : ℕ} → x ≡ canonicalFact ls g
+          → Inserted compareFact factIn x k types types' r → Taking ls root n rows types' (i + 1) r
+      unfolding factsAt rewriteInto
+      this-el e {x} q put = record {
+        few = omega (arith, so-far .few, put .most);
+        within = omega arith;
+        sorted = rw (put .is) (placed-sorted fact-ordered x (factsIn k types) (so-far .sorted));
+        rest =
+            ap (rewriteInto compareFact (canonicalFact ls) (factsAt root (drop (i + 1) (factsIn n rows))))
+            (put .is ∙ ap (λ (y : Fact). placed compareFact y (factsIn k types)) q)
+            ∙ (rw (eq-eqb (g .el) root e, factsAt) at from-row);
+        long = put .long ∙ so-far .long;
+      }
+
+  -- all are done
+  module _ (past : n ≤ i) where
+    pub all-done : (f : Fact) (w : types.Core) → w ≡ refineAll (drop i (factsIn n rows)) f w
+    unfolding refineAll
+    all-done f w = ap (λ (l : List Fact). refineAll l f w) (sym (view-nil factIn n rows i past))
+
+    pub taken : (ls : List ℕ) (root el : ℕ) {types : List (List ℕ)} {k : ℕ} → n ≤ maxFacts → root ≡ rootOf ls el → Taking ls root n rows types i k
+        → TypesOf ls (factsIn n rows) el types k
+    unfolding concreteTypesOf factsAt rewriteInto
+    taken ls root el {types} {k} few e so-far = record {
+      is =
+          ap (λ (l : List Fact). rewriteInto compareFact (canonicalFact ls) (factsAt root l) (factsIn k types)) (sym (view-nil factIn n rows i past))
+          ∙ so-far .rest
+          ∙ ap (λ (r : ℕ). rewriteInto compareFact (canonicalFact ls) (factsAt r (factsIn n rows)) []) e;
+      most = omega (arith, so-far .few, so-far .within);
+      long = so-far .long;
+    }
 
 -- A fact inserted.
-
--- what an insertion stays
-unfoldable pub inserting : Insertion Fact → types.Core → types.Core
-inserting g w =
-    elim (g .full) [
-      | true ↦ with-met tooManyFacts w
-      | false ↦ elim (g .grew) [
-        | true ↦ with-added (g .items) w
-        | false ↦ core (w .links) (w .marks) (g .items) (w .pairs) (w .merges) (w .added) (w .met)
-      ]
-    ]
-
-pub insert-is : (f : Fact) (w : types.Core) {g : Insertion Fact} → g ≡ insertOf compareFact f maxFacts (w .facts) → inserting g w ≡ insertFact f w
-unfolding inserting insertFact
-insert-is f w e = ap (λ (g : Insertion Fact). inserting g w) e ∙ go (present compareFact f (w .facts)) refl (leb maxFacts (length (w .facts))) refl
-  where
-    go : (p : Bool) → present compareFact f (w .facts) ≡ p → (q : Bool) → leb maxFacts (length (w .facts)) ≡ q
-        → inserting (insertOf compareFact f maxFacts (w .facts)) w ≡ insertFact f w
-    go true y q k = ap (λ (g : Insertion Fact). inserting g w) (insert-present compareFact f maxFacts (w .facts) y) ∙ sym (rw (y, insertFact))
-    go false y true k =
-        let h = leb-true maxFacts (length (w .facts)) k in
-        ap (λ (g : Insertion Fact). inserting g w) (insert-full compareFact f maxFacts (w .facts) y h)
-        ∙ sym (rw (y, le-ltb (length (w .facts)) maxFacts h, insertFact))
-    go false y false k =
-        let h = leb-false maxFacts (length (w .facts)) k in
-        ap (λ (g : Insertion Fact). inserting g w) (insert-new compareFact f maxFacts (w .facts) y h)
-        ∙ sym (rw (y, lt-ltb (length (w .facts)) maxFacts h, insertFact))
-
--- a core of the code with another table of facts and another number met
-abbrev pub withFacts : Core → Facts → ℕ → Core
-withFacts c t n = record { unification = c .unification; marks = c .marks; facts = t; pairs = c .pairs; met = n }
 
 -- the number first met stays
 pub met-first : (n : ℕ) → n ≡ 0 → metOf tooManyFacts ≡ firstMet tooManyFacts (metOf n)
@@ -145,59 +194,98 @@ met-first n e = ap (λ (k : ℕ). firstMet tooManyFacts (metOf k)) (sym e)
 pub met-again : (n : ℕ) → (n ≡ 0 → ⊥) → metOf n ≡ firstMet tooManyFacts (metOf n)
 met-again n d = let e : metOf n ≡ some n = rw (ne-eqb n 0 d, metOf) in e ∙ sym (ap (firstMet tooManyFacts) e)
 
--- by what the table's insertion gives
-module _ (c : Core) (f : Fact) (r : InsertedFact) (is : inserted r ≡ insertOf compareFact f maxFacts (factsOf (c .facts))) where
-  by-full : (b : Bool) → r .full ≡ b → (m a : ℕ)
-      → inserting (record { grew = r .grew; full = b; items = factsOf (r .facts) }) (coreOf c m a) ≡ insertFact f (coreOf c m a)
-  by-full b e m a =
-      ap (λ (x : Bool). inserting (record { grew = r .grew; full = x; items = factsOf (r .facts) }) (coreOf c m a)) (sym e)
-      ∙ insert-is f (coreOf c m a) is
+-- counts with other numbers of facts and additions, and another number met
+abbrev pub withFacts : Tally → ℕ → ℕ → ℕ → Tally
+withFacts c n a m = record {
+  els = c .els;
+  facts = n;
+  «func_apps» = c .«func_apps»;
+  «pred_apps» = c .«pred_apps»;
+  pairs = c .pairs;
+  «is_sorted» = c .«is_sorted»;
+  «is_marked» = c .«is_marked»;
+  met = m;
+  merges = c .merges;
+  added = a;
+}
 
-  by-grew : r .full ≡ false → (b : Bool) → r .grew ≡ b → (m a : ℕ)
-      → inserting (record { grew = b; full = false; items = factsOf (r .facts) }) (coreOf c m a) ≡ insertFact f (coreOf c m a)
-  by-grew h b e m a =
-      ap (λ (x : Bool). inserting (record { grew = x; full = false; items = factsOf (r .facts) }) (coreOf c m a)) (sym e) ∙ by-full false h m a
+module _ (facts : List (List ℕ)) (c : Tally) (f : Fact) (held : FactsHeld facts c) (k : ℕ) where
+  -- it is there
+  pub known : positionFrom compareFact f 0 (factsIn (c .facts) facts) ≡ At k → Inserts facts c facts c f
+  unfolding insertFact
+  known e els pairs eh ph =
+      idle (lent els facts pairs c) (record { els-held = eh; facts-held = held; pairs-held = ph })
+      (sym (rw (at-present compareFact f k (factsIn (c .facts) facts) e, insertFact)))
 
-  -- it had no room
-  pub refused : (n : ℕ) → r .full ≡ true → metOf n ≡ firstMet tooManyFacts (metOf (c .met))
-      → Toward c (withFacts c (c .facts) n) 0 0 1 (λ w. w) (insertFact f)
-  unfolding inserting
-  refused n h e = record {
-    is = λ m a.
-        (λ i.
-        core (linksOf (c .unification)) (marksOf c) (factsOf (c .facts)) (pairsOf (c .pairs)) (zero-add m i) (zero-add a i) (e i))
-        ∙ by-full true h m a;
-    merges-most = omega arith;
-    added-most = omega arith;
-  }
+  -- it goes before the row k
+  module _ (place : positionFrom compareFact f 0 (factsIn (c .facts) facts) ≡ Before k) where
+    spot : (present compareFact f (factsIn (c .facts) facts) ≡ false) × ((k ≤ length (factsIn (c .facts) facts))
+        × (placed compareFact f (factsIn (c .facts) facts) ≡ take k (factsIn (c .facts) facts) ++ f ∷ drop k (factsIn (c .facts) facts)))
+    spot = before-spot compareFact f k (factsIn (c .facts) facts) place
 
-  -- the table grew
-  pub grown : r .full ≡ false → r .grew ≡ true
-      → Toward c (withFacts c (r .facts) (c .met)) 0 1 1 (λ w. w) (insertFact f)
-  unfolding inserting
-  grown h e = record {
-    is = λ m a. counts (withFacts c (r .facts) (c .met)) (zero-add m) (add-comm 1 a ∙ add-one a) ∙ by-grew h true e m a;
-    merges-most = omega arith;
-    added-most = omega arith;
-  }
+    many : c .facts ≡ length (factsIn (c .facts) facts)
+    many = omega (arith, length-view factIn (c .facts) facts, held .long, held .few)
 
-  -- it was there
-  pub known : r .full ≡ false → r .grew ≡ false
-      → Toward c (withFacts c (r .facts) (c .met)) 0 0 1 (λ w. w) (insertFact f)
-  unfolding inserting
-  known h e = record {
-    is = λ m a. counts (withFacts c (r .facts) (c .met)) (zero-add m) (zero-add a) ∙ by-grew h false e m a;
-    merges-most = omega arith;
-    added-most = omega arith;
-  }
+    pub place-most : k ≤ c .facts
+    place-most = omega (arith, spot .1 .0, many)
+
+    -- the tables hold with other facts
+    holds-still : (facts' : List (List ℕ)) (n a m : ℕ) → FactsHeld facts' (withFacts c n a m) → (els pairs : List (List ℕ))
+        → ElsHeld els c → PairsHeld pairs c → LentHeld (lent els facts' pairs (withFacts c n a m))
+    holds-still facts' n a m fh els pairs eh ph = record {
+      els-held = record { long = eh .long; few = eh .few; unmarked = eh .unmarked };
+      facts-held = fh;
+      pairs-held = record { long = ph .long; few = ph .few };
+    }
+
+    -- there is no room
+    pub no-room : (m : ℕ) → maxFacts ≤ c .facts → metOf m ≡ firstMet tooManyFacts (metOf (c .met))
+        → Inserts facts c facts (withFacts c (c .facts) (c .added) m) f
+    unfolding insertFact
+    no-room m h e els pairs eh ph = record {
+      is =
+          let w = coreOf (lent els facts pairs c) in
+          (λ i. core (w .links) (w .marks) (w .facts) (w .pairs) (w .merges) (w .added) (e i))
+          ∙ sym (rw (spot .0, le-ltb (length (w .facts)) maxFacts (omega (arith, many)), insertFact));
+      holds = holds-still facts (c .facts) (c .added) m (record { long = held .long; few = held .few; sorted = held .sorted }) els pairs eh ph;
+      kept = refl;
+      count-most = omega arith;
+    }
+
+    -- there is
+    pub grown : (facts' : List (List ℕ)) (row : List ℕ) → c .facts < maxFacts → factIn row ≡ f → Placed (c .facts) k row facts facts'
+        → Inserts facts c facts' (withFacts c (c .facts + 1) (c .added + 1) (c .met)) f
+    unfolding insertFact
+    grown facts' row h is put els pairs eh ph = record {
+      is =
+          let w = coreOf (lent els facts pairs c) in
+          (λ i. core (w .links) (w .marks) (now i) (w .pairs) (w .merges) (add-one (w .added) i) (w .met))
+          ∙ sym (rw (spot .0, lt-ltb (length (w .facts)) maxFacts (omega (arith, many)), insertFact));
+      holds = holds-still facts' (c .facts + 1) (c .added + 1) (c .met) (record {
+        long = put .long ∙ held .long;
+        few = omega arith;
+        sorted = λ s. rw now (placed-sorted fact-ordered f (factsIn (c .facts) facts) (held .sorted s));
+      }) els pairs eh ph;
+      kept = refl;
+      count-most = omega arith;
+    }
+      where
+        now : factsIn (c .facts + 1) facts' ≡ placed compareFact f (factsIn (c .facts) facts)
+        now =
+            view-placed factIn (c .facts) facts facts' row (c .facts) k (c .facts + 1) many place-most refl (put .is)
+            ∙ ap (λ (x : Fact). take k (factsIn (c .facts) facts) ++ x ∷ drop k (factsIn (c .facts) facts)) is
+            ∙ sym (spot .1 .1)
 
 -- A fact imposed.
 
 -- the types are taken once
-pub imposed : (f : Fact) (w : types.Core) {ts : List Fact} → ts ≡ concreteTypesOf (w .links) (w .facts) (f .el)
-    → insertCanonical f (refineAll ts f w) ≡ impose f w
-unfolding impose
-imposed f w e = ap (λ (ts : List Fact). insertCanonical f (refineAll ts f w)) e
+pub types-refined : (f : Fact) (w : types.Core) {ts : List Fact} → ts ≡ concreteTypesOf (w .links) (w .facts) (f .el) → refineAll ts f w ≡ refined f w
+unfolding refined
+types-refined f w e = ap (λ (ts : List Fact). refineAll ts f w) e
+
+pub imposed : (f : Fact) (w : types.Core) → insertCanonical f (refined f w) ≡ impose f w
+unfolding impose refined
+imposed f w = refl
 
 -- the fact is inserted as roots
 pub inserted-canonical : (f : Fact) (w : types.Core) {x : Fact} → x ≡ canonicalFact (w .links) f → insertFact x w ≡ insertCanonical f w

@@ -1,2 +1,3 @@
 pub mod Bounds
-pub mod Idle
+pub mod Keeps
+pub mod View

@@ -1,310 +1,304 @@
-// Facts imposed on elements (structure.rs, `impose_concrete_type` and `apply_pending_type_impositions`).
-use equalities::Pair;
-use equalities::Pairs;
+// Facts imposed on elements (structure.rs, `impose_concrete_type` and `apply_pending_type_impositions`), on the tables that a close lends.
+use el_rows::ElRow;
+use fact_rows::FactRow;
 use facts::Fact;
 use facts::Facts;
 use facts::Impositions;
 use ids::ElId;
 use ids::ElIds;
-use ids::Ordering;
+use ids::Place;
 use ids::Refusal;
-use merging::Core;
-use merging::Worked;
-use unification::Unification;
+use ids::TypeId;
+use merging::PairRow;
+use merging::Tally;
 ghost use mathlib.Core.Path.{_≡_};
-ghost use lib.ListN.{take};
+ghost use mathlib.Core.Bool.{_&&_};
+ghost use Prim.Native.Nat.{_≤_};
+ghost use lib.ListN.{length};
+ghost use lib.Dec.{eqb};
 ghost use Rattle.ids.specs.Ids.{elsOf};
-ghost use Rattle.ids.specs.Table.{present};
-ghost use Rattle.unification.specs.Roots.{linksOf};
-ghost use Rattle.semantics.specs.Structure.{compareFact};
-ghost use Rattle.facts.specs.View.{factOf, factsOf, impositionsOf};
-ghost use Rattle.semantics.specs.Types.{anyMarked, refine, refineParents, refineAll, insertFact, impose, imposeAll};
-ghost use Rattle.merging.specs.View.{coreOf, marksOf, Passes};
+ghost use Rattle.semantics.specs.Structure.{maxFacts};
+ghost use Rattle.semantics.specs.Types.{refine, refineParents, impose, imposeAll};
+ghost use Rattle.facts.specs.View.{factOf, impositionsOf};
+ghost use Rattle.fact_rows.specs.View.{factsIn};
+ghost use Rattle.el_rows.specs.View.{linksIn, marksIn};
+ghost use Rattle.merging.specs.View.{lent, ElsHeld, FactsHeld, LentHeld, Room, Passes};
 ghost use Rattle.imposing.specs.Bounds.{onePair, oneList, oneFact, oneImposed, allImpositions};
-ghost use Rattle.imposing.specs.Idle.{keepsPair, keepsParents, keepsTypes, isIdle};
-
-// A pass that finds nothing to do.
-fn idle(core: Core) -> Worked
-    ensures { λ r. ⌜ Passes core r 0 (λ w. w) ⌝ }
-{
-    Worked {
-        core,
-        merges: 0,
-        added: 0,
-    }
-}
-
-// Two parents: where their roots differ and either is marked they are merged, and the whole queue is drained at once.
-fn refine(core: Core, p: ElId, q: ElId) -> Worked
-    ensures { λ r. ⌜ Passes core r onePair (refine (p .0) (q .0)) ⌝ }
-{
-    let u = core.unification;
-    let first = u.find(p);
-    let second = u.find(q);
-    let a = first.root;
-    let b = second.root;
-    if a.0 == b.0 {
-        return idle(core);
-    }
-    if !core.either_marked(a, b) {
-        return idle(core);
-    }
-    let pairs = core.pairs;
-    let mut emptied = core;
-    emptied.pairs = Pairs::new();
-    let joined = emptied.join(Pair::new(a, b));
-    let merged = joined.core;
-    let drained = merged.drain_pairs(pairs);
-    let next = drained.core;
-    Worked {
-        core: next,
-        merges: joined.merges + drained.merges,
-        added: joined.added + drained.added,
-    }
-}
-
-// Parents paired up to the shorter length.
-fn refine_parents(core: Core, ps: ElIds, qs: ElIds) -> Worked
-    ensures { λ r. ⌜ Passes core r oneList (refineParents (elsOf ps) (elsOf qs)) ⌝ }
-{
-    let n = ps.size();
-    let k = qs.size();
-    let mut now = core;
-    let mut merges: u64 = 0;
-    let mut added: u64 = 0;
-    for i in 0..n {
-        if k <= i {
-            continue;
-        }
-        let p = ps.ids[i];
-        let q = qs.ids[i];
-        let refined = refine(now, p, q);
-        let next = refined.core;
-        now = next;
-        merges += refined.merges;
-        added += refined.added;
-    }
-    Worked {
-        core: now,
-        merges,
-        added,
-    }
-}
-
-// The types that an element has, against a fact that is imposed on it.
-fn refine_all(core: Core, types: Facts, fact: Fact) -> Worked
-    ensures { λ r. ⌜ Passes core r oneFact (refineAll (factsOf types) (factOf fact)) ⌝ }
-{
-    let n = types.size();
-    let parents = fact.ct.parents;
-    let mut now = core;
-    let mut merges: u64 = 0;
-    let mut added: u64 = 0;
-    for i in 0..n {
-        let here = types.items[i];
-        if here.ct.typ.0 != fact.ct.typ.0 {
-            continue;
-        }
-        let known = here.ct.parents;
-        let refined = refine_parents(now, known, parents);
-        let next = refined.core;
-        now = next;
-        merges += refined.merges;
-        added += refined.added;
-    }
-    Worked {
-        core: now,
-        merges,
-        added,
-    }
-}
-
-// The fact inserted; number 11 is judged here, after the merges.
-fn insert_fact(core: Core, fact: Fact) -> Worked
-    ensures { λ r. ⌜ Passes core r 1 (insertFact (factOf fact)) ⌝ }
-{
-    let facts = core.facts;
-    let inserted = facts.insert(fact);
-    let mut next = core;
-    if inserted.full {
-        if core.met == 0 {
-            next.met = Refusal::TOO_MANY_FACTS;
-        }
-        return Worked {
-            core: next,
-            merges: 0,
-            added: 0,
-        };
-    }
-    let table = inserted.facts;
-    next.facts = table;
-    if inserted.grew {
-        return Worked {
-            core: next,
-            merges: 0,
-            added: 1,
-        };
-    }
-    Worked {
-        core: next,
-        merges: 0,
-        added: 0,
-    }
-}
-
-// Whether an element in use is marked.
-pub fn any_marked(unification: Unification, marks: [bool; Unification::MAX_ELS]) -> bool
-    ensures { λ r. ⌜ r ≡ anyMarked (take (unification .len) marks) ⌝ }
-{
-    let n = unification.size();
-    for i in 0..n {
-        if marks[i] {
-            return true;
-        }
-    }
-    false
-}
-
-// Whether the fact is stored.
-fn holds(facts: Facts, entry: Fact) -> bool
-    ensures { λ r. ⌜ r ≡ present compareFact (factOf entry) (factsOf facts) ⌝ }
-{
-    let n = facts.size();
-    for i in 0..n {
-        let here = facts.items[i];
-        match here.compare(entry) {
-            Ordering::Less => {
-                continue;
-            }
-            Ordering::Equal => {
-                return true;
-            }
-            Ordering::Greater => {
-                return false;
-            }
-        }
-    }
-    false
-}
+ghost use Rattle.imposing.specs.Keeps.{keepsPair, keepsParents, keepsTypes};
+ghost use Rattle.imposing.specs.View.{FirstOf, TypesOf, Inserts, refined};
 
 // Whether two parents are not merged: their roots are one, or neither is marked.
-fn keeps_pair(core: Core, p: ElId, q: ElId) -> bool
-    ensures { λ r. ⌜ r ≡ keepsPair (linksOf (core .unification)) (marksOf core) (p .0) (q .0) ⌝ }
+fn keeps_pair(els: &[ElRow], n: usize, p: ElId, q: ElId) -> bool
+    requires { ⌜ n ≤ length (now els) ⌝ }
+    ensures { λ r. ⌜ r ≡ keepsPair (linksIn n (now (els .entry))) (marksIn n (now (els .entry))) (p .0) (q .0) ⌝ }
 {
-    let u = core.unification;
-    let first = u.find(p);
-    let second = u.find(q);
-    let a = first.root;
-    let b = second.root;
+    let a = el_rows::find(els, n, p);
+    let b = el_rows::find(els, n, q);
     if a.0 == b.0 {
         return true;
     }
-    if core.either_marked(a, b) {
-        return false;
-    }
-    true
+    !el_rows::either_marked(els, n, a, b)
 }
 
 // Whether no parents of two lists are merged.
-fn keeps_parents(core: Core, ps: ElIds, qs: ElIds) -> bool
-    ensures { λ r. ⌜ r ≡ keepsParents (linksOf (core .unification)) (marksOf core) (elsOf ps) (elsOf qs) ⌝ }
+fn keeps_parents(els: &[ElRow], n: usize, ps: ElIds, qs: ElIds) -> bool
+    requires { ⌜ n ≤ length (now els) ⌝ }
+    ensures { λ r. ⌜ r ≡ keepsParents (linksIn n (now (els .entry))) (marksIn n (now (els .entry))) (elsOf ps) (elsOf qs) ⌝ }
 {
-    let n = ps.size();
+    let size = ps.size();
     let k = qs.size();
-    for i in 0..n {
+    for i in 0..size {
         if k <= i {
             return true;
         }
         let p = ps.ids[i];
         let q = qs.ids[i];
-        if !keeps_pair(core, p, q) {
+        if !keeps_pair(els, n, p, q) {
             return false;
         }
     }
     true
 }
 
-// Whether no type that the element has is refined.
-fn keeps_types(core: Core, fact: Fact) -> bool
-    ensures { λ r. ⌜ r ≡ keepsTypes (linksOf (core .unification)) (marksOf core) (factOf fact) (factsOf (core .facts)) ⌝ }
+// Up to this index every fact is smaller than the key. Where the facts are in order, no later one is.
+fn first_of(facts: &[FactRow], counts: Tally, key: Fact) -> usize
+    requires { ⌜ FactsHeld (now facts) counts ⌝ }
+    ensures { λ r. ⌜ FirstOf (counts .«is_sorted») (factOf key) (factsIn (counts .facts) (now (facts .entry))) r ⌝ }
 {
-    let u = core.unification;
-    let found = u.find(fact.el);
-    let root = found.root.0;
-    let facts = core.facts;
-    let n = facts.size();
+    if !counts.is_sorted {
+        return 0;
+    }
+    match fact_rows::position(facts, counts.facts as usize, key) {
+        Place::At(i) => i,
+        Place::Before(i) => i,
+    }
+}
+
+// Whether a fact is of an element and of a type.
+fn is_of(fact: Fact, el: ElId, typ: TypeId) -> bool
+    ensures { λ r. ⌜ r ≡ (eqb (fact .el .0) (el .0) && eqb (fact .ct .typ .0) (typ .0)) ⌝ }
+{
+    if fact.el.0 != el.0 {
+        return false;
+    }
+    fact.ct.typ.0 == typ.0
+}
+
+// Whether no type that the element has is refined.
+fn keeps_types(els: &[ElRow], facts: &[FactRow], counts: Tally, fact: Fact) -> bool
+    requires { ⌜ ElsHeld (now els) counts × FactsHeld (now facts) counts ⌝ }
+    ensures { λ r. ⌜ r ≡ keepsTypes (linksIn (counts .els) (now (els .entry))) (marksIn (counts .els) (now (els .entry))) (factOf fact)
+        (factsIn (counts .facts) (now (facts .entry))) ⌝ }
+{
+    let n = counts.els as usize;
+    let typ = fact.ct.typ;
     let parents = fact.ct.parents;
-    for i in 0..n {
-        let here = facts.items[i];
-        if here.el.0 != root {
+    let root = el_rows::find(els, n, fact.el);
+    let first = first_of(facts, counts, Fact::new(root, typ, ElIds::new()));
+    for i in first..counts.facts as usize {
+        let here = fact_rows::fact_of(facts[i]);
+        if is_of(here, root, typ) {
+            let known = here.ct.parents;
+            if !keeps_parents(els, n, known, parents) {
+                return false;
+            }
             continue;
         }
+        // In order: no later fact is of this element and type.
+        if counts.is_sorted {
+            return true;
+        }
+    }
+    true
+}
+
+// Two parents: where their roots differ and either is marked they are merged, and the whole queue is drained at once.
+fn refine(
+    els: &mut [ElRow],
+    facts: &mut [FactRow],
+    pairs: &[PairRow],
+    counts: Tally,
+    p: ElId,
+    q: ElId,
+) -> Tally
+    requires { ⌜ LentHeld (lent (now els) (now facts) (now pairs) counts) × Room onePair counts ⌝ }
+    ensures { λ r. ⌜ Passes (lent (now (els .entry)) (now (facts .entry)) (now (pairs .entry)) counts)
+        (lent (now (els .exit)) (now (facts .exit)) (now (pairs .entry)) r) onePair (refine (p .0) (q .0)) ⌝ }
+{
+    let n = counts.els as usize;
+    let a = el_rows::find(els, n, p);
+    let b = el_rows::find(els, n, q);
+    if a.0 == b.0 {
+        return counts;
+    }
+    if !el_rows::either_marked(els, n, a, b) {
+        return counts;
+    }
+    let joined = merging::join(els, facts, counts, a, b);
+    merging::drain_equalities(els, facts, pairs, joined)
+}
+
+// Parents paired up to the shorter length.
+fn refine_parents(
+    els: &mut [ElRow],
+    facts: &mut [FactRow],
+    pairs: &[PairRow],
+    counts: Tally,
+    ps: ElIds,
+    qs: ElIds,
+) -> Tally
+    requires { ⌜ LentHeld (lent (now els) (now facts) (now pairs) counts) × Room oneList counts ⌝ }
+    ensures { λ r. ⌜ Passes (lent (now (els .entry)) (now (facts .entry)) (now (pairs .entry)) counts)
+        (lent (now (els .exit)) (now (facts .exit)) (now (pairs .entry)) r) oneList (refineParents (elsOf ps) (elsOf qs)) ⌝ }
+{
+    let n = ps.size();
+    let k = qs.size();
+    let mut now = counts;
+    for i in 0..n {
+        if k <= i {
+            continue;
+        }
+        let p = ps.ids[i];
+        let q = qs.ids[i];
+        let next = refine(els, facts, pairs, now, p, q);
+        now = next;
+    }
+    now
+}
+
+// The facts of an element's class with parents as roots, each once, in order: gives how many there are.
+fn concrete_types_of(
+    els: &[ElRow],
+    facts: &[FactRow],
+    counts: Tally,
+    el: ElId,
+    types: &mut [FactRow],
+) -> usize
+    requires { ⌜ ElsHeld (now els) counts × (FactsHeld (now facts) counts × (length (now types) ≡ maxFacts)) ⌝ }
+    ensures { λ r. ⌜ TypesOf (linksIn (counts .els) (now (els .entry))) (factsIn (counts .facts) (now (facts .entry))) (el .0) (now (types .exit)) r ⌝ }
+{
+    let n = counts.els as usize;
+    let root = el_rows::find(els, n, el);
+    let mut k: usize = 0;
+    for i in 0..counts.facts as usize {
+        let here = fact_rows::fact_of(facts[i]);
+        if here.el.0 != root.0 {
+            continue;
+        }
+        let entry = el_rows::canonical_fact(els, n, here);
+        k = fact_rows::insert(types, k, entry);
+    }
+    k
+}
+
+// The types that the element has, taken once, against a fact that is imposed on it.
+fn refine_all(
+    els: &mut [ElRow],
+    facts: &mut [FactRow],
+    pairs: &[PairRow],
+    counts: Tally,
+    fact: Fact,
+) -> Tally
+    requires { ⌜ LentHeld (lent (now els) (now facts) (now pairs) counts) × Room oneFact counts ⌝ }
+    ensures { λ r. ⌜ Passes (lent (now (els .entry)) (now (facts .entry)) (now (pairs .entry)) counts)
+        (lent (now (els .exit)) (now (facts .exit)) (now (pairs .entry)) r) oneFact (refined (factOf fact)) ⌝ }
+{
+    let mut types = [[0u16; 8]; Facts::MAX_LEN];
+    let n = concrete_types_of(els, facts, counts, fact.el, &mut types);
+    let parents = fact.ct.parents;
+    let mut now = counts;
+    for i in 0..n {
+        let here = fact_rows::fact_of(types[i]);
         if here.ct.typ.0 != fact.ct.typ.0 {
             continue;
         }
         let known = here.ct.parents;
-        if !keeps_parents(core, known, parents) {
-            return false;
+        let next = refine_parents(els, facts, pairs, now, known, parents);
+        now = next;
+    }
+    now
+}
+
+// The types that the element has refined, where one is: a look that writes nothing comes first, since taking them costs a table.
+fn refine_types(
+    els: &mut [ElRow],
+    facts: &mut [FactRow],
+    pairs: &[PairRow],
+    counts: Tally,
+    fact: Fact,
+) -> Tally
+    requires { ⌜ LentHeld (lent (now els) (now facts) (now pairs) counts) × Room oneFact counts ⌝ }
+    ensures { λ r. ⌜ Passes (lent (now (els .entry)) (now (facts .entry)) (now (pairs .entry)) counts)
+        (lent (now (els .exit)) (now (facts .exit)) (now (pairs .entry)) r) oneFact (refined (factOf fact)) ⌝ }
+{
+    if !counts.is_marked {
+        return counts;
+    }
+    if keeps_types(els, facts, counts, fact) {
+        return counts;
+    }
+    refine_all(els, facts, pairs, counts, fact)
+}
+
+// The fact inserted; number 11 is judged here, after the merges.
+fn insert_fact(facts: &mut [FactRow], counts: Tally, fact: Fact) -> Tally
+    requires { ⌜ FactsHeld (now facts) counts × Room 1 counts ⌝ }
+    ensures { λ r. ⌜ Inserts (now (facts .entry)) counts (now (facts .exit)) r (factOf fact) ⌝ }
+{
+    let n = counts.facts as usize;
+    let found = fact_rows::search(facts, n, counts.is_sorted, fact);
+    let mut next = counts;
+    let Place::Before(at) = found else {
+        return next;
+    };
+    if Facts::MAX_LEN <= n {
+        if counts.met == 0 {
+            next.met = Refusal::TOO_MANY_FACTS;
         }
+        return next;
     }
-    true
+    let row = fact_rows::row_of(fact);
+    fact_rows::place(facts, n, at, row);
+    next.facts = counts.facts + 1;
+    next.added = counts.added + 1;
+    next
 }
 
-// Whether imposing a fact changes nothing, whatever was counted before: it is stored, and no type is refined. The test writes no table.
-pub fn is_idle(core: Core, fact: Fact) -> bool
-    ensures { λ r. ⌜ r ≡ isIdle (factOf fact) (coreOf core 0 0) ⌝ }
+// A fact imposed: the types that the element has are refined, then the fact is inserted, its parents as roots, at the root.
+pub fn impose_concrete_type(
+    els: &mut [ElRow],
+    facts: &mut [FactRow],
+    pairs: &[PairRow],
+    counts: Tally,
+    fact: Fact,
+) -> Tally
+    requires { ⌜ LentHeld (lent (now els) (now facts) (now pairs) counts) × Room oneImposed counts ⌝ }
+    ensures { λ r. ⌜ Passes (lent (now (els .entry)) (now (facts .entry)) (now (pairs .entry)) counts)
+        (lent (now (els .exit)) (now (facts .exit)) (now (pairs .entry)) r) oneImposed (impose (factOf fact)) ⌝ }
 {
-    let u = core.unification;
-    let entry = canonical::canonical_fact(u, fact);
-    let facts = core.facts;
-    if !holds(facts, entry) {
-        return false;
-    }
-    let marks = core.marks;
-    if !any_marked(u, marks) {
-        return true;
-    }
-    keeps_types(core, fact)
-}
-
-pub fn impose_concrete_type(core: Core, fact: Fact) -> Worked
-    ensures { λ r. ⌜ Passes core r oneImposed (impose (factOf fact)) ⌝ }
-{
-    let types = canonical::concrete_types_of(core.unification, core.facts, fact.el);
-    let refined = refine_all(core, types, fact);
-    let now = refined.core;
-    let entry = canonical::canonical_fact(now.unification, fact);
-    let inserted = insert_fact(now, entry);
-    let next = inserted.core;
-    Worked {
-        core: next,
-        merges: refined.merges + inserted.merges,
-        added: refined.added + inserted.added,
-    }
+    let refined = refine_types(els, facts, pairs, counts, fact);
+    let entry = el_rows::canonical_fact(els, refined.els as usize, fact);
+    insert_fact(facts, refined, entry)
 }
 
 // Each imposition is imposed, in queue order.
-pub fn apply_pending_type_impositions(core: Core, impositions: Impositions) -> Worked
-    ensures { λ r. ⌜ Passes core r allImpositions (imposeAll (impositionsOf impositions)) ⌝ }
+pub fn apply_pending_type_impositions(
+    els: &mut [ElRow],
+    facts: &mut [FactRow],
+    pairs: &[PairRow],
+    counts: Tally,
+    impositions: Impositions,
+) -> Tally
+    requires { ⌜ LentHeld (lent (now els) (now facts) (now pairs) counts) × Room allImpositions counts ⌝ }
+    ensures { λ r. ⌜ Passes (lent (now (els .entry)) (now (facts .entry)) (now (pairs .entry)) counts)
+        (lent (now (els .exit)) (now (facts .exit)) (now (pairs .entry)) r) allImpositions (imposeAll (impositionsOf impositions)) ⌝ }
 {
     let n = impositions.size();
-    let mut now = core;
-    let mut merges: u64 = 0;
-    let mut added: u64 = 0;
+    let mut now = counts;
     for i in 0..n {
         let fact = impositions.items[i];
-        if is_idle(now, fact) {
-            continue;
-        }
-        let imposed = impose_concrete_type(now, fact);
-        let next = imposed.core;
+        let next = impose_concrete_type(els, facts, pairs, now, fact);
         now = next;
-        merges += imposed.merges;
-        added += imposed.added;
     }
-    Worked {
-        core: now,
-        merges,
-        added,
-    }
+    now
 }

@@ -1,31 +1,27 @@
--- Laws of one merge: the facts moved, the marks, the links, the roots of a pair; and of the pairs drained from the last to the first.
+-- Laws of one merge: the facts moved, the marks, the roots of a pair; and of the pairs drained from the last to the first.
 use mathlib.Core.Path.{_≡_, refl, sym, ap, _∙_}
-use mathlib.Core.Logic.{⊎-elim}
-use mathlib.Core.Bool.{Bool, false, _&&_}
+use mathlib.Core.Bool.{Bool, false}
 use mathlib.Core.List.{List, [], _∷_, map, map-append, reverse, reverse-append}
-use Prim.Native.Nat.{ℕ, suc, _+_, _-_, _≤_, _<_, min, max}
+use Prim.Native.Nat.{ℕ, zero, suc, _+_, _-_, _≤_, _<_, min, max}
 use native.Mathlib.Omega.{arith}
-use lib.ListN.{length, take, getD, set, length-set, length-take, length-reverse, List·getD-eq-default}
-use lib.Seq.{take-suc, getD-take, take-set-lt, set-out}
+use lib.ListN.{length, take, getD, set}
+use lib.Seq.{take-suc}
 use borrow.Author.Tests.{eq-eqb, ne-eqb}
-use Rattle.ids.specs.Table.{Sized, rewriteInto}
-use Rattle.ids.proofs.Views.{length-view, take-same}
-use Rattle.unification.specs.declared.Unification.{Unification}
-use Rattle.unification.specs.Roots.{maxEls, linksOf, mergedOf, FindM, findOf}
-use Rattle.unification.proofs.Numbers.{less-or}
-use Rattle.unification.proofs.Laws.{merged-less, merged-more, merged-same}
-use Rattle.unification.proofs.Beside.{kept}
+use Rattle.ids.specs.Table.{rewriteInto}
+use Rattle.ids.proofs.Answers.{or-neither, neither}
+use Rattle.ids.proofs.Sorted.{rewrite-sorted}
+use Rattle.rows.specs.Table.{InPlaceRewritten}
+use Rattle.unification.specs.Roots.{rootOf}
 use Rattle.semantics.specs.Structure as model
-use Rattle.semantics.specs.Structure.{Fact, factAt, compareFact, maxPairs}
+use Rattle.semantics.specs.Structure.{Fact, pair, factAt, compareFact}
 use Rattle.semantics.specs.Types as types
-use Rattle.semantics.specs.Types.{core, with-marks, marked, mergedMarks, movedFacts, with-merge, merge, joinRoots, join, drainPairs, with-pairs, drain}
-use Rattle.facts.specs.declared.Facts.{Facts}
-use Rattle.facts.specs.View.{factsOf}
-use Rattle.equalities.specs.declared.Pair.{Pair}
-use Rattle.equalities.specs.declared.Pairs.{Pairs}
-use Rattle.equalities.specs.View.{pairOf, pairsOf}
-use Rattle.merging.specs.declared.Core.{Core}
-use Rattle.merging.specs.View.{marksOf, coreOf, Remarked, movedFact, Passes}
+use Rattle.semantics.specs.Types.{core, anyMarked, marked, mergedMarks, movedFacts, merge, joinRoots, join, drainPairs, drain}
+use Rattle.semantics.proofs.Orders.{fact-ordered}
+use Rattle.fact_rows.specs.View.{factIn, factsIn}
+use Rattle.el_rows.specs.View.{linksIn, Merged}
+use Rattle.merging.specs.declared.Tally.{Tally}
+use Rattle.merging.specs.View.{Lent, lent, coreOf, pairIn, pairsIn, metOf, ElsHeld, FactsHeld, LentHeld, Passes, PassesAnyQueue, movedFact}
+use Rattle.merging.proofs.Laws.{idle, counts-as}
 
 -- Facts.
 
@@ -38,130 +34,156 @@ module _ (keep drop : ℕ) (f : Fact) where
   unfolding movedFact
   unmoved n = sym (rw (ne-eqb (f .el) drop n, movedFact))
 
-pub moved-facts : (keep drop : ℕ) (fs : List Fact) → rewriteInto compareFact (movedFact keep drop) fs [] ≡ movedFacts keep drop fs
+moved-facts : (keep drop : ℕ) (fs : List Fact) → rewriteInto compareFact (movedFact keep drop) fs [] ≡ movedFacts keep drop fs
 unfolding movedFacts movedFact
 moved-facts keep drop fs = refl
 
--- Marks: the array has an entry for each element that there can be, and those in use are as many as the links.
+-- Marks: where there is none, a merge makes none.
 
-module _ (c : Core) (e : ℕ) {n : ℕ} (sized : Sized (linksOf (c .unification)) maxEls n) where
-  module _ (within : e < n) where
-    in-use : e < c .unification .len
-    in-use = omega (arith, sized .is, length-take (c .unification .len) (c .unification .links))
+unmarked-at : (ms : List Bool) (e : ℕ) → anyMarked ms ≡ false → marked ms e ≡ false
+unfolding anyMarked
+unmarked-at [] e h = refl
+unmarked-at (m ∷ ms) zero h = neither m (anyMarked ms) h .0
+unmarked-at (m ∷ ms) (suc e) h = unmarked-at ms e (neither m (anyMarked ms) h .1)
 
-    pub mark-read : getD (c .marks) e false ≡ marked (marksOf c) e
-    mark-read = sym (getD-take (c .unification .len) (c .marks) e false in-use)
+unmarked-set : (ms : List Bool) (e : ℕ) → anyMarked ms ≡ false → anyMarked (set ms e false) ≡ false
+unfolding anyMarked
+unmarked-set [] e h = refl
+unmarked-set (m ∷ ms) zero h = neither m (anyMarked ms) h .1
+unmarked-set (m ∷ ms) (suc e) h = let both = neither m (anyMarked ms) h in or-neither (both .0) (unmarked-set ms e (both .1))
 
-    pub mark-stored : (mark : Bool) → take (c .unification .len) (set (c .marks) e mark) ≡ set (marksOf c) e mark
-    mark-stored mark = take-set-lt (c .unification .len) (c .marks) e mark in-use
-
-  module _ (past : n ≤ e) (all : length (c .marks) ≡ maxEls) (links : length (c .unification .links) ≡ maxEls) where
-    out-of-use : length (marksOf c) ≤ e
-    out-of-use = omega (arith, sized .is, length-take (c .unification .len) (c .unification .links), length-take (c .unification .len) (c .marks))
-
-    pub mark-past : false ≡ marked (marksOf c) e
-    mark-past = sym (List·getD-eq-default (marksOf c) false out-of-use)
-
-    pub mark-unstored : (mark : Bool) → marksOf c ≡ set (marksOf c) e mark
-    mark-unstored mark = sym (set-out (marksOf c) e mark out-of-use)
+unmarked-merged : (ms : List Bool) (keep drop : ℕ) → anyMarked ms ≡ false → anyMarked (mergedMarks ms keep drop) ≡ false
+unfolding mergedMarks
+unmarked-merged ms keep drop h = rw (unmarked-at ms keep h, mergedMarks) (unmarked-set (set ms keep false) drop (unmarked-set ms keep h))
 
 -- A merge.
 
-merged-length : (ls : List ℕ) (a b : ℕ) → length (mergedOf ls a b) ≡ length ls
-merged-length ls a b =
-    ⊎-elim (λ h. ap length (merged-less ls a b h) ∙ length-set ls b a)
-    (λ h. ⊎-elim (λ g. ap length (merged-more ls a b g) ∙ length-set ls a b) (λ g. ap length (merged-same ls a b g h)) (less-or b a))
-    (less-or a b)
+-- the counts after it
+abbrev pub after-merge : Tally → ℕ → Tally
+after-merge c moved = record {
+  els = c .els;
+  facts = moved;
+  «func_apps» = c .«func_apps»;
+  «pred_apps» = c .«pred_apps»;
+  pairs = c .pairs;
+  «is_sorted» = c .«is_sorted»;
+  «is_marked» = c .«is_marked»;
+  met = c .met;
+  merges = c .merges + 1;
+  added = c .added;
+}
 
--- what the code makes of s, whose mark it set twice: the core k with other links and other facts
-pub merged : (s once k : Core) (v : Unification) (fs : Facts) (keep drop : ℕ) {mark : Bool}
-    → mark ≡ (marked (marksOf s) keep && marked (marksOf s) drop) → Remarked s once keep mark → Remarked once k drop false
-    → linksOf v ≡ mergedOf (linksOf (k .unification)) keep drop → factsOf fs ≡ movedFacts keep drop (factsOf (k .facts))
-    → length (k .marks) ≡ maxEls → length (k .unification .links) ≡ maxEls → length (v .links) ≡ maxEls
-    → Passes s (record { core = record { unification = v; marks = k .marks; facts = fs; pairs = k .pairs; met = k .met }; merges = 1; added = 0 }) 1
-    (merge keep drop)
-unfolding merge mergedMarks
-merged s once k v fs keep drop both first second links facts marks us vs =
-    let same : take (v .len) (k .marks) ≡ marksOf k =
-    kept (k .unification) v (k .marks) marks us vs (ap length links ∙ merged-length (linksOf (k .unification)) keep drop) in
-    let twice : (m a : ℕ) → coreOf k m a ≡ with-marks (mergedMarks (marksOf s) keep drop) (coreOf s m a) =
-    λ m a.
-    second m a
-    ∙ (λ i. with-marks (set (first m a i .marks) drop false) (first m a i))
-    ∙ (λ i. with-marks (set (set (marksOf s) keep (both i)) drop false) (coreOf s m a)) in
+pub merged : (els els' facts facts' : List (List ℕ)) (c : Tally) (keep drop k : ℕ) → ElsHeld els c → FactsHeld facts c
+    → Merged (c .els) keep drop els els' → InPlaceRewritten compareFact factIn (movedFact keep drop) (c .facts) facts facts' k
+    → PassesAnyQueue els facts c els' facts' (after-merge c k) 1 (merge keep drop)
+unfolding merge
+merged els els' facts facts' c keep drop k e f united done pairs held =
+    let one : c .merges + 1 ≡ suc (c .merges) = omega arith in
+    let there = done .is ∙ moved-facts keep drop (factsIn (c .facts) facts) in
     record {
-      is = λ m a.
-          let one : 1 + m ≡ suc m = omega arith in
-          let none : 0 + a ≡ a = omega arith in
-          (λ i. core (links i) (same i) (facts i) (pairsOf (k .pairs)) (one i) (none i) (coreOf k m a .met))
-          ∙ ap (λ (w : types.Core). with-merge (mergedOf (w .links) keep drop) (w .marks) (movedFacts keep drop (w .facts)) w) (twice m a);
-      merges-most = omega arith;
-      added-most = omega arith;
+      is = λ i. core (united .links i) (united .marks i) (there i) (pairsIn (c .pairs) pairs) (one i) (c .added) (metOf (c .met));
+      holds = record {
+        els-held = record {
+          long = united .long ∙ e .long;
+          few = e .few;
+          unmarked = λ none. rw (united .marks) (unmarked-merged _ keep drop (e .unmarked none));
+        };
+        facts-held = record {
+          long = done .long ∙ f .long;
+          few = omega (arith, done .most, f .few);
+          sorted = λ any. rw (done .is) (rewrite-sorted fact-ordered (movedFact keep drop) (factsIn (c .facts) facts) [] tt);
+        };
+        pairs-held = record { long = held .long; few = held .few };
+      };
+      kept = refl;
+      count-most = omega arith;
     }
 
 -- The roots of a pair.
 
 module _ {a b : ℕ} (w : types.Core) where
-  pub join-less : a < b → merge a b w ≡ joinRoots a b w
+  join-less : a < b → merge a b w ≡ joinRoots a b w
   unfolding joinRoots
   join-less h =
       let low : min a b ≡ a = omega arith in
       let high : max a b ≡ b = omega arith in
       sym (rw (ne-eqb a b (λ e. omega arith), joinRoots) (λ i. merge (low i) (high i) w))
 
-  pub join-more : b < a → merge b a w ≡ joinRoots a b w
+  join-more : b < a → merge b a w ≡ joinRoots a b w
   unfolding joinRoots
   join-more h =
       let low : min a b ≡ b = omega arith in
       let high : max a b ≡ a = omega arith in
       sym (rw (ne-eqb a b (λ e. omega arith), joinRoots) (λ i. merge (low i) (high i) w))
 
-  pub join-same : a ≤ b → b ≤ a → w ≡ joinRoots a b w
+  join-same : a ≤ b → b ≤ a → w ≡ joinRoots a b w
   unfolding joinRoots
   join-same h g = let e : a ≡ b = omega arith in sym (rw (eq-eqb a b e, joinRoots))
 
--- the roots found are those of the definition
-pub join-found : (c : Core) (p : Pair) {l r : FindM} → l ≡ findOf (linksOf (c .unification)) (p .lhs .0)
-    → r ≡ findOf (linksOf (c .unification)) (p .rhs .0) → (m a : ℕ)
-    → joinRoots (l .root) (r .root) (coreOf c m a) ≡ join (pairOf p) (coreOf c m a)
-unfolding join findOf
-join-found c p e f m a = λ i. joinRoots (e i .root) (f i .root) (coreOf c m a)
+-- a and b are the roots of l and r
+module _ (els facts : List (List ℕ)) (c : Tally) (l r : ℕ) {a b : ℕ} (left : a ≡ rootOf (linksIn (c .els) els) l)
+    (right : b ≡ rootOf (linksIn (c .els) els) r) where
+  found : (pairs : List (List ℕ)) → joinRoots a b (coreOf (lent els facts pairs c)) ≡ join (pair l r) (coreOf (lent els facts pairs c))
+  unfolding join
+  found pairs = λ i. joinRoots (left i) (right i) (coreOf (lent els facts pairs c))
 
--- Pairs, drained from the last to the first: those that remain when the first i entries do.
+  module _ (els' facts' : List (List ℕ)) (c' : Tally) where
+    pub joined-less : a < b → PassesAnyQueue els facts c els' facts' c' 1 (merge a b) → PassesAnyQueue els facts c els' facts' c' 1 (join (pair l r))
+    joined-less h step pairs held = counts-as (step pairs held) (join-less _ h ∙ found pairs)
 
-abbrev pub undrained : ℕ → Pairs → List model.Pair
-undrained i t = reverse (map pairOf (take i (t .items)))
+    pub joined-more : b < a → PassesAnyQueue els facts c els' facts' c' 1 (merge b a) → PassesAnyQueue els facts c els' facts' c' 1 (join (pair l r))
+    joined-more h step pairs held = counts-as (step pairs held) (join-more _ h ∙ found pairs)
 
-last : (t : Pairs) (k : ℕ) (d : Pair) → k < length (t .items) → undrained (suc k) t ≡ pairOf (getD (t .items) k d) ∷ undrained k t
-last t k d h =
-    ap (λ (l : List Pair). reverse (map pairOf l)) (take-suc (t .items) k d h)
-    ∙ ap reverse (map-append pairOf (take k (t .items)) (getD (t .items) k d ∷ []))
-    ∙ reverse-append (map pairOf (take k (t .items))) (pairOf (getD (t .items) k d) ∷ [])
+  pub joined-same : a ≤ b → b ≤ a → ElsHeld els c → FactsHeld facts c → PassesAnyQueue els facts c els facts c 1 (join (pair l r))
+  joined-same h g e f pairs held =
+      idle (lent els facts pairs c) (record { els-held = e; facts-held = f; pairs-held = held }) (join-same _ h g ∙ found pairs)
 
-module _ (t : Pairs) {n : ℕ} (sized : Sized (pairsOf t) maxPairs n) where
-  all : n ≡ min (t .len) (length (t .items))
-  all = omega (arith, sized .is, length-reverse (map pairOf (take (t .len) (t .items))), length-view pairOf (t .len) (t .items))
+-- Pairs, drained from the last to the first: those that remain when the first i rows do.
 
-  -- none is drained yet
-  pub drain-all : (w : types.Core) → drainPairs (undrained n t) w ≡ drainPairs (pairsOf t) w
-  drain-all w = ap (λ (l : List Pair). drainPairs (reverse (map pairOf l)) w) (take-same n (t .len) (t .items) (omega (arith, all)))
+last : (rows : List (List ℕ)) (k : ℕ) (d : List ℕ) → k < length rows → pairsIn (suc k) rows ≡ pairIn (getD rows k d) ∷ pairsIn k rows
+last rows k d h =
+    ap (λ (l : List (List ℕ)). reverse (map pairIn l)) (take-suc rows k d h)
+    ∙ ap reverse (map-append pairIn (take k rows) (getD rows k d ∷ []))
+    ∙ reverse-append (map pairIn (take k rows)) (pairIn (getD rows k d) ∷ [])
 
-  -- the last of those that remain is drained
-  pub drain-last : (i : ℕ) (d : Pair) → 0 < i → i ≤ n → (w : types.Core)
-      → drainPairs (undrained (i - 1) t) (join (pairOf (getD (t .items) (i - 1) d)) w) ≡ drainPairs (undrained i t) w
-  unfolding drainPairs
-  drain-last i d h g w =
-      let more : suc (i - 1) ≡ i = omega arith in
-      ap (λ (l : List model.Pair). drainPairs l w) (sym (last t (i - 1) d (omega (arith, all))) ∙ ap (λ (m : ℕ). undrained m t) more)
+-- the queue taken out
+abbrev pub taken : Tally → Tally
+taken c = record {
+  els = c .els;
+  facts = c .facts;
+  «func_apps» = c .«func_apps»;
+  «pred_apps» = c .«pred_apps»;
+  pairs = 0;
+  «is_sorted» = c .«is_sorted»;
+  «is_marked» = c .«is_marked»;
+  met = c .met;
+  merges = c .merges;
+  added = c .added;
+}
+
+module _ {els facts pairs : List (List ℕ)} {c : Tally} where
+  pub taken-holds : LentHeld (lent els facts pairs c) → LentHeld (lent els facts pairs (taken c))
+  taken-holds h = record {
+    els-held = record { long = h .els-held .long; few = h .els-held .few; unmarked = h .els-held .unmarked };
+    facts-held = record { long = h .facts-held .long; few = h .facts-held .few; sorted = h .facts-held .sorted };
+    pairs-held = record { long = h .pairs-held .long; few = omega arith };
+  }
+
+  -- and drained
+  pub drained : {after : Lent} {most : ℕ} → Passes (lent els facts pairs (taken c)) after most (drainPairs (pairsIn (c .pairs) pairs))
+      → Passes (lent els facts pairs c) after most drain
+  unfolding drain
+  drained p = record { is = p .is; holds = p .holds; kept = p .kept; count-most = p .count-most }
+
+-- the last of those that remain is drained
+pub drain-last : (rows : List (List ℕ)) (i : ℕ) (d : List ℕ) → 0 < i → i ≤ length rows → (w : types.Core)
+    → let r = getD rows (i - 1) d in drainPairs (pairsIn (i - 1) rows) (join (pair (getD r 0 0) (getD r 1 0)) w) ≡ drainPairs (pairsIn i rows) w
+unfolding drainPairs pairIn
+drain-last rows i d h g w =
+    let more : suc (i - 1) ≡ i = omega arith in
+    ap (λ (l : List model.Pair). drainPairs l w) (sym (last rows (i - 1) d (omega arith)) ∙ ap (λ (m : ℕ). pairsIn m rows) more)
 
 -- all are drained
-pub drain-none : (t : Pairs) (i : ℕ) → i ≤ 0 → (w : types.Core) → w ≡ drainPairs (undrained i t) w
+pub drain-none : (rows : List (List ℕ)) (i : ℕ) → i ≤ 0 → (w : types.Core) → w ≡ drainPairs (pairsIn i rows) w
 unfolding drainPairs
-drain-none t i h w = let none : 0 ≡ i = omega arith in ap (λ (m : ℕ). drainPairs (undrained m t) w) none
-
--- a queue that is taken out and drained
-pub drain-taken : (s : Core) (t : Pairs) → pairsOf t ≡ [] → (m a : ℕ)
-    → drainPairs (pairsOf (s .pairs)) (coreOf (record { unification = s .unification; marks = s .marks; facts = s .facts; pairs = t; met = s .met }) m a)
-    ≡ drain (coreOf s m a)
-unfolding drain
-drain-taken s t none m a = λ i. drainPairs (pairsOf (s .pairs)) (with-pairs (none i) (coreOf s m a))
+drain-none rows i h w = let none : 0 ≡ i = omega arith in ap (λ (m : ℕ). drainPairs (pairsIn m rows) w) none

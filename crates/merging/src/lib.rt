@@ -1,30 +1,34 @@
-// The part of a structure that merges and imposed facts alter, and the drain (structure.rs, `drain_equalities`).
-use equalities::Pair;
-use equalities::Pairs;
+// Merges, and the drain (structure.rs, `drain_equalities`), on the tables that a close lends.
+use el_rows::ElRow;
+use fact_rows::FactRow;
 use facts::Fact;
-use facts::Facts;
 use ids::ElId;
-use unification::Unification;
 ghost use mathlib.Core.Path.{_≡_};
-ghost use mathlib.Core.Bool.{_&&_, _||_};
-ghost use Rattle.semantics.specs.Structure.{maxPairs};
-ghost use Rattle.semantics.specs.Types.{marked, movedFacts, merge, join, drainPairs, drain};
-ghost use Rattle.facts.specs.View.{factOf, factsOf};
-ghost use Rattle.equalities.specs.View.{pairOf, pairsOf};
-ghost use Rattle.merging.specs.View.{marksOf, movedFact, Remarked, Passes};
+ghost use Prim.Native.Nat.{_≤_, _<_};
+ghost use lib.ListN.{length};
+ghost use Rattle.rows.specs.Table.{InPlaceRewritten};
+ghost use Rattle.semantics.specs.Structure.{pair, compareFact, maxPairs};
+ghost use Rattle.semantics.specs.Types.{merge, join, drain};
+ghost use Rattle.facts.specs.View.{factOf};
+ghost use Rattle.fact_rows.specs.View.{factIn};
+ghost use Rattle.merging.specs.View.{lent, ElsHeld, FactsHeld, LentHeld, Room, PassesAnyQueue, Passes, movedFact};
 
-pub struct Core {
-    pub unification: Unification,
-    pub marks: [bool; Unification::MAX_ELS],
-    pub facts: Facts,
-    pub pairs: Pairs,
-    // The number first met that refuses the close; 0 stands for none.
+// The two elements of a pair.
+pub type PairRow = [u16; 2];
+
+// How many rows of the tables are in use, what is known of them, what was counted, and the number first met that refuses the close; 0
+// stands for none.
+pub struct Tally {
+    pub els: u16,
+    pub facts: u16,
+    pub func_apps: u16,
+    pub pred_apps: u16,
+    pub pairs: u16,
+    // The facts are in order.
+    pub is_sorted: bool,
+    // An element may be marked.
+    pub is_marked: bool,
     pub met: u16,
-}
-
-// What a pass leaves, with the merges that it made and the facts that it added.
-pub struct Worked {
-    pub core: Core,
     pub merges: u64,
     pub added: u64,
 }
@@ -40,146 +44,71 @@ fn moved_fact(fact: Fact, keep: ElId, drop: ElId) -> Fact
     Fact { el: keep, ct }
 }
 
-fn move_facts(facts: Facts, keep: ElId, drop: ElId) -> Facts
-    ensures { λ r. ⌜ factsOf r ≡ movedFacts (keep .0) (drop .0) (factsOf facts) ⌝ }
+// Rebuilds the first n facts in place: the rows that are done stand before those that are to come. Gives how many there are.
+fn move_facts(facts: &mut [FactRow], n: usize, keep: ElId, drop: ElId) -> usize
+    requires { ⌜ n ≤ length (now facts) ⌝ }
+    ensures { λ r. ⌜ InPlaceRewritten compareFact factIn (movedFact (keep .0) (drop .0)) n (now (facts .entry)) (now (facts .exit)) r ⌝ }
 {
-    let n = facts.size();
-    let mut moved = Facts::new();
+    let mut k: usize = 0;
     for i in 0..n {
-        let here = facts.items[i];
+        let here = fact_rows::fact_of(facts[i]);
         let entry = moved_fact(here, keep, drop);
-        let k = moved.size();
-        let at = ids::last_index(k);
-        let last = moved.items[at];
-        if entry.goes_last(k, last) {
-            moved.items[k] = entry;
-            moved.len = (k + 1) as u16;
-            continue;
-        }
-        let inserted = moved.insert(entry);
-        let next = inserted.facts;
-        moved = next;
+        k = fact_rows::insert(facts, k, entry);
     }
-    moved
+    k
 }
 
-impl Core {
-    pub fn is_marked(self, el: ElId) -> bool
-        ensures { λ r. ⌜ r ≡ marked (marksOf self) (el .0) ⌝ }
-    {
-        let u = self.unification;
-        let at = el.0 as usize;
-        if u.size() <= at {
-            return false;
-        }
-        self.marks[at]
-    }
+// One merge, of the larger root into the smaller.
+fn merge(els: &mut [ElRow], facts: &mut [FactRow], counts: Tally, keep: ElId, drop: ElId) -> Tally
+    requires { ⌜ ElsHeld (now els) counts × (FactsHeld (now facts) counts × (Room 1 counts × (keep .0 < drop .0))) ⌝ }
+    ensures { λ r. ⌜ PassesAnyQueue (now (els .entry)) (now (facts .entry)) counts (now (els .exit)) (now (facts .exit)) r 1 (merge (keep .0) (drop .0)) ⌝ }
+{
+    el_rows::union_roots(els, counts.els as usize, keep, drop);
+    let moved = move_facts(facts, counts.facts as usize, keep, drop);
+    let mut next = counts;
+    next.facts = moved as u16;
+    next.merges = counts.merges + 1;
+    next
+}
 
-    fn both_marked(self, a: ElId, b: ElId) -> bool
-        ensures { λ r. ⌜ r ≡ (marked (marksOf self) (a .0) && marked (marksOf self) (b .0)) ⌝ }
-    {
-        if !self.is_marked(a) {
-            return false;
-        }
-        self.is_marked(b)
+// A pair drained: where its two roots differ they are merged.
+pub fn join(els: &mut [ElRow], facts: &mut [FactRow], counts: Tally, lhs: ElId, rhs: ElId) -> Tally
+    requires { ⌜ ElsHeld (now els) counts × (FactsHeld (now facts) counts × Room 1 counts) ⌝ }
+    ensures { λ r. ⌜ PassesAnyQueue (now (els .entry)) (now (facts .entry)) counts (now (els .exit)) (now (facts .exit)) r 1 (join (pair (lhs .0) (rhs .0))) ⌝ }
+{
+    let n = counts.els as usize;
+    let a = el_rows::find(els, n, lhs);
+    let b = el_rows::find(els, n, rhs);
+    if a.0 < b.0 {
+        return merge(els, facts, counts, a, b);
     }
+    if b.0 < a.0 {
+        return merge(els, facts, counts, b, a);
+    }
+    counts
+}
 
-    pub fn either_marked(self, a: ElId, b: ElId) -> bool
-        ensures { λ r. ⌜ r ≡ (marked (marksOf self) (a .0) || marked (marksOf self) (b .0)) ⌝ }
-    {
-        if self.is_marked(a) {
-            return true;
-        }
-        self.is_marked(b)
+// The whole queue drained, the last pair first.
+pub fn drain_equalities(
+    els: &mut [ElRow],
+    facts: &mut [FactRow],
+    pairs: &[PairRow],
+    counts: Tally,
+) -> Tally
+    requires { ⌜ LentHeld (lent (now els) (now facts) (now pairs) counts) × Room maxPairs counts ⌝ }
+    ensures { λ r. ⌜ Passes (lent (now (els .entry)) (now (facts .entry)) (now (pairs .entry)) counts)
+        (lent (now (els .exit)) (now (facts .exit)) (now (pairs .entry)) r) maxPairs drain ⌝ }
+{
+    let mut now = counts;
+    now.pairs = 0;
+    let n = counts.pairs as usize;
+    let mut i = n;
+    while 0 < i {
+        let at = i - 1;
+        let pair = pairs[at];
+        let next = join(els, facts, now, ElId(pair[0]), ElId(pair[1]));
+        now = next;
+        i -= 1;
     }
-
-    // Sets the mark of an element that is there.
-    fn with_mark(self, el: ElId, mark: bool) -> Core
-        ensures { λ r. ⌜ Remarked self r (el .0) mark ⌝ }
-    {
-        let mut next = self;
-        let u = self.unification;
-        let at = el.0 as usize;
-        if u.size() <= at {
-            return next;
-        }
-        next.marks[at] = mark;
-        next
-    }
-
-    // One merge: the mark remains only if both roots had it.
-    fn merge(self, keep: ElId, drop: ElId) -> Worked
-        ensures { λ r. ⌜ Passes self r 1 (merge (keep .0) (drop .0)) ⌝ }
-    {
-        let mark = self.both_marked(keep, drop);
-        let kept = self.with_mark(keep, mark);
-        let mut core = kept.with_mark(drop, false);
-        let u = core.unification;
-        let facts = core.facts;
-        core.unification = u.union_roots(keep, drop);
-        core.facts = move_facts(facts, keep, drop);
-        Worked {
-            core,
-            merges: 1,
-            added: 0,
-        }
-    }
-
-    // A pair drained: where its two roots differ they are merged, the larger into the smaller.
-    pub fn join(self, pair: Pair) -> Worked
-        ensures { λ r. ⌜ Passes self r 1 (join (pairOf pair)) ⌝ }
-    {
-        let u = self.unification;
-        let first = u.find(pair.lhs);
-        let second = u.find(pair.rhs);
-        let a = first.root;
-        let b = second.root;
-        if a.0 < b.0 {
-            return self.merge(a, b);
-        }
-        if b.0 < a.0 {
-            return self.merge(b, a);
-        }
-        Worked {
-            core: self,
-            merges: 0,
-            added: 0,
-        }
-    }
-
-    // Pairs drained, the last first.
-    pub fn drain_pairs(self, pairs: Pairs) -> Worked
-        ensures { λ r. ⌜ Passes self r maxPairs (drainPairs (pairsOf pairs)) ⌝ }
-    {
-        let mut core = self;
-        let mut merges: u64 = 0;
-        let mut added: u64 = 0;
-        let n = pairs.size();
-        let mut i = n;
-        while 0 < i {
-            let at = i - 1;
-            let pair = pairs.items[at];
-            let joined = core.join(pair);
-            let next = joined.core;
-            core = next;
-            merges += joined.merges;
-            added += joined.added;
-            i -= 1;
-        }
-        Worked {
-            core,
-            merges,
-            added,
-        }
-    }
-
-    // The whole queue drained.
-    pub fn drain_equalities(self) -> Worked
-        ensures { λ r. ⌜ Passes self r maxPairs drain ⌝ }
-    {
-        let pairs = self.pairs;
-        let mut core = self;
-        core.pairs = Pairs::new();
-        core.drain_pairs(pairs)
-    }
+    now
 }

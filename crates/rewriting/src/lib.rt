@@ -1,141 +1,121 @@
-// What a close rewrites: function applications in its rounds (structure.rs, `functionality`), the other entries at its end.
-use apps::FuncApps;
-use apps::PredApps;
-use apps::Stored;
+// What a close rewrites, in the tables that it lends: function applications in its rounds (structure.rs, `functionality`), the
+// others at its end (`canonicalise_refs`).
+use app_rows::AppRow;
 use bindings::Slot;
 use bindings::VarEls;
-use equalities::Pair;
-use equalities::Pairs;
-use facts::Facts;
+use el_rows::ElRow;
+use fact_rows::FactRow;
 use facts::Impositions;
-use unification::Unification;
+use ids::Place;
+use merging::PairRow;
+use merging::Tally;
 ghost use mathlib.Core.Path.{_≡_};
-ghost use mathlib.Core.List.{[], map};
-ghost use Rattle.ids.specs.Table.{rewriteInto};
-ghost use Rattle.unification.specs.Roots.{linksOf};
-ghost use Rattle.semantics.specs.Structure.{compareFact, comparePredApp, canonicalFact, canonicalPredApp, canonicalVar};
-ghost use Rattle.semantics.specs.Close.{enterAll};
-ghost use Rattle.facts.specs.View.{factsOf, impositionsOf};
-ghost use Rattle.apps.specs.View.{funcAppsOf, predAppsOf};
+ghost use mathlib.Core.List.{map};
+ghost use Prim.Native.Nat.{_≤_};
+ghost use lib.ListN.{length};
+ghost use Rattle.rows.specs.Table.{InPlaceRewritten};
+ghost use Rattle.semantics.specs.Structure.{compareFact, comparePredApp, canonicalFact, canonicalPredApp, canonicalVar, maxFuncApps, maxPairs};
+ghost use Rattle.facts.specs.View.{impositionsOf};
 ghost use Rattle.bindings.specs.View.{varsOf};
-ghost use Rattle.rewriting.specs.View.{rewrittenOf, nothing};
+ghost use Rattle.fact_rows.specs.View.{factIn};
+ghost use Rattle.app_rows.specs.View.{predAppIn};
+ghost use Rattle.el_rows.specs.View.{linksIn};
+ghost use Rattle.merging.specs.View.{ElsHeld};
+ghost use Rattle.rewriting.specs.View.{Enters};
 
-// The applications as roots, the pairs that were queued, and whether one was.
-pub struct Rewritten {
-    pub func_apps: FuncApps,
-    pub pairs: Pairs,
-    pub queued: bool,
-}
-
-// Rewrites keys and results in order: of applications with one key the first result stays, a different one is queued.
-pub fn functionality(unification: Unification, apps: FuncApps) -> Rewritten
-    ensures { λ r. ⌜ rewrittenOf r ≡ enterAll (linksOf unification) (funcAppsOf apps) nothing ⌝ }
+// Rewrites keys and results in order, in place: of applications with one key the first result stays, a different one is queued.
+pub fn functionality(
+    els: &[ElRow],
+    apps: &mut [AppRow],
+    pairs: &mut [PairRow],
+    counts: Tally,
+) -> Tally
+    requires { ⌜ ElsHeld (now els) counts × ((counts .«func_apps» ≤ maxFuncApps) × ((length (now apps) ≡ maxFuncApps) × (length (now pairs) ≡ maxPairs))) ⌝ }
+    ensures { λ r. ⌜ Enters (linksIn (counts .els) (now (els .entry))) counts (now (apps .entry)) (now (apps .exit)) (now (pairs .exit)) r ⌝ }
 {
-    let n = apps.size();
-    let mut done = FuncApps::new();
-    let mut pairs = Pairs::new();
-    let mut queued = false;
-    for i in 0..n {
-        let here = apps.items[i];
-        let entry = canonical::canonical_func_app(unification, here);
-        let result = entry.result;
-        let k = done.size();
-        let at = ids::last_index(k);
-        let last = done.items[at];
-        if entry.goes_last(k, last) {
-            done.items[k] = entry;
-            done.len = (k + 1) as u16;
-            continue;
+    let n = counts.els as usize;
+    let mut k: usize = 0;
+    // The drain before it has left the queue empty.
+    let mut queued: usize = 0;
+    for i in 0..counts.func_apps as usize {
+        let here = app_rows::func_app_of(apps[i]);
+        let entry = el_rows::canonical_func_app(els, n, here);
+        match app_rows::position(apps, k, entry) {
+            Place::Before(at) => {
+                let row = app_rows::func_app_row(entry);
+                app_rows::place(apps, k, at, row);
+                k += 1;
+                continue;
+            }
+            Place::At(at) => {
+                let stored = app_rows::func_app_of(apps[at]);
+                if stored.result.0 == entry.result.0 {
+                    continue;
+                }
+                pairs[queued] = [stored.result.0, entry.result.0];
+                queued += 1;
+            }
         }
-        let Stored::Result(existing) = done.get(entry) else {
-            let inserted = done.insert(entry);
-            let next = inserted.func_apps;
-            done = next;
-            continue;
-        };
-        if existing.0 == result.0 {
-            continue;
-        }
-        pairs = pairs.push(Pair::new(existing, result));
-        queued = true;
     }
-    Rewritten {
-        func_apps: done,
-        pairs,
-        queued,
-    }
+    let mut next = counts;
+    next.func_apps = k as u16;
+    next.pairs = queued as u16;
+    next
 }
 
-pub fn canonical_pred_apps(unification: Unification, apps: PredApps) -> PredApps
-    ensures { λ r. ⌜ predAppsOf r ≡ rewriteInto comparePredApp (canonicalPredApp (linksOf unification)) (predAppsOf apps) [] ⌝ }
+// Rewritten in place, each once: gives how many there are.
+pub fn canonical_pred_apps(els: &[ElRow], n: usize, apps: &mut [AppRow], count: usize) -> usize
+    requires { ⌜ (n ≤ length (now els)) × (count ≤ length (now apps)) ⌝ }
+    ensures { λ r. ⌜ InPlaceRewritten comparePredApp predAppIn (canonicalPredApp (linksIn n (now (els .entry)))) count (now (apps .entry)) (now (apps .exit)) r ⌝ }
 {
-    let n = apps.size();
-    let mut done = PredApps::new();
-    for i in 0..n {
-        let here = apps.items[i];
-        let entry = canonical::canonical_pred_app(unification, here);
-        let k = done.size();
-        let at = ids::last_index(k);
-        let last = done.items[at];
-        if entry.goes_last(k, last) {
-            done.items[k] = entry;
-            done.len = (k + 1) as u16;
-            continue;
-        }
-        let inserted = done.insert(entry);
-        let next = inserted.pred_apps;
-        done = next;
+    let mut k: usize = 0;
+    for i in 0..count {
+        let here = app_rows::func_app_of(apps[i]);
+        let entry = el_rows::canonical_func_app(els, n, here);
+        k = app_rows::insert(apps, k, entry);
     }
-    done
+    k
 }
 
-pub fn canonical_facts(unification: Unification, facts: Facts) -> Facts
-    ensures { λ r. ⌜ factsOf r ≡ rewriteInto compareFact (canonicalFact (linksOf unification)) (factsOf facts) [] ⌝ }
-{
-    let n = facts.size();
-    let mut done = Facts::new();
-    for i in 0..n {
-        let here = facts.items[i];
-        let entry = canonical::canonical_fact(unification, here);
-        let k = done.size();
-        let at = ids::last_index(k);
-        let last = done.items[at];
-        if entry.goes_last(k, last) {
-            done.items[k] = entry;
-            done.len = (k + 1) as u16;
-            continue;
-        }
-        let inserted = done.insert(entry);
-        let next = inserted.facts;
-        done = next;
-    }
-    done
-}
-
-// Each stays in its place.
-pub fn canonical_impositions(unification: Unification, impositions: Impositions) -> Impositions
-    ensures { λ r. ⌜ impositionsOf r ≡ map (canonicalFact (linksOf unification)) (impositionsOf impositions) ⌝ }
-{
-    let n = impositions.size();
-    let mut done = impositions;
-    for i in 0..n {
-        let here = impositions.items[i];
-        let entry = canonical::canonical_fact(unification, here);
-        done.items[i] = entry;
-    }
-    done
-}
-
-pub fn canonical_vars(unification: Unification, vars: VarEls) -> VarEls
-    ensures { λ r. ⌜ varsOf r ≡ map (canonicalVar (linksOf unification)) (varsOf vars) ⌝ }
+pub fn canonical_vars(els: &[ElRow], n: usize, vars: VarEls) -> VarEls
+    requires { ⌜ n ≤ length (now els) ⌝ }
+    ensures { λ r. ⌜ varsOf r ≡ map (canonicalVar (linksIn n (now (els .entry)))) (varsOf vars) ⌝ }
 {
     let mut done = vars;
     for i in 0..VarEls::MAX_LEN {
         let slot = vars.slots[i];
         let given = slot.given;
-        let found = unification.find(slot.el);
-        let el = found.root;
+        let el = el_rows::find(els, n, slot.el);
         done.slots[i] = Slot { given, el };
+    }
+    done
+}
+
+// Rewritten in place, each once: gives how many there are.
+pub fn canonical_facts(els: &[ElRow], n: usize, facts: &mut [FactRow], count: usize) -> usize
+    requires { ⌜ (n ≤ length (now els)) × (count ≤ length (now facts)) ⌝ }
+    ensures { λ r. ⌜ InPlaceRewritten compareFact factIn (canonicalFact (linksIn n (now (els .entry)))) count (now (facts .entry)) (now (facts .exit)) r ⌝ }
+{
+    let mut k: usize = 0;
+    for i in 0..count {
+        let here = fact_rows::fact_of(facts[i]);
+        let entry = el_rows::canonical_fact(els, n, here);
+        k = fact_rows::insert(facts, k, entry);
+    }
+    k
+}
+
+// Each stays in its place.
+pub fn canonical_impositions(els: &[ElRow], n: usize, impositions: Impositions) -> Impositions
+    requires { ⌜ n ≤ length (now els) ⌝ }
+    ensures { λ r. ⌜ impositionsOf r ≡ map (canonicalFact (linksIn n (now (els .entry)))) (impositionsOf impositions) ⌝ }
+{
+    let size = impositions.size();
+    let mut done = impositions;
+    for i in 0..size {
+        let here = impositions.items[i];
+        let entry = el_rows::canonical_fact(els, n, here);
+        done.items[i] = entry;
     }
     done
 }

@@ -8,10 +8,6 @@ pub imposeAll-none : (w : Core) → imposeAll [] w ≡ w
 unfolding imposeAll
 imposeAll-none w = refl
 
-pub imposeAll-one : (f : Fact) (w : Core) → imposeAll (f ∷ []) w ≡ impose f w
-unfolding imposeAll
-imposeAll-one f w = refl
-
 -- two lists of facts, one after the other
 pub imposeAll-append : (xs ys : List Fact) (w : Core) → imposeAll (xs ++ ys) w ≡ imposeAll ys (imposeAll xs w)
 unfolding imposeAll

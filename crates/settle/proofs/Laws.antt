@@ -6,6 +6,9 @@ use mathlib.Core.List.{List, [], _∷_, _++_, append-nil, append-assoc}
 use mathlib.Core.Option.{Option, none, some}
 use native.Mathlib.Omega.{arith}
 use lib.ListN.{length, length-append}
+use denote.Enum.Declared.{tagOf}
+use types.Run.{OneOf, miss}
+use Rattle.ids.specs.Judge.{verdictOf}
 use Rattle.ids.specs.Answers.{Outcome, outcome, refusing, accepting}
 use Rattle.ids.proofs.Judging.{decided-refuses, decided-accepts}
 use Rattle.unification.specs.Roots.{maxEls}
@@ -16,11 +19,13 @@ use Rattle.semantics.specs.Calls as calls
 use Rattle.semantics.specs.Calls.{Totals, totals, summed, closed, Answer, machine, Step, answers, leaves, SettleRun, settle-run, reportedFirst, settleAfter}
 use Rattle.semantics.specs.Calls.{settleBy, settleFrom, settleRun, mergesIn, sumsOf, rule, closeRule, settleRule, acceptance, refusal, step}
 use Rattle.semantics.proofs.Judged.{close-first, met-refuses, met-accepts}
-use Rattle.merging.specs.View.{metOf}
-use Rattle.structure.specs.View.{structureOf, totalsOf}
+use Rattle.structure.specs.declared.Answer as code
+use Rattle.structure.specs.declared.Answer.the-variants as variants
+use Rattle.structure.specs.View.{structureOf, totalsOf, answerOf}
+use Rattle.structure.proofs.Answer.{the-type}
 use Rattle.close.specs.View.{oneClose}
-use Rattle.settle.specs.declared.SettleRun as code
-use Rattle.settle.specs.View.{SettleRunIs}
+use Rattle.settle.specs.declared.SettleRun as declared
+use Rattle.settle.specs.View.{refusedBy, SettleRunIs}
 
 -- closes that answered cs, before others
 abbrev reported : List Closed → SettleRun → SettleRun
@@ -46,6 +51,34 @@ totals-last cs c e =
 pub sums-fit : {i closes merges m : ℕ} → i ≤ maxEls → closes ≡ i → merges ≤ i * oneClose → m ≤ oneClose → (closes + 1 < 2 ^ 64) × (merges + m < 2 ^ 64)
 unfolding fuel
 sums-fit l e p q = (omega arith, omega arith)
+
+-- What a close's answer tells, by its contract: v is the structure that it leaves.
+
+never : {A : Type 0} → _≡_ {A = ℕ} 0 1 → A
+never e = absurd (omega arith)
+
+-- the answer, where the close met o
+abbrev answered : Sig → Structure → Option ℕ → Answer
+answered g s none = closed (reportOf (closeRun g s))
+answered g s (some n) = calls.refuse n
+
+module _ (g : Sig) (s : Structure) {v : Structure} {x : Answer} (stepped : answers x (machine g v) ≡ step calls.close (machine g s)) where
+  answer-is : (o : Option ℕ) → closeRun g s .core .met ≡ o → x ≡ answered g s o
+  unfolding rule closeRule acceptance
+  answer-is none e = ap (λ (y : Step). y .answer) (stepped ∙ met-accepts calls.close (machine g s) (closeRun g s .core .met) refl e)
+  answer-is (some n) e = ap (λ (y : Step). y .answer) (stepped ∙ met-refuses calls.close (machine g s) (closeRun g s .core .met) refl n e)
+
+  -- a report
+  pub report-told : {c : Closed} → x ≡ closed c → (closeRun g s .core .met ≡ none) × (c ≡ reportOf (closeRun g s))
+  report-told {c} e = go (closeRun g s .core .met) refl
+    where
+      go : (o : Option ℕ) → closeRun g s .core .met ≡ o → (closeRun g s .core .met ≡ none) × (c ≡ reportOf (closeRun g s))
+      go none p = let q : closed c ≡ closed (reportOf (closeRun g s)) = sym e ∙ answer-is none p in (p, cc q)
+      go (some n) p = let q : closed c ≡ calls.refuse n = sym e ∙ answer-is (some n) p in never (cc q)
+
+-- the variants but a report
+abbrev others : List ℕ
+others = 0 ∷ 1 ∷ 2 ∷ 4 ∷ 5 ∷ 6 ∷ []
 
 module _ (g : Sig) where
   -- some closes answered `reports` and left s; with those to come they are the whole settle, which runs at most so many
@@ -85,7 +118,7 @@ module _ (g : Sig) where
       next k q = so-far .more h (suc k) q
 
       -- it is refused
-      pub refused-by : (n : ℕ) → closeRun g s .core .met ≡ some n → settle-run (so-far .reports) (some n) s ≡ whole
+      refused-by : (n : ℕ) → closeRun g s .core .met ≡ some n → settle-run (so-far .reports) (some n) s ≡ whole
       unfolding close closeBy outcome settleBy settleAfter
       refused-by n e =
           let r = closeRun g s in
@@ -94,6 +127,27 @@ module _ (g : Sig) where
           ∙ sym (ap (λ (o : Outcome Closed Structure). reported (so-far .reports) (settleBy o (settleFrom k g)))
           (decided-refuses (refusing s) (accepting (reportOf r) (afterClose r s)) (close-first r ∙ e)))
           ∙ next k (omega arith)
+
+      -- it gave no report
+      pub refused-told : (a : code.Answer) {v : Structure} → answers (answerOf [] a) (machine g v) ≡ step calls.close (machine g s)
+          → OneOf others (tagOf the-type a) → settle-run (so-far .reports) (refusedBy a) s ≡ whole
+      refused-told a stepped k = go a k (closeRun g s .core .met) refl (answer-is g s stepped (closeRun g s .core .met) refl)
+        where
+          go : (b : code.Answer) → OneOf others (tagOf the-type b) → (o : Option ℕ) → closeRun g s .core .met ≡ o → answerOf [] b ≡ answered g s o
+              → settle-run (so-far .reports) (refusedBy b) s ≡ whole
+          go (variants.Number n) k none p e = never (cc e)
+          go (variants.Number n) k (some m) p e = never (cc e)
+          go (variants.Says b) k none p e = never (cc e)
+          go (variants.Says b) k (some m) p e = never (cc e)
+          go variants.Done k none p e = never (cc e)
+          go variants.Done k (some m) p e = never (cc e)
+          go (variants.Closed c) k o p e = absurd (miss others 3 tt k)
+          go variants.Conflicting k none p e = never (cc e)
+          go variants.Conflicting k (some m) p e = never (cc e)
+          go (variants.Summed t) k none p e = never (cc e)
+          go (variants.Summed t) k (some m) p e = never (cc e)
+          go (variants.Refused n) k none p e = never (cc e)
+          go (variants.Refused n) k (some m) p e = let q : _≡_ {A = Option ℕ} (some m) (some n) = cc e in refused-by n (p ∙ q)
 
       module _ (met : closeRun g s .core .met ≡ none) {c : Closed} {x : Answer} {v : Structure} (answered : c ≡ reportOf (closeRun g s))
           (stepped : answers x (machine g v) ≡ step calls.close (machine g s)) where
@@ -139,8 +193,8 @@ module _ (g : Sig) where
         }
 
 -- what the code's run is
-pub run-is : (g : Sig) (s : Structure) (r : code.SettleRun) {cs : List Closed} {o : Option ℕ} → settle-run cs o (structureOf (r .structure)) ≡ settleRun g s
-    → metOf (r .met) ≡ o → totalsOf (r .totals) ≡ sumsOf cs → SettleRunIs g s r
+pub run-is : (g : Sig) (s : Structure) (r : declared.SettleRun) {cs : List Closed} {o : Option ℕ} → settle-run cs o (structureOf (r .structure)) ≡ settleRun g s
+    → verdictOf (r .verdict) ≡ o → totalsOf (r .totals) ≡ sumsOf cs → SettleRunIs g s r
 run-is g s r e met counted = record {
   met = met ∙ ap (λ (x : SettleRun). x .met) e;
   totals = counted ∙ ap (λ (x : SettleRun). sumsOf (x .reports)) e;

@@ -1,4 +1,5 @@
 // Closes until one reports no change (02, M-100).
+use ids::Verdict;
 use signature::Signature;
 use structure::Answer;
 use structure::Closed;
@@ -7,16 +8,16 @@ use structure::Structure;
 use structure::Totals;
 ghost use mathlib.Core.Path.{_≡_};
 ghost use Prim.Native.Nat.{_+_, _^_, _<_};
+ghost use Rattle.ids.specs.Judge.{verdictOf};
 ghost use Rattle.signature.specs.Model.{sigOf};
 ghost use Rattle.semantics.specs.Calls as calls;
 ghost use Rattle.semantics.specs.Calls.{totals, machine, step};
 ghost use Rattle.structure.specs.View.{structureOf, totalsOf, stepOf};
-ghost use Rattle.settle.specs.View.{SettleRunIs};
+ghost use Rattle.settle.specs.View.{refusedBy, SettleRunIs};
 
-// What a settle comes to: the number that refused one of its closes, 0 for none, what they reported together, and what
-// they left.
+// What a settle comes to: whether one of its closes was refused, what they reported together, and what they left.
 struct SettleRun {
-    met: u16,
+    verdict: Verdict,
     totals: Totals,
     structure: Structure,
 }
@@ -39,6 +40,16 @@ fn goes_on(report: Closed) -> bool
     report.changed
 }
 
+// Whether an answer refuses.
+fn verdict_of(answer: Answer) -> Verdict
+    ensures { λ r. ⌜ verdictOf r ≡ refusedBy answer ⌝ }
+{
+    match answer {
+        Answer::Refused(number) => Verdict::Refused(number),
+        _ => Verdict::Accepted,
+    }
+}
+
 // The closes of a settle, before it is decided whether a number refuses it.
 fn settle_run(structure: Structure, signature: Signature) -> SettleRun
     ensures { λ r. ⌜ SettleRunIs (sigOf signature) (structureOf structure) r ⌝ }
@@ -55,24 +66,22 @@ fn settle_run(structure: Structure, signature: Signature) -> SettleRun
         if !again {
             break;
         }
-        let run = close::close_run(now, signature);
-        let met = run.met;
-        if met != 0 {
+        let stepped = close::close(now, signature);
+        let answer = stepped.answer;
+        let Answer::Closed(report) = answer else {
             return SettleRun {
-                met,
+                verdict: verdict_of(answer),
                 totals,
                 structure: now,
             };
-        }
-        let report = run.report;
-        let stepped = run.stepped;
+        };
         let reached = stepped.structure;
         now = reached;
         again = goes_on(report);
         totals = counted(totals, report);
     }
     SettleRun {
-        met: 0,
+        verdict: Verdict::Accepted,
         totals,
         structure: now,
     }
@@ -83,10 +92,10 @@ pub fn settle(structure: Structure, signature: Signature) -> Stepped
     ensures { λ r. ⌜ stepOf (sigOf signature) r ≡ step calls.settle (machine (sigOf signature) (structureOf structure)) ⌝ }
 {
     let run = settle_run(structure, signature);
-    let number = run.met;
+    let verdict = run.verdict;
     let totals = run.totals;
     let reached = run.structure;
-    if number != 0 {
+    if let Verdict::Refused(number) = verdict {
         return structure.refuse(number);
     }
     reached.accept(Answer::Summed(totals))

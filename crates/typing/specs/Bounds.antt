@@ -4,13 +4,16 @@ use Rattle.ids.specs.Limits.{maxList}
 use Rattle.semantics.specs.Structure.{maxFuncApps, maxPredApps}
 use Rattle.imposing.specs.Bounds.{oneImposed}
 
--- the elements of a row
-abbrev pub oneRow : ℕ
-oneRow = maxList * oneImposed
+-- the elements of a demand
+abbrev pub oneDemand : ℕ
+oneDemand = maxList * oneImposed
 
 -- arguments of function applications, arguments of predicate applications, results
-abbrev pub allRows : ℕ
-allRows = maxFuncApps + maxPredApps + maxFuncApps
+abbrev pub allFuncs : ℕ
+allFuncs = maxFuncApps * oneDemand
+
+abbrev pub allPreds : ℕ
+allPreds = maxPredApps * oneDemand
 
 abbrev pub allDemands : ℕ
-allDemands = allRows * oneRow
+allDemands = allFuncs + allPreds + allFuncs

@@ -6,11 +6,10 @@ use ids::Refusal;
 use ids::Verdict;
 ghost use mathlib.Core.Path.{_≡_};
 ghost use mathlib.Core.List.{map};
-ghost use lib.ListN.{set};
 ghost use Rattle.ids.specs.Ids.{elsOf, handedEls, whole};
 ghost use Rattle.ids.specs.Table.{Sized};
 ghost use Rattle.unification.specs.Roots.{maxEls, linksOf, handedLinks, rootOf, fresh, findOf, found};
-ghost use Rattle.unification.specs.Roots.{shortenedOf, shortened, mergedOf, addedOf};
+ghost use Rattle.unification.specs.Roots.{shortenedOf, shortened, addedOf};
 ghost use Rattle.unification.specs.Roots.{rootConst, foundAnswer, root, rooted};
 
 // Element e links to links[e]; the first `len` are there.
@@ -143,34 +142,6 @@ impl Unification {
             },
             unification: u,
         }
-    }
-
-    // Links the element `from`, where it is there, to `to`.
-    fn relink(self, from: u16, to: u16) -> Unification
-        ensures { λ r. ⌜ (linksOf r ≡ set (linksOf self) from to) × (r .len ≡ self .len) ⌝ }
-    {
-        let mut u = self;
-        let at = from as usize;
-        if self.size() <= at {
-            return u;
-        }
-        u.links[at] = to;
-        u
-    }
-
-    // Links the larger of two roots to the smaller.
-    pub fn union_roots(self, a: ElId, b: ElId) -> Unification
-        ensures { λ r. ⌜ (linksOf r ≡ mergedOf (linksOf self) (a .0) (b .0)) × (r .len ≡ self .len) ⌝ }
-    {
-        let x = a.0;
-        let y = b.0;
-        if x < y {
-            return self.relink(y, x);
-        }
-        if y < x {
-            return self.relink(x, y);
-        }
-        self
     }
 
     // One element more, linked to itself, where there is room. Its length is then that of the elements.

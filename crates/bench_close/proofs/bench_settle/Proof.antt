@@ -16,11 +16,14 @@ build-requires c κs = search needs
 loop-holds : tie.Need-loop-holds Inv-loop μ-loop
 loop-holds c = tt
 
+element-copy-out-structure : tie.Need-element-copy-out-structure Inv-loop μ-loop
+element-copy-out-structure c = search needs
+
 settle-requires : tie.Need-settle-requires Inv-loop μ-loop
 settle-requires c κs = search needs
 
-report-requires : tie.Need-report-requires Inv-loop μ-loop
-report-requires c κs = search needs
+keep-requires : tie.Need-keep-requires Inv-loop μ-loop
+keep-requires c κs = search needs
 
 add-i : tie.Need-add-i Inv-loop μ-loop
 add-i c = search needs
@@ -42,8 +45,9 @@ bench-settle-spec =
     μ-loop
     build-requires
     loop-holds
+    element-copy-out-structure
     settle-requires
-    report-requires
+    keep-requires
     add-i
     loop-less
     loop-again

@@ -12,7 +12,7 @@ after-step-requires : tie.Need-after-step-requires
 after-step-requires c κs = search needs
 
 returns : tie.Need-returns
-returns c = c .after-step .ensures ∙ ap withConflicts (c .before .close .ensures)
+returns c = c .after-step .ensures ∙ ap withConflicts (c .before .close .ensures .0)
 
 pub run-close-spec : {M : Type 1} → statement M
 run-close-spec = tie.close (tie.spec close-requires after-step-requires returns)

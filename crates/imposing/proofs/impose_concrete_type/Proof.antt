@@ -2,51 +2,50 @@
 use native.Mathlib.Omega.{arith}
 use Rattle.semantics.specs.Types.{insertCanonical}
 use Rattle.facts.specs.View.{factOf}
-use Rattle.merging.specs.View.{coreOf}
-use Rattle.merging.proofs.Laws.{does, follows}
-use Rattle.imposing.proofs.Laws.{imposed, inserted-canonical}
+use Rattle.merging.specs.View.{lent, coreOf}
+use Rattle.merging.proofs.Laws.{room-left, does, follows}
+use Rattle.imposing.proofs.Laws.{inserted-canonical, imposed}
 use borrow.Author.Needs.{needs}
 use Rattle.imposing.proofs.impose_concrete_type.Statement.{statement}
 use Rattle.imposing.proofs.impose_concrete_type.Tie as tie
 
-concrete-types-of-requires : tie.Need-concrete-types-of-requires
-concrete-types-of-requires c κs = search needs
-
-refine-all-requires : tie.Need-refine-all-requires
-refine-all-requires c κs = search needs
+refine-types-requires : tie.Need-refine-types-requires
+refine-types-requires c κs =
+    let s = c .before .before in
+    (s .pre .0, omega (arith, s .pre .1))
 
 canonical-fact-requires : tie.Need-canonical-fact-requires
-canonical-fact-requires c κs = search needs
+canonical-fact-requires c κs =
+    let held = c .before .before .before .before .refine-types .ensures .holds .els-held in
+    omega (arith, held .few, held .long)
 
 insert-fact-requires : tie.Need-insert-fact-requires
-insert-fact-requires c κs = search needs
-
-add-t9 : tie.Need-add-t9
-add-t9 c = search needs
-
-add-t10 : tie.Need-add-t10
-add-t10 c = search needs
+insert-fact-requires c κs =
+    let made = c .before .before .before .before .before .before in
+    (made .refine-types .ensures .holds .facts-held, room-left (made .refine-types .ensures) 1 (made .before .before .before .pre .1) (omega arith))
 
 returns : tie.Need-returns
 returns c =
-    let put = c .before .before .before .before .before in
-    let entry = put .before in
-    let refined = entry .before .before in
-    let typed = refined .before in
-    let a = typed .before .args in
-    let f = factOf (a .fact) in
-    let insertion = does {limit = 1} {f = insertCanonical f} (put .insert-fact .ensures) (omega arith) (λ m n. inserted-canonical f (coreOf (refined .refine-all .result .core) m n) (entry .canonical-fact .ensures)) in
-    let both = follows (put .insert-fact .result) (refined .refine-all .ensures) insertion in
-    does both (omega arith) (λ m n. imposed f (coreOf (a .core) m n) (typed .concrete-types-of .ensures))
+    let put = c .before in
+    let entry = put .before .before in
+    let made = entry .before .before .before .before .before in
+    let s = made .before .before .before in
+    let f = factOf (s .args .fact) in
+    let now = lent (made .refine-types .last .0) (made .refine-types .last .1 .0) (s .args .pairs .now) (made .refine-types .result) in
+    let h = made .refine-types .ensures .holds in
+    let insertion =
+    does {limit = 1} {f = insertCanonical f} (put .insert-fact .ensures _ _ (h .els-held) (h .pairs-held)) (omega arith)
+    (inserted-canonical f (coreOf now) (entry .canonical-fact .ensures)) in
+    does (follows (made .refine-types .ensures) insertion) (omega arith) (imposed f _)
 
 pub impose-concrete-type-spec : {M : Type 1} → statement M
 impose-concrete-type-spec =
     tie.close
     (tie.spec
-    concrete-types-of-requires
-    refine-all-requires
+    refine-types-requires
+    (λ c. search needs)
     canonical-fact-requires
     insert-fact-requires
-    add-t9
-    add-t10
+    (λ c. search needs)
+    (λ c. search needs)
     returns)

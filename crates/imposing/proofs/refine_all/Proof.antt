@@ -1,98 +1,90 @@
 -- `refine_all` meets its contract.
-use Prim.Native.Nat.{_≤_, _<_, _*_, _-_}
+use mathlib.Core.Path.{refl, sym, _∙_}
+use Prim.Native.Nat.{_+_, _≤_, _*_, _-_}
 use native.Mathlib.Omega.{arith}
-use lib.ListN.{length, drop}
+use lib.ListN.{drop}
+use Rattle.semantics.specs.Structure.{maxFacts}
 use Rattle.semantics.specs.Types.{refineAll}
-use Rattle.facts.specs.View.{factOf, factsOf}
-use Rattle.merging.specs.View.{Toward}
+use Rattle.facts.specs.View.{factOf}
+use Rattle.fact_rows.specs.View.{factsIn}
+use Rattle.merging.specs.View.{lent, coreOf, Toward}
+use Rattle.merging.proofs.Laws.{begins, stays, counts-as, turn, idle-turn, room-turn}
 use Rattle.imposing.specs.Bounds.{oneList}
-use Rattle.merging.proofs.Laws.{begins, stays, turn, idle-turn}
-use Rattle.imposing.proofs.Laws.{all-same, all-other, all-done}
+use Rattle.imposing.proofs.Laws.{all-same, all-other, all-done, types-refined}
 use borrow.Author.Needs.{needs}
 use Rattle.imposing.proofs.refine_all.Statement.{statement}
 use Rattle.imposing.proofs.refine_all.Tie as tie
 
 abbrev Inv-loop : tie.InvT-loop
-Inv-loop fact types n parents now₀ merges₀ added₀ i₀ now merges added i =
+Inv-loop els₀ facts₀ pairs fact types n parents now₀ i₀ els facts now i =
     (i ≤ n)
-    × Toward now₀ now merges added (i * oneList) (refineAll (drop i (factsOf types)) (factOf fact)) (refineAll (factsOf types) (factOf fact))
+    × Toward (lent els₀ facts₀ pairs now₀) (lent els facts pairs now) (i * oneList) (refineAll (drop i (factsIn n types)) (factOf fact))
+    (refineAll (factsIn n types) (factOf fact))
 
 abbrev μ-loop : tie.MeasureT-loop
-μ-loop fact types n parents now₀ merges₀ added₀ i₀ now merges added i = n - i
+μ-loop els₀ facts₀ pairs fact types n parents now₀ i₀ els facts now i = n - i
 
-size-requires : tie.Need-size-requires Inv-loop μ-loop
-size-requires c κs = search needs
+slice-aggregate-concrete-types-of : tie.Need-slice-aggregate-concrete-types-of Inv-loop μ-loop
+slice-aggregate-concrete-types-of c = refl
 
 loop-holds : tie.Need-loop-holds Inv-loop μ-loop
-loop-holds c = (omega arith, begins _ _)
-
-mul-here : tie.Need-mul-here Inv-loop μ-loop
-mul-here c = search needs
-
-element-copy-out-here : tie.Need-element-copy-out-here Inv-loop μ-loop
-element-copy-out-here c = search needs
-
-add-i : tie.Need-add-i Inv-loop μ-loop
-add-i c = search needs
-
-loop-less : tie.Need-loop-less Inv-loop μ-loop
-loop-less c = search needs
+loop-holds c =
+    (omega arith, begins _ (c .before .before .before .before .before .before .pre .0) _)
 
 loop-again : tie.Need-loop-again Inv-loop μ-loop
 loop-again c =
-    let test = c .before .before .before .before in
-    let sized = test .before .before .before in
-    let a = sized .before .args in
+    let read = c .before .before .before in
+    let test = read .before .before in
+    let typed = test .before .before .before .before in
     let l = test .before .loop in
-    let at : l .i < length (factsOf (a .t2)) = omega (arith, sized .size .ensures .is, test .loop-test .taken) in (
+    let there = typed .concrete-types-of .ensures in
+    let f = factOf (typed .before .before .before .before .args .fact) in (
       omega (arith, test .loop-test .taken),
-      idle-turn oneList (l .i) (l .inv .1) (all-other (a .t2) (factOf (a .fact)) (l .i) _ at (c .if1 .taken)),
+      idle-turn oneList (l .i) (l .inv .1)
+          (all-other _ _ (l .i) _ (read .fact-of .ensures) (test .loop-test .taken) (omega (arith, there .most, there .long)) f (c .if1 .taken)),
     )
 
 refine-parents-requires : tie.Need-refine-parents-requires Inv-loop μ-loop
-refine-parents-requires c κs = search needs
-
-add-merges : tie.Need-add-merges Inv-loop μ-loop
-add-merges c =
-    let made = c .before .before in
-    let test = made .before .before .before .before .before .before in
+refine-parents-requires c κs =
+    let test = c .before .before .before .before .before .before .before .before in
+    let typed = test .before .before .before .before in
     let l = test .before .loop in
-    omega (arith, l .inv .1 .merges-most, made .refine-parents .ensures .merges-most, test .loop-test .taken, test .before .before .before .size .ensures .most)
-
-add-added : tie.Need-add-added Inv-loop μ-loop
-add-added c =
-    let made = c .before .before .before in
-    let test = made .before .before .before .before .before .before in
-    let l = test .before .loop in
-    omega (arith, l .inv .1 .added-most, made .refine-parents .ensures .added-most, test .loop-test .taken, test .before .before .before .size .ensures .most)
-
-add-i-2 : tie.Need-add-i-2 Inv-loop μ-loop
-add-i-2 c = search needs
-
-loop-less-2 : tie.Need-loop-less-2 Inv-loop μ-loop
-loop-less-2 c = search needs
+    let most : l .i + 1 ≤ maxFacts = omega (arith, test .loop-test .taken, typed .concrete-types-of .ensures .most) in
+    (l .inv .1 .holds, room-turn oneList (l .i) (l .inv .1) (typed .before .before .before .before .pre .1) most)
 
 loop-again-2 : tie.Need-loop-again-2 Inv-loop μ-loop
 loop-again-2 c =
-    let made = c .before .before .before in
-    let here = made .before .before in
-    let test = here .before .before .before .before in
-    let sized = test .before .before .before in
-    let a = sized .before .args in
+    let made = c .before .before in
+    let here = made .before .before .before .before in
+    let read = here .before .before .before in
+    let test = read .before .before in
+    let typed = test .before .before .before .before in
     let l = test .before .loop in
-    let at : l .i < length (factsOf (a .t2)) = omega (arith, sized .size .ensures .is, test .loop-test .taken) in (
+    let there = typed .concrete-types-of .ensures in
+    let f = factOf (typed .before .before .before .before .args .fact) in (
       omega (arith, test .loop-test .taken),
-      turn oneList (l .i) (l .inv .1) (made .refine-parents .result) (made .refine-parents .ensures)
-          (all-same (a .t2) (factOf (a .fact)) (l .i) _ at (here .if1 .left)),
+      turn oneList (l .i) (l .inv .1) (made .refine-parents .ensures)
+          (all-same _ _ (l .i) _ (read .fact-of .ensures) (test .loop-test .taken) (omega (arith, there .most, there .long)) f (here .if1 .left)),
     )
+
+same-length : tie.Need-same-length Inv-loop μ-loop
+same-length c =
+    let l = c .before in
+    l .loop .inv .1 .holds .els-held .long ∙ sym (l .before .before .before .before .before .before .before .pre .0 .els-held .long)
+
+same-length-2 : tie.Need-same-length-2 Inv-loop μ-loop
+same-length-2 c =
+    let l = c .before in
+    l .loop .inv .1 .holds .facts-held .long ∙ sym (l .before .before .before .before .before .before .before .pre .0 .facts-held .long)
 
 returns : tie.Need-returns Inv-loop μ-loop
 returns c =
-    let sized = c .before .before .before in
-    let a = sized .before .args in
+    let typed = c .before .before .before .before in
+    let a = typed .before .before .before .before .args in
     let l = c .before .loop in
-    let past : length (factsOf (a .t2)) ≤ l .i = omega (arith, sized .size .ensures .is, c .loop-test .left) in
-    stays (l .inv .1) (omega (arith, l .inv .0, sized .size .ensures .most)) (all-done (a .t2) (factOf (a .fact)) (l .i) past)
+    let there = typed .concrete-types-of .ensures in
+    let whole = types-refined (factOf (a .fact)) (coreOf (lent (a .els .now) (a .facts .now) (a .pairs .now) (a .counts))) (there .is) in
+    stays (counts-as (l .inv .1) whole) (omega (arith, l .inv .0, there .most)) (all-done _ _ (l .i) (c .loop-test .left) (factOf (a .fact)))
 
 pub refine-all-spec : {M : Type 1} → statement M
 refine-all-spec =
@@ -100,17 +92,19 @@ refine-all-spec =
     (tie.spec
     Inv-loop
     μ-loop
-    size-requires
+    slice-aggregate-concrete-types-of
+    (λ c κs. search needs)
     loop-holds
-    mul-here
-    element-copy-out-here
-    add-i
-    loop-less
+    (λ c. search needs)
+    (λ c. search needs)
+    (λ c κs. search needs)
+    (λ c. search needs)
+    (λ c. search needs)
     loop-again
     refine-parents-requires
-    add-merges
-    add-added
-    add-i-2
-    loop-less-2
+    (λ c. search needs)
+    (λ c. search needs)
     loop-again-2
+    same-length
+    same-length-2
     returns)

@@ -1,127 +1,55 @@
 -- `move_facts` meets its contract.
-use mathlib.Core.Path.{_≡_, _∙_}
-use Prim.Native.Nat.{_-_}
-use lib.ListN.{length, length-set}
-use Rattle.ids.proofs.Views.{long}
-use Rattle.ids.proofs.Appending.{append-room, appended, AppendTurn, turned-none, turned-placed, turned-more, turned-all}
-use Rattle.semantics.specs.Structure.{maxFacts, compareFact}
+use mathlib.Core.Path.{ap, _∙_}
+use Prim.Native.Nat.{_-_, _≤_}
+use native.Mathlib.Omega.{arith}
+use Rattle.rows.proofs.InPlace.{InPlace, in-place-none, in-place-room, in-place-sorted, in-place-next, in-place-done}
+use Rattle.semantics.specs.Structure.{compareFact}
 use Rattle.semantics.proofs.Orders.{fact-ordered}
-use Rattle.facts.specs.View.{factOf, factsOf, noFact}
+use Rattle.fact_rows.specs.View.{factIn}
 use Rattle.merging.specs.View.{movedFact}
-use Rattle.merging.proofs.Merged.{moved-facts}
 use borrow.Author.Needs.{needs}
 use Rattle.merging.proofs.move_facts.Statement.{statement}
 use Rattle.merging.proofs.move_facts.Tie as tie
 
 abbrev Inv-loop : tie.InvT-loop
-Inv-loop keep from facts n moved₀ i₀ moved i =
-    (length (moved .items) ≡ maxFacts) × AppendTurn compareFact (movedFact (keep .0) (from .0)) (factsOf facts) i (factsOf moved)
+Inv-loop facts₀ n keep drop k₀ i₀ facts k i = (i ≤ n) × InPlace compareFact factIn (movedFact (keep .0) (drop .0)) n facts₀ facts i k
 
 abbrev μ-loop : tie.MeasureT-loop
-μ-loop keep from facts n moved₀ i₀ moved i = n - i
-
-size-requires : tie.Need-size-requires Inv-loop μ-loop
-size-requires c κs = search needs
-
-new-requires : tie.Need-new-requires Inv-loop μ-loop
-new-requires c κs = search needs
+μ-loop facts₀ n keep drop k₀ i₀ facts k i = n - i
 
 loop-holds : tie.Need-loop-holds Inv-loop μ-loop
-loop-holds c = (long _ (c .new .result .items) _ (c .new .ok .1 .1 .0 .1 .0 .1), turned-none _ _ _ (c .new .ensures))
+loop-holds c = (omega arith, in-place-none fact-ordered factIn _ _ _)
 
-mul-here : tie.Need-mul-here Inv-loop μ-loop
-mul-here c = search needs
+slice-copy-out-fact-of : tie.Need-slice-copy-out-fact-of Inv-loop μ-loop
+slice-copy-out-fact-of c = omega (arith, c .before .before .pre, c .before .loop .inv .1 .long, c .loop-test .taken)
 
-element-copy-out-here : tie.Need-element-copy-out-here Inv-loop μ-loop
-element-copy-out-here c = search needs
-
-moved-fact-requires : tie.Need-moved-fact-requires Inv-loop μ-loop
-moved-fact-requires c κs = search needs
-
-size-requires-2 : tie.Need-size-requires-2 Inv-loop μ-loop
-size-requires-2 c κs = search needs
-
-last-index-requires : tie.Need-last-index-requires Inv-loop μ-loop
-last-index-requires c κs = search needs
-
-mul-last : tie.Need-mul-last Inv-loop μ-loop
-mul-last c = search needs
-
-element-copy-out-last : tie.Need-element-copy-out-last Inv-loop μ-loop
-element-copy-out-last c = search needs
-
-goes-last-requires : tie.Need-goes-last-requires Inv-loop μ-loop
-goes-last-requires c κs = search needs
-
-mul-entry : tie.Need-mul-entry Inv-loop μ-loop
-mul-entry c = search needs
-
-element-set-from-entry : tie.Need-element-set-from-entry Inv-loop μ-loop
-element-set-from-entry c =
-    let asked = c .before in
-    let index = asked .before .before in
-    let counted = index .before in
-    let entry = counted .before in
-    append-room compareFact maxFacts (counted .size2 .result) factOf (entry .before .before .before .loop .moved .items) noFact (entry .moved-fact .result)
-    (index .last-index .result) (asked .goes-last .ensures) (c .if1 .taken)
-
-add-moved : tie.Need-add-moved Inv-loop μ-loop
-add-moved c = search needs
-
-cast-moved : tie.Need-cast-moved Inv-loop μ-loop
-cast-moved c = search needs
-
-add-i : tie.Need-add-i Inv-loop μ-loop
-add-i c = search needs
-
-loop-less : tie.Need-loop-less Inv-loop μ-loop
-loop-less c = search needs
+insert-requires : tie.Need-insert-requires Inv-loop μ-loop
+insert-requires c κs =
+    let test = c .before .before .before .before in
+    let l = test .before .loop in
+    let s = test .before .before in
+    (in-place-room fact-ordered factIn _ _ _ (s .pre) (l .inv .1) (test .loop-test .taken), in-place-sorted fact-ordered factIn _ _ _ (s .pre) (l .inv .1))
 
 loop-again : tie.Need-loop-again Inv-loop μ-loop
 loop-again c =
-    let asked = c .before in
-    let index = asked .before .before in
-    let counted = index .before in
-    let entry = counted .before in
-    let test = entry .before .before in
-    let sized = test .before .before .before in
-    let a = sized .before .args in
-    let l = test .before .loop in (
-      length-set (l .moved .items) (counted .size2 .result) (entry .moved-fact .result) ∙ l .inv .0,
-      turned-placed fact-ordered factOf (a .t1 .len) (a .t1 .items) (sized .size .ensures) (l .inv .1) noFact
-          (test .loop-test .taken) (entry .moved-fact .ensures)
-          (appended compareFact maxFacts (counted .size2 .result) factOf (l .moved .items) noFact (entry .moved-fact .result) (index .last-index .result) (asked .goes-last .ensures) (c .if1 .taken)
-          fact-ordered (l .moved .len) (counted .size2 .ensures) (l .inv .1 .sorted) (index .last-index .ensures) (l .inv .0)),
+    let moved = c .before .before .before in
+    let read = moved .before in
+    let test = read .before .before in
+    let l = test .before .loop in
+    let s = test .before .before in (
+      omega (arith, test .loop-test .taken),
+      in-place-next fact-ordered factIn (movedFact (s .args .keep .0) (s .args .drop .0)) (s .args .n) (s .args .facts .now) (s .pre) (l .inv .1) _ (test .loop-test .taken)
+          (moved .moved-fact .ensures ∙ ap (movedFact (s .args .keep .0) (s .args .drop .0)) (read .fact-of .ensures)) (c .before .insert .ensures),
     )
 
-insert-requires : tie.Need-insert-requires Inv-loop μ-loop
-insert-requires c κs = search needs
-
-add-i-2 : tie.Need-add-i-2 Inv-loop μ-loop
-add-i-2 c = search needs
-
-loop-less-2 : tie.Need-loop-less-2 Inv-loop μ-loop
-loop-less-2 c = search needs
-
-loop-again-2 : tie.Need-loop-again-2 Inv-loop μ-loop
-loop-again-2 c =
-    let made = c .before in
-    let asked = made .before .before in
-    let entry = asked .before .before .before .before in
-    let test = entry .before .before in
-    let sized = test .before .before .before in
-    let a = sized .before .args in (
-      long _ (made .insert .result .facts .items) _ (made .insert .ok .1 .1 .1 .1 .0 .1 .1 .0 .1 .0 .1),
-      turned-more fact-ordered factOf (a .t1 .len) (a .t1 .items) (sized .size .ensures) (test .before .loop .inv .1) noFact
-          (test .loop-test .taken) (entry .moved-fact .ensures) (made .insert .ensures .0),
-    )
+same-length : tie.Need-same-length Inv-loop μ-loop
+same-length c = c .before .loop .inv .1 .long
 
 returns : tie.Need-returns Inv-loop μ-loop
 returns c =
-    let sized = c .before .before .before in
-    let a = sized .before .args in
-    turned-all fact-ordered factOf (a .t1 .len) (a .t1 .items) (sized .size .ensures) (c .before .loop .inv .1) (c .loop-test .left)
-    ∙ moved-facts (a .keep .0) (a .drop .0) (factsOf (a .t1))
+    let l = c .before .loop in
+    let s = c .before .before in
+    in-place-done fact-ordered factIn (movedFact (s .args .keep .0) (s .args .drop .0)) (s .args .n) (s .args .facts .now) (s .pre) (l .inv .1) (c .loop-test .left) (l .inv .0)
 
 pub move-facts-spec : {M : Type 1} → statement M
 move-facts-spec =
@@ -129,26 +57,14 @@ move-facts-spec =
     (tie.spec
     Inv-loop
     μ-loop
-    size-requires
-    new-requires
     loop-holds
-    mul-here
-    element-copy-out-here
-    moved-fact-requires
-    size-requires-2
-    last-index-requires
-    mul-last
-    element-copy-out-last
-    goes-last-requires
-    mul-entry
-    element-set-from-entry
-    add-moved
-    cast-moved
-    add-i
-    loop-less
-    loop-again
+    (λ c. search needs)
+    slice-copy-out-fact-of
+    (λ c κs. search needs)
+    (λ c κs. search needs)
     insert-requires
-    add-i-2
-    loop-less-2
-    loop-again-2
+    (λ c. search needs)
+    (λ c. search needs)
+    loop-again
+    same-length
     returns)

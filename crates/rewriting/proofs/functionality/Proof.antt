@@ -1,198 +1,188 @@
 -- `functionality` meets its contract.
-use mathlib.Core.Path.{_≡_, sym, ap, _∙_}
-use Prim.Native.Nat.{_-_}
-use lib.ListN.{length, length-set}
-use Rattle.unification.specs.Roots.{linksOf}
-use Rattle.ids.proofs.Views.{long}
-use Rattle.ids.proofs.Appending.{append-room, appended, appended-new}
-use Rattle.semantics.specs.Structure.{maxFuncApps, compareFuncApp, resultOf}
-use Rattle.semantics.specs.Close.{rewriting}
-use Rattle.semantics.proofs.Orders.{func-app-ordered}
-use Rattle.apps.specs.View.{funcAppOf, funcAppsOf, noFuncApp, found}
-use Rattle.equalities.specs.View.{pairsOf}
-use Rattle.rewriting.proofs.Laws.{Entered, entered-none, entered-placed, entered-new, entered-same, entered-other, entered-all}
+use mathlib.Core.Path.{_≡_, refl, sym, ap, _∙_}
+use mathlib.Core.List.{[]}
+use Prim.Native.Nat.{_+_, _-_, _≤_, _<_}
+use native.Mathlib.Omega.{arith}
+use lib.ListN.{length, getD}
+use Rattle.ids.proofs.Tables.{at-entry}
+use Rattle.ids.proofs.Views.{length-view}
+use Rattle.rows.proofs.Shifting.{place-within}
+use Rattle.semantics.specs.Structure.{maxFuncApps, maxPairs, compareFuncApp, canonicalFuncApp}
+use Rattle.apps.specs.View.{funcAppOf}
+use Rattle.app_rows.specs.View.{funcAppIn}
+use Rattle.el_rows.specs.View.{linksIn}
+use Rattle.rewriting.proofs.Laws.{Entering, entering-none, entering-placed, entering-same, entering-other, entering-all}
 use borrow.Author.Needs.{needs}
 use Rattle.rewriting.proofs.functionality.Statement.{statement}
 use Rattle.rewriting.proofs.functionality.Tie as tie
 
 abbrev Inv-loop : tie.InvT-loop
-Inv-loop unification apps n done₀ pairs₀ queued₀ i₀ done pairs queued i =
-    (length (done .items) ≡ maxFuncApps)
-    × Entered (linksOf unification) (funcAppsOf apps) i (rewriting (funcAppsOf done) (pairsOf pairs) queued)
+Inv-loop els apps₀ pairs₀ counts n k₀ queued₀ i₀ i-end apps pairs k queued i =
+    (i ≤ i-end) × Entering (linksIn n els) i-end apps₀ apps pairs k queued i
 
 abbrev μ-loop : tie.MeasureT-loop
-μ-loop unification apps n done₀ pairs₀ queued₀ i₀ done pairs queued i = n - i
-
-size-requires : tie.Need-size-requires Inv-loop μ-loop
-size-requires c κs = search needs
-
-new-requires : tie.Need-new-requires Inv-loop μ-loop
-new-requires c κs = search needs
-
-new-requires-2 : tie.Need-new-requires-2 Inv-loop μ-loop
-new-requires-2 c κs = search needs
+μ-loop els apps₀ pairs₀ counts n k₀ queued₀ i₀ i-end apps pairs k queued i = i-end - i
 
 loop-holds : tie.Need-loop-holds Inv-loop μ-loop
-loop-holds c =
-    (long _ (c .before .new .result .items) _ (c .before .new .ok .1 .1 .0 .1 .0 .1), entered-none _ _ (c .before .new .ensures) (c .new2 .ensures))
+loop-holds c = (omega arith, entering-none _ _ _ _ (c .before .before .pre .1 .1 .1))
 
-mul-here : tie.Need-mul-here Inv-loop μ-loop
-mul-here c = search needs
+-- A turn of the loop: there is room.
 
-element-copy-out-here : tie.Need-element-copy-out-here Inv-loop μ-loop
-element-copy-out-here c = search needs
+there : (c : tie.At-loop Inv-loop μ-loop) → c .before .before .before .args .counts .«func_apps» ≤ length (c .before .before .before .args .apps .now)
+there c = let pre = c .before .before .before .pre .1 in omega (arith, pre .0, pre .1 .0)
+
+few : (c : tie.In-loop Inv-loop μ-loop) → let l = c .before .loop in (l .i < maxFuncApps) × ((l .k + l .queued < maxPairs) × (l .k < length (l .apps)))
+few c =
+    let l = c .before .loop in
+    let pre = c .before .before .before .before .pre .1 in (
+      omega (arith, c .loop-test .taken, pre .0),
+      (
+        omega (arith, c .loop-test .taken, pre .0, l .inv .1 .few),
+        omega (arith, c .loop-test .taken, pre .0, pre .1 .0, l .inv .1 .few, l .inv .1 .apps-long),
+      ),
+    )
+
+slice-copy-out-func-app-of : tie.Need-slice-copy-out-func-app-of Inv-loop μ-loop
+slice-copy-out-func-app-of c = omega (arith, few c .0, c .before .loop .inv .1 .apps-long, c .before .before .before .before .pre .1 .1 .0)
 
 canonical-func-app-requires : tie.Need-canonical-func-app-requires Inv-loop μ-loop
-canonical-func-app-requires c κs = search needs
+canonical-func-app-requires c κs =
+    let start = c .before .before .before .before .before .before in
+    let all : start .args .counts .els ≤ length (start .args .els .now) = omega (arith, start .pre .0 .few, start .pre .0 .long) in all
 
-size-requires-2 : tie.Need-size-requires-2 Inv-loop μ-loop
-size-requires-2 c κs = search needs
+position-requires : tie.Need-position-requires Inv-loop μ-loop
+position-requires c κs =
+    let t = c .before .before .before .before in
+    (omega (arith, few t .1 .1), t .before .loop .inv .1 .sorted)
 
-last-index-requires : tie.Need-last-index-requires Inv-loop μ-loop
-last-index-requires c κs = search needs
+-- the turn in which a place was asked for, and the application as roots
 
-mul-last : tie.Need-mul-last Inv-loop μ-loop
-mul-last c = search needs
+abbrev test : tie.After-position Inv-loop μ-loop → tie.In-loop Inv-loop μ-loop
+test c = c .before .before .before .before .before
 
-element-copy-out-last : tie.Need-element-copy-out-last Inv-loop μ-loop
-element-copy-out-last c = search needs
+abbrev placing : tie.After-apps Inv-loop μ-loop → tie.In-loop Inv-loop μ-loop
+placing c = test (c .before .before .before .before .before .before .before)
 
-goes-last-requires : tie.Need-goes-last-requires Inv-loop μ-loop
-goes-last-requires c κs = search needs
+abbrev meeting : tie.After-struct-known4 Inv-loop μ-loop → tie.In-loop Inv-loop μ-loop
+meeting c = test (c .before .before .before .before .before .before .before)
 
-mul-entry : tie.Need-mul-entry Inv-loop μ-loop
-mul-entry c = search needs
+roots : (c : tie.After-position Inv-loop μ-loop) →
+    let l = test c .before .loop in
+    let a = test c .before .before .before .before .args in
+    funcAppOf (c .before .before .canonical-func-app .result) ≡ canonicalFuncApp (linksIn (a .counts .els) (a .els .now)) (funcAppIn (getD (l .apps) (l .i) []))
+roots c =
+    let a = test c .before .before .before .before .args in
+    c .before .before .canonical-func-app .ensures ∙ ap (canonicalFuncApp (linksIn (a .counts .els) (a .els .now))) (c .before .before .before .func-app-of .ensures)
 
-element-set-from-entry : tie.Need-element-set-from-entry Inv-loop μ-loop
-element-set-from-entry c =
-    let asked = c .before in
-    let index = asked .before .before in
-    let counted = index .before in
-    let entry = counted .before .before in
-    append-room compareFuncApp maxFuncApps (counted .size2 .result) funcAppOf (entry .before .before .before .loop .done .items) noFuncApp
-    (entry .canonical-func-app .result) (index .last-index .result) (asked .goes-last .ensures) (c .if1 .taken)
+place-requires : tie.Need-place-requires Inv-loop μ-loop
+place-requires c κs =
+    let place = c .before .before .before in
+    let asked = place .before .before in
+    let t = test asked in (
+      place-within compareFuncApp funcAppIn _ _ _ (few t .1 .1) _ (sym (asked .position .ensures) ∙ place .at .given .1),
+      few t .1 .1,
+    )
 
-add-done : tie.Need-add-done Inv-loop μ-loop
-add-done c = search needs
-
-cast-done : tie.Need-cast-done Inv-loop μ-loop
-cast-done c = search needs
+add-k : tie.Need-add-k Inv-loop μ-loop
+add-k c = search (needs, few (placing c) .1 .0)
 
 add-i : tie.Need-add-i Inv-loop μ-loop
-add-i c = search needs
+add-i c = search (needs, few (placing c) .0)
 
 loop-less : tie.Need-loop-less Inv-loop μ-loop
-loop-less c = search needs
+loop-less c = omega (arith, placing c .loop-test .taken)
 
 loop-again : tie.Need-loop-again Inv-loop μ-loop
 loop-again c =
-    let asked = c .before in
-    let index = asked .before .before in
-    let counted = index .before in
-    let entry = counted .before .before in
-    let test = entry .before .before in
-    let sized = test .before .before .before .before in
-    let l = test .before .loop in
-    let z = entry .canonical-func-app .result in
-    let told = asked .goes-last .ensures in (
-      length-set (l .done .items) (counted .size2 .result) z ∙ l .inv .0,
-      entered-placed (sized .before .args .t2) (sized .size .ensures) (l .inv .1) noFuncApp _ (test .loop-test .taken) (entry .canonical-func-app .ensures)
-          (appended compareFuncApp maxFuncApps (counted .size2 .result) funcAppOf (l .done .items) noFuncApp z (index .last-index .result) told (c .if1 .taken)
-          func-app-ordered (l .done .len) (counted .size2 .ensures) (l .inv .1 .sorted) (index .last-index .ensures) (l .inv .0))
-          (sym (ap resultOf
-          (appended-new compareFuncApp maxFuncApps (counted .size2 .result) funcAppOf (l .done .items) noFuncApp z (index .last-index .result) told (c .if1 .taken)
-          func-app-ordered (l .done .len) (counted .size2 .ensures) (l .inv .1 .sorted) (index .last-index .ensures)))),
+    let placed = c .before in
+    let row = placed .before .before in
+    let place = row .before .before in
+    let asked = place .before .before in
+    let t = test asked in (
+      omega (arith, t .loop-test .taken),
+      entering-placed (t .before .loop .inv .1) (there (t .before)) (t .loop-test .taken) _ (roots asked) _
+          (sym (asked .position .ensures) ∙ place .at .given .1) (row .func-app-row .ensures) (placed .place .ensures),
     )
 
-get-requires : tie.Need-get-requires Inv-loop μ-loop
-get-requires c κs = search needs
+-- the entry with its key
 
-enum-known-existing : tie.Need-enum-known-existing Inv-loop μ-loop
-enum-known-existing c = search needs
+within : (c : tie.After-known-told2 Inv-loop μ-loop) → c .before .at2 .given .0 .0 < test (c .before .before .before) .before .loop .k
+within c =
+    let asked = c .before .before .before in
+    let l = test asked .before .loop in
+    omega (
+      arith,
+      length-view funcAppIn (l .k) (l .apps),
+      at-entry compareFuncApp _ (funcAppIn []) _ _ (sym (asked .position .ensures) ∙ c .before .at2 .given .1) .0,
+    )
 
-enum-told : tie.Need-enum-told Inv-loop μ-loop
-enum-told c = search needs
+mul-func-app-of-2 : tie.Need-mul-func-app-of-2 Inv-loop μ-loop
+mul-func-app-of-2 c = search (needs, within c, few (test (c .before .before .before)) .1 .0)
 
-insert-requires : tie.Need-insert-requires Inv-loop μ-loop
-insert-requires c κs = search needs
+slice-copy-out-func-app-of-2 : tie.Need-slice-copy-out-func-app-of-2 Inv-loop μ-loop
+slice-copy-out-func-app-of-2 c = omega (arith, within c, few (test (c .before .before .before)) .1 .1)
 
 add-i-2 : tie.Need-add-i-2 Inv-loop μ-loop
-add-i-2 c = search needs
+add-i-2 c = search (needs, few (meeting (c .before)) .0)
 
 loop-less-2 : tie.Need-loop-less-2 Inv-loop μ-loop
-loop-less-2 c = search needs
+loop-less-2 c = omega (arith, meeting (c .before) .loop-test .taken)
 
 loop-again-2 : tie.Need-loop-again-2 Inv-loop μ-loop
 loop-again-2 c =
-    let made = c .before in
-    let got = made .before .before .before in
-    let entry = got .before .before .before .before .before .before .before in
-    let test = entry .before .before in
-    let sized = test .before .before .before .before in
-    let nothing = sym (ap found (made .before .enum-told .given .1)) ∙ got .get .ensures in (
-      long _ (made .insert .result .«func_apps» .items) _ (made .insert .ok .1 .1 .1 .1 .0 .1 .1 .0 .1 .0 .1),
-      entered-new (sized .before .args .t2) (sized .size .ensures) (test .before .loop .inv .1) noFuncApp _
-          (test .loop-test .taken) (entry .canonical-func-app .ensures) (made .insert .ensures .0) nothing,
+    let stored = c .before .before .before in
+    let place = stored .before .before .before in
+    let asked = place .before .before in
+    let t = test asked in (
+      omega (arith, t .loop-test .taken),
+      entering-same (t .before .loop .inv .1) (there (t .before)) (t .loop-test .taken) _ (roots asked) _ _
+          (sym (asked .position .ensures) ∙ place .at2 .given .1) (stored .func-app-of2 .ensures) (c .if1 .taken),
     )
 
+mul-t27 : tie.Need-mul-t27 Inv-loop μ-loop
+mul-t27 c = search (needs, few (meeting (c .before)) .1 .0)
+
+slice-set-from-pairs : tie.Need-slice-set-from-pairs Inv-loop μ-loop
+slice-set-from-pairs c = let t = meeting (c .before) in omega (arith, few t .1 .0, t .before .loop .inv .1 .pairs-long)
+
+add-queued : tie.Need-add-queued Inv-loop μ-loop
+add-queued c = search (needs, few (meeting (c .before)) .1 .0)
+
 add-i-3 : tie.Need-add-i-3 Inv-loop μ-loop
-add-i-3 c = search needs
+add-i-3 c = search (needs, few (meeting (c .before)) .0)
 
 loop-less-3 : tie.Need-loop-less-3 Inv-loop μ-loop
-loop-less-3 c = search needs
+loop-less-3 c = omega (arith, meeting (c .before) .loop-test .taken)
 
 loop-again-3 : tie.Need-loop-again-3 Inv-loop μ-loop
 loop-again-3 c =
-    let existing = c .before .before .before .before in
-    let got = existing .before .before in
-    let entry = got .before .before .before .before .before .before .before in
-    let test = entry .before .before in
-    let sized = test .before .before .before .before in
-    let stored = sym (ap found (existing .existing .given .1)) ∙ got .get .ensures in (
-      test .before .loop .inv .0,
-      entered-same (sized .before .args .t2) (sized .size .ensures) (test .before .loop .inv .1) noFuncApp _
-          (test .loop-test .taken) (entry .canonical-func-app .ensures) _ stored (c .if2 .taken),
+    let stored = c .before .before .before in
+    let place = stored .before .before .before in
+    let asked = place .before .before in
+    let t = test asked in (
+      omega (arith, t .loop-test .taken),
+      entering-other (t .before .loop .inv .1) (there (t .before)) (t .loop-test .taken) _ (roots asked) _ _
+          (sym (asked .position .ensures) ∙ place .at2 .given .1) (stored .func-app-of2 .ensures) (c .if1 .left) (omega (arith, few t .1 .0)),
     )
 
--- the entry that meets another result
+same-length : tie.Need-same-length Inv-loop μ-loop
+same-length c = c .before .loop .inv .1 .apps-long
 
-abbrev got : tie.After-push Inv-loop μ-loop → tie.After-get Inv-loop μ-loop
-got c = c .before .before .before .before .before .before .before .before
-
-abbrev asking : tie.After-push Inv-loop μ-loop → tie.After-canonical-func-app Inv-loop μ-loop
-asking c = got c .before .before .before .before .before .before .before
-
-new-requires-3 : tie.Need-new-requires-3 Inv-loop μ-loop
-new-requires-3 c κs = search needs
-
-push-requires : tie.Need-push-requires Inv-loop μ-loop
-push-requires c κs = search needs
-
-add-i-4 : tie.Need-add-i-4 Inv-loop μ-loop
-add-i-4 c =
-    let test = asking c .before .before in
-    search (needs, test .loop-test .taken, test .before .before .before .before .size .ensures .most)
-
-loop-less-4 : tie.Need-loop-less-4 Inv-loop μ-loop
-loop-less-4 c = search needs
-
-loop-again-4 : tie.Need-loop-again-4 Inv-loop μ-loop
-loop-again-4 c =
-    let made = c .before in
-    let other = made .before in
-    let existing = other .before .before .before .before in
-    let test = asking c .before .before in
-    let sized = test .before .before .before .before in
-    let stored = sym (ap found (existing .existing .given .1)) ∙ got c .get .ensures in (
-      test .before .loop .inv .0,
-      entered-other (sized .before .args .t2) (sized .size .ensures) (test .before .loop .inv .1) noFuncApp _
-          (test .loop-test .taken) (asking c .canonical-func-app .ensures) _ (made .new3 .ensures) (c .push .ensures .0) stored (other .if2 .left),
-    )
+same-length-2 : tie.Need-same-length-2 Inv-loop μ-loop
+same-length-2 c = c .before .loop .inv .1 .pairs-long ∙ sym (c .before .before .before .before .pre .1 .1 .1)
 
 returns : tie.Need-returns Inv-loop μ-loop
 returns c =
-    let sized = c .before .before .before .before in
-    entered-all (sized .before .args .t2) (sized .size .ensures) (c .before .loop .inv .1) (c .loop-test .left)
+    let l = c .before .loop in
+    let pre = c .before .before .before .before .pre .1 in
+    record {
+      is = entering-all (l .inv .1) (there (c .before)) (c .loop-test .left);
+      counts = refl;
+      apps-few = omega (arith, l .inv .0, l .inv .1 .few, pre .0);
+      apps-long = l .inv .1 .apps-long ∙ pre .1 .0;
+      pairs-few = omega (arith, l .inv .0, l .inv .1 .few, pre .0);
+      pairs-long = l .inv .1 .pairs-long;
+    }
 
 pub functionality-spec : {M : Type 1} → statement M
 functionality-spec =
@@ -200,38 +190,36 @@ functionality-spec =
     (tie.spec
     Inv-loop
     μ-loop
-    size-requires
-    new-requires
-    new-requires-2
+    (λ c. search needs)
+    (λ c. search needs)
     loop-holds
-    mul-here
-    element-copy-out-here
+    (λ c. search needs)
+    slice-copy-out-func-app-of
+    (λ c κs. search needs)
     canonical-func-app-requires
-    size-requires-2
-    last-index-requires
-    mul-last
-    element-copy-out-last
-    goes-last-requires
-    mul-entry
-    element-set-from-entry
-    add-done
-    cast-done
+    position-requires
+    (λ c. search needs)
+    (λ c κs. search needs)
+    place-requires
+    add-k
     add-i
     loop-less
     loop-again
-    get-requires
-    enum-known-existing
-    enum-told
-    insert-requires
+    (λ c. search needs)
+    mul-func-app-of-2
+    slice-copy-out-func-app-of-2
+    (λ c κs. search needs)
     add-i-2
     loop-less-2
     loop-again-2
+    mul-t27
+    slice-set-from-pairs
+    add-queued
     add-i-3
     loop-less-3
     loop-again-3
-    new-requires-3
-    push-requires
-    add-i-4
-    loop-less-4
-    loop-again-4
+    (λ c. search needs)
+    (λ c. search needs)
+    same-length
+    same-length-2
     returns)

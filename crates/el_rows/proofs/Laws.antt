@@ -1,0 +1,108 @@
+-- Laws of the links and marks of rows: reads, stores, a merge, entries as roots.
+use mathlib.Core.Path.{_≡_, refl, sym, ap, _∙_}
+use mathlib.Core.Bool.{Bool, false, _&&_}
+use mathlib.Core.List.{List, [], _∷_, map}
+use Prim.Native.Nat.{ℕ, zero, suc, _≤_, _<_}
+use native.Mathlib.Nat.{le-of-suc-le-suc, not-suc-le-zero}
+use native.Mathlib.Omega.{arith}
+use lib.ListN.{length, take, getD, set, length-set, List·getD-eq-default}
+use lib.Seq.{set-out, set-getD}
+use Rattle.ids.proofs.Views.{length-view}
+use Rattle.unification.specs.Roots.{link, rootOf}
+use Rattle.unification.proofs.Laws.{root-stop, merged-less}
+use Rattle.semantics.specs.Structure.{Fact, fact, FuncApp, func-app, canonicalFact, canonicalFuncApp}
+use Rattle.semantics.specs.Types.{marked, mergedMarks}
+use Rattle.el_rows.specs.View.{linkIn, markIn, linksIn, marksIn, Merged}
+
+-- A view of the first n rows, over any type of rows.
+
+module _ {A B : Type 0} (f : A → B) where
+  -- an entry in use
+  pub view-read : (n : ℕ) (xs : List A) (i : ℕ) (d : A) (e : B) → i < n → n ≤ length xs → getD (map f (take n xs)) i e ≡ f (getD xs i d)
+  view-read zero xs i d e h k = absurd (not-suc-le-zero h)
+  view-read (suc n) [] i d e h k = absurd (not-suc-le-zero k)
+  view-read (suc n) (x ∷ xs) zero d e h k = refl
+  view-read (suc n) (x ∷ xs) (suc i) d e h k = view-read n xs i d e (le-of-suc-le-suc h) (le-of-suc-le-suc k)
+
+  -- past them the entry is the default
+  pub view-past : (n : ℕ) (xs : List A) {i : ℕ} (e : B) → n ≤ i → getD (map f (take n xs)) i e ≡ e
+  view-past n xs e h = List·getD-eq-default (map f (take n xs)) e (omega (arith, length-view f n xs))
+
+  -- a row stored
+  pub view-stored : (n : ℕ) (xs : List A) (i : ℕ) (x : A) → map f (take n (set xs i x)) ≡ set (map f (take n xs)) i (f x)
+  view-stored zero xs i x = refl
+  view-stored (suc n) [] i x = refl
+  view-stored (suc n) (y ∷ xs) zero x = refl
+  view-stored (suc n) (y ∷ xs) (suc i) x = ap (λ (l : List B). f y ∷ l) (view-stored n xs i x)
+
+  -- past them nothing is stored
+  pub view-unstored : (n : ℕ) (xs : List A) (i : ℕ) (v : B) → n ≤ i → map f (take n xs) ≡ set (map f (take n xs)) i v
+  view-unstored n xs i v h = sym (set-out (map f (take n xs)) i v (omega (arith, length-view f n xs)))
+
+-- Reads.
+
+module _ (n : ℕ) (els : List (List ℕ)) (e : ℕ) where
+  module _ (at : e < n) (all : n ≤ length els) (d : List ℕ) where
+    pub link-read : link (linksIn n els) e ≡ linkIn (getD els e d)
+    link-read = view-read linkIn n els e d e at all
+
+    pub mark-read : markIn (getD els e d) ≡ marked (marksIn n els) e
+    mark-read = sym (view-read markIn n els e d false at all)
+
+  -- a number that is no element is its own root, and not marked
+  module _ (past : n ≤ e) where
+    pub root-past : e ≡ rootOf (linksIn n els) e
+    root-past = let own : link (linksIn n els) e ≡ e = view-past linkIn n els e past in sym (root-stop (linksIn n els) e (omega arith))
+
+    pub mark-past : false ≡ marked (marksIn n els) e
+    mark-past = sym (view-past markIn n els false past)
+
+-- A merge: first the mark of the smaller, then the row of the larger.
+
+pub record Remarked (n e : ℕ) (mark : Bool) (before after : List (List ℕ)) : Type 0 where
+  pub links : linksIn n after ≡ linksIn n before
+  pub marks : marksIn n after ≡ set (marksIn n before) e mark
+  pub long : length after ≡ length before
+
+module _ (n e : ℕ) (els : List (List ℕ)) {mark : Bool} where
+  pub remarked : (d r : List ℕ) {after : List (List ℕ)} → e < n → n ≤ length els → linkIn r ≡ linkIn (getD els e d) → markIn r ≡ mark
+      → after ≡ set els e r → Remarked n e mark els after
+  remarked d r at all l m is = record {
+    links = ap (linksIn n) is ∙ view-stored linkIn n els e r ∙ ap (set (linksIn n els) e) (l ∙ sym (link-read n els e at all d)) ∙ set-getD (linksIn n els) e e;
+    marks = ap (marksIn n) is ∙ view-stored markIn n els e r ∙ ap (set (marksIn n els) e) m;
+    long = ap length is ∙ length-set els e r;
+  }
+
+  pub unmarked : {after : List (List ℕ)} → n ≤ e → after ≡ els → Remarked n e mark els after
+  unmarked past is = record { links = ap (linksIn n) is; marks = ap (marksIn n) is ∙ view-unstored markIn n els e mark past; long = ap length is }
+
+module _ (n keep drop : ℕ) (before now : List (List ℕ)) {both : Bool} (low : keep < drop)
+    (is : both ≡ (marked (marksIn n before) keep && marked (marksIn n before) drop)) (first : Remarked n keep both before now) where
+  merge : (after : List (List ℕ)) → linksIn n after ≡ set (linksIn n now) drop keep → marksIn n after ≡ set (marksIn n now) drop false
+      → length after ≡ length now → Merged n keep drop before after
+  unfolding mergedMarks
+  merge after l m long = record {
+    links = l ∙ ap (λ (ls : List ℕ). set ls drop keep) (first .links) ∙ sym (merged-less (linksIn n before) keep drop low);
+    marks = m ∙ ap (λ (ms : List Bool). set ms drop false) (first .marks ∙ ap (set (marksIn n before) keep) is);
+    long = long ∙ first .long;
+  }
+
+  pub merged-row : (r : List ℕ) → linkIn r ≡ keep → markIn r ≡ false → Merged n keep drop before (set now drop r)
+  merged-row r l m =
+      merge (set now drop r) (view-stored linkIn n now drop r ∙ ap (set (linksIn n now) drop) l)
+      (view-stored markIn n now drop r ∙ ap (set (marksIn n now) drop) m) (length-set now drop r)
+
+  pub merged-past : n ≤ drop → Merged n keep drop before now
+  merged-past past = merge now (view-unstored linkIn n now drop keep past) (view-unstored markIn n now drop false past) refl
+
+-- Entries as roots: what the finds ensure.
+
+pub fact-roots : (ls : List ℕ) (f : Fact) {r : ℕ} {ps : List ℕ} → r ≡ rootOf ls (f .el) → ps ≡ map (rootOf ls) (f .parents)
+    → fact r (f .typ) ps ≡ canonicalFact ls f
+unfolding canonicalFact
+fact-roots ls f p q = λ i. fact (p i) (f .typ) (q i)
+
+pub app-roots : (ls : List ℕ) (x : FuncApp) {r : ℕ} {ps es : List ℕ} → ps ≡ map (rootOf ls) (x .parents) → es ≡ map (rootOf ls) (x .args)
+    → r ≡ rootOf ls (x .result) → func-app (x .func) ps es r ≡ canonicalFuncApp ls x
+unfolding canonicalFuncApp
+app-roots ls x p q r = λ i. func-app (x .func) (p i) (q i) (r i)

@@ -1,0 +1,29 @@
+-- Rows of elements as the definitions speak of them.
+use Prim.Native.Nat.{ℕ}
+use mathlib.Core.Path.{_≡_}
+use mathlib.Core.Bool.{Bool}
+use mathlib.Core.List.{List, map}
+use lib.ListN.{length, take, getD}
+use lib.Dec.{eqb}
+use Rattle.unification.specs.Roots.{mergedOf}
+use Rattle.semantics.specs.Types.{mergedMarks}
+
+-- the link of an element, and 1 where it is marked
+unfoldable pub linkIn : List ℕ → ℕ
+linkIn r = getD r 0 0
+
+unfoldable pub markIn : List ℕ → Bool
+markIn r = eqb (getD r 1 0) 1
+
+-- the links and the marks of the first n rows
+abbrev pub linksIn : ℕ → List (List ℕ) → List ℕ
+linksIn n rows = map linkIn (take n rows)
+
+abbrev pub marksIn : ℕ → List (List ℕ) → List Bool
+marksIn n rows = map markIn (take n rows)
+
+-- two roots merged among the first n elements, with their marks
+pub record Merged (n keep drop : ℕ) (before after : List (List ℕ)) : Type 0 where
+  pub links : linksIn n after ≡ mergedOf (linksIn n before) keep drop
+  pub marks : marksIn n after ≡ mergedMarks (marksIn n before) keep drop
+  pub long : length after ≡ length before

@@ -1,0 +1,35 @@
+-- What the steps of imposing a fact leave, as the definitions speak of it.
+use Prim.Native.Nat.{ℕ, _≤_}
+use mathlib.Core.Path.{_≡_}
+use mathlib.Core.Bool.{Bool, true, false}
+use mathlib.Core.List.{List}
+use lib.ListN.{length, take, drop}
+use Rattle.ids.specs.declared.Ordering.the-variants.{Less}
+use Rattle.ids.specs.Sorted.{All}
+use Rattle.rows.specs.Table.{isLess}
+use Rattle.semantics.specs.Structure.{Fact, compareFact, maxFacts}
+use Rattle.semantics.specs.Types.{Core, concreteTypesOf, refineAll, insertFact}
+use Rattle.fact_rows.specs.View.{factsIn}
+use Rattle.merging.specs.declared.Tally.{Tally}
+use Rattle.merging.specs.View.{lent, ElsHeld, PairsHeld, Passes}
+
+-- the facts before the index r are smaller than the key; where the facts are in order, those from there on are not
+pub record FirstOf (in-order : Bool) (key : Fact) (fs : List Fact) (r : ℕ) : Type 0 where
+  pub most : r ≤ length fs
+  pub smaller : All (λ g. compareFact g key ≡ Less) (take r fs)
+  pub rest : in-order ≡ true → All (λ g. isLess (compareFact g key) ≡ false) (drop r fs)
+
+-- the first r rows are the types of an element
+pub record TypesOf (ls : List ℕ) (fs : List Fact) (e : ℕ) (types : List (List ℕ)) (r : ℕ) : Type 0 where
+  pub is : factsIn r types ≡ concreteTypesOf ls fs e
+  pub most : r ≤ maxFacts
+  pub long : length types ≡ maxFacts
+
+-- "take `concrete_types_of` once. For each of the same type .."
+unfoldable pub refined : Fact → Core → Core
+refined f w = refineAll (concreteTypesOf (w .links) (w .facts) (f .el)) f w
+
+-- a fact is inserted, whatever the links, the marks and the queue are
+abbrev pub Inserts : List (List ℕ) → Tally → List (List ℕ) → Tally → Fact → Type 0
+Inserts facts c facts' r f =
+    (els pairs : List (List ℕ)) → ElsHeld els c → PairsHeld pairs c → Passes (lent els facts pairs c) (lent els facts' pairs r) 1 (insertFact f)

@@ -1,0 +1,6 @@
+pub mod InPlace
+pub mod Four
+pub mod Halving
+pub mod Shifting
+pub mod Adjacent
+pub mod Positions
