@@ -1,7 +1,9 @@
 // A table of applications as rows of numbers. A predicate application has the row of a function application whose result is 0; the order
 // reads the key alone, so that one table serves both.
 use apps::FuncApp;
+use apps::FuncApps;
 use apps::PredApp;
+use apps::PredApps;
 use ids::ElId;
 use ids::ElIds;
 use ids::FuncId;
@@ -13,13 +15,16 @@ ghost use Prim.Native.Nat.{_≤_, _<_};
 ghost use lib.ListN.{length};
 ghost use Rattle.ids.specs.Table.{positionFrom};
 ghost use Rattle.ids.specs.Sorted.{Sorted};
-ghost use Rattle.rows.specs.Table.{isLess, Placed, Inserted};
-ghost use Rattle.semantics.specs.Structure.{compareFuncApp};
-ghost use Rattle.apps.specs.View.{funcAppOf, predAppOf};
-ghost use Rattle.app_rows.specs.View.{funcAppIn, funcAppsIn, predAppIn};
+ghost use Rattle.rows.specs.Table.{isLess, RowPlaced, Inserted, InRows};
+ghost use Rattle.semantics.specs.Structure.{compareFuncApp, maxFuncApps, maxPredApps};
+ghost use Rattle.apps.specs.View.{funcAppOf, predAppOf, funcAppsOf, predAppsOf};
+ghost use Rattle.app_rows.specs.View.{funcAppIn, funcAppsIn, predAppIn, predAppsIn};
+
+// How many numbers a row of an application has.
+pub const APP_WIDTH: usize = 12;
 
 // The function or predicate, the entries of the list of parents and its length, those of the arguments and their number, and the result.
-pub type AppRow = [u16; 12];
+pub type AppRow = [u16; APP_WIDTH];
 
 pub fn func_app_row(app: FuncApp) -> AppRow
     ensures { λ r. ⌜ funcAppIn r ≡ funcAppOf app ⌝ }
@@ -131,7 +136,7 @@ pub fn position(rows: &[AppRow], n: usize, entry: FuncApp) -> Place
 // One row more at an index, those from there to n one place higher.
 pub fn place(rows: &mut [AppRow], n: usize, at: usize, row: AppRow)
     requires { ⌜ (at ≤ n) × (n < length (now rows)) ⌝ }
-    ensures { λ r. ⌜ Placed n at row (now (rows .entry)) (now (rows .exit)) ⌝ }
+    ensures { λ r. ⌜ RowPlaced n at row (now (rows .entry)) (now (rows .exit)) ⌝ }
 {
     let mut i = n;
     while at < i {
@@ -154,4 +159,54 @@ pub fn insert(rows: &mut [AppRow], n: usize, entry: FuncApp) -> usize
     let row = func_app_row(entry);
     place(rows, n, at, row);
     n + 1
+}
+
+// The function applications as rows: gives how many there are.
+pub fn fill_func_apps(rows: &mut [AppRow], table: FuncApps) -> usize
+    requires { ⌜ length (now rows) ≡ maxFuncApps ⌝ }
+    ensures { λ r. ⌜ InRows funcAppIn (funcAppsOf table) maxFuncApps (now (rows .exit)) r ⌝ }
+{
+    let n = table.size();
+    for i in 0..n {
+        rows[i] = func_app_row(table.items[i]);
+    }
+    n
+}
+
+// The table of the function applications that the first n rows hold.
+pub fn func_apps_of(rows: &[AppRow], n: usize) -> FuncApps
+    requires { ⌜ (n ≤ maxFuncApps) × (length (now rows) ≡ maxFuncApps) ⌝ }
+    ensures { λ r. ⌜ funcAppsOf r ≡ funcAppsIn n (now (rows .entry)) ⌝ }
+{
+    let mut table = FuncApps::new();
+    for i in 0..n {
+        table.items[i] = func_app_of(rows[i]);
+    }
+    table.len = n as u16;
+    table
+}
+
+// The predicate applications as rows: gives how many there are.
+pub fn fill_pred_apps(rows: &mut [AppRow], table: PredApps) -> usize
+    requires { ⌜ length (now rows) ≡ maxPredApps ⌝ }
+    ensures { λ r. ⌜ InRows predAppIn (predAppsOf table) maxPredApps (now (rows .exit)) r ⌝ }
+{
+    let n = table.size();
+    for i in 0..n {
+        rows[i] = pred_app_row(table.items[i]);
+    }
+    n
+}
+
+// The table of the predicate applications that the first n rows hold.
+pub fn pred_apps_of(rows: &[AppRow], n: usize) -> PredApps
+    requires { ⌜ (n ≤ maxPredApps) × (length (now rows) ≡ maxPredApps) ⌝ }
+    ensures { λ r. ⌜ predAppsOf r ≡ predAppsIn n (now (rows .entry)) ⌝ }
+{
+    let mut table = PredApps::new();
+    for i in 0..n {
+        table.items[i] = pred_app_of(rows[i]);
+    }
+    table.len = n as u16;
+    table
 }

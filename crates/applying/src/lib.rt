@@ -1,5 +1,5 @@
 // A function application, or the equality of its result with the one that is stored.
-// It works on links, pairs and applications alone, so that the call and the passes of a close can share it.
+// It works on links, pairs and applications alone; the causes of the call are judged in `inserting`.
 use apps::FuncApp;
 use apps::FuncApps;
 use apps::Stored;

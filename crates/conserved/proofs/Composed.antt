@@ -10,11 +10,11 @@ use Rattle.signature.specs.Calls.{TypedM}
 use Rattle.semantics.specs.Types.{anyMarked}
 use Rattle.semantics.specs.Close.{Closed}
 use Rattle.semantics.specs.Calls as calls
-use Rattle.semantics.specs.Calls.{Call, Totals, Answer, closed, summed, isAccepted, settleRun, machine, Step, answers, step}
+use Rattle.semantics.specs.Calls.{Call, Totals, Answer, closed, summed, isAccepted, mergesOf, settleRun, machine, Step, answers, step}
 use Rattle.semantics.proofs.Judged.{lookedUp, lookup-steps}
 use Rattle.structure.specs.declared.Machine.{Machine}
 use Rattle.structure.specs.View.{structureOf, machineOf, Looking}
-use Rattle.history.specs.Book.{Book, blank, History, reached, noted, next, run, history, begin, fed, mergesOf}
+use Rattle.history.specs.Book.{Book, blank, History, reached, noted, next, run, history, begin, fed}
 use Rattle.history.specs.Book.{RanCloses, closes, settles, Conserved, Conservation}
 use Rattle.validity.proofs.Calls.{ValidMachine}
 use Rattle.history.proofs.Settling.{SettleEnds, settle-ends}

@@ -18,7 +18,7 @@ use Rattle.signature.specs.declared.Signature.{Signature}
 use Rattle.signature.specs.Model.{givenType, givenPred, givenFunc, modelOf, morAppOf}
 use Rattle.signature.specs.Calls as signing
 use Rattle.semantics.specs.Calls as calls
-use Rattle.semantics.specs.Calls.{Call, Answer, isAccepted, conflicting}
+use Rattle.semantics.specs.Calls.{Call, Answer, isAccepted, mergesOf, conflicting}
 use Rattle.semantics.proofs.Judged.{lookedUp}
 use Rattle.facts.specs.declared.Fact.{Fact}
 use Rattle.apps.specs.declared.FuncApp.{FuncApp}
@@ -58,7 +58,7 @@ use Rattle.signature.proofs.Signature.lookup_type.Reads as lookup-type-fn
 use Rattle.structure.proofs.Structure.ambient_parents.Reads as ambient-parents-fn
 use Rattle.signature.proofs.Signature.new.Reads as new-signature-fn
 use Rattle.structure.proofs.Structure.new.Reads as new-structure-fn
-use Rattle.history.specs.Book.{Book, fed, mergesOf}
+use Rattle.history.specs.Book.{Book, fed}
 use Rattle.history.specs.Settled.{Event, event}
 
 abbrev pub with-signature : Signature → Machine → Machine

@@ -153,8 +153,8 @@ module _ (κs : Lfts 1) (bytes : _) (r : Responded) (ran : run-fn.Learnt κs (by
       ∙ ap (answers (lastAnswer start (now bytes) (wholeRecords (now bytes)))) (after-history (callsIn (now bytes)))
 
   -- what `run` leaves is what the calls of the list leave
-  pub left : machineOf (r .machine) ≡ afterCalls (callsIn (now bytes)) start
-  left = ap (λ (s : Step). s .after) stepped ∙ sym (after-history (callsIn (now bytes)))
+  pub run-leaves : machineOf (r .machine) ≡ afterCalls (callsIn (now bytes)) start
+  run-leaves = ap (λ (s : Step). s .after) stepped ∙ sym (after-history (callsIn (now bytes)))
 
   -- For every slice of bytes whose calls end in a close or settle that is accepted, with no element marked up to then: what `Conserved` says of the
   -- book of these calls, of the links of the machine that `run` hands back, and of the answers of the closes that the last call ran.

@@ -11,14 +11,14 @@ use Rattle.ids.specs.Ids.{padded}
 use Rattle.unification.specs.Roots.{linksOf}
 use Rattle.semantics.specs.Types.{anyMarked}
 use Rattle.semantics.specs.Close.{Closed, report}
-use Rattle.semantics.specs.Calls.{Call, push-el, equate-els, root, close, settle, totals, Answer, closed, summed, isAccepted, Machine, start, afterCalls}
+use Rattle.semantics.specs.Calls.{Call, push-el, equate-els, root, close, settle, totals, Answer, closed, summed, isAccepted, mergesOf, Machine, start, afterCalls}
 use Rattle.semantics.proofs.Computes.{everything}
 use Rattle.history.specs.Book as book
 use Rattle.history.specs.Book.{history, closes, settles, Conserved}
 use Rattle.driver.specs.Calls.{rootKind, callAt, callList, callsBefore, callsIn, lastAnswer, listBefore, runList}
 use Rattle.driver.specs.declared.Responded.{Responded}
 use Rattle.driver.proofs.run.Reads as run-fn
-use Rattle.driver.proofs.Conserved.{Ends, left, run-conserves}
+use Rattle.driver.proofs.Conserved.{Ends, run-leaves, run-conserves}
 use Rattle.driver.proofs.Settled.{SaysSettledAfter}
 
 unfoldable pub zeros : ℕ → List ℕ
@@ -43,7 +43,7 @@ worked kind =
 
 -- the definitions that a list of bytes computes with
 computed : ℕ
-unfolding everything anyMarked isAccepted worked zeros callAt callList callsBefore lastAnswer listBefore padded book.blank book.taken book.fed book.mergesOf book.noted book.next book.run book.begin book.history
+unfolding everything anyMarked isAccepted mergesOf worked zeros callAt callList callsBefore lastAnswer listBefore padded book.blank book.taken book.fed book.noted book.next book.run book.begin book.history
 computed = 0
 
 -- the calls before the last
@@ -98,5 +98,5 @@ settle-settles = refl
 pub worked-asked : (κs : Lfts 1) (bytes : _) (r : Responded) (ran : run-fn.Learnt κs (bytes, tt) r (bytes, tt)) → now bytes ≡ worked 15
     → SaysSettledAfter κs bytes r ran true
 worked-asked κs bytes r ran e =
-    sym (ap (λ (m : Machine). m .structure .settled) (left κs bytes r ran)
+    sym (ap (λ (m : Machine). m .structure .settled) (run-leaves κs bytes r ran)
     ∙ ap (λ (l : List ℕ). afterCalls (callsIn l) start .structure .settled) e ∙ settle-settles)

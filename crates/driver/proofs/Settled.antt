@@ -16,7 +16,7 @@ use Rattle.history.proofs.Settled.{NothingToClose, settled-is, settled-closes-a
 use Rattle.driver.specs.Calls.{callsIn}
 use Rattle.driver.specs.declared.Responded.{Responded}
 use Rattle.driver.proofs.run.Reads as run-fn
-use Rattle.driver.proofs.Conserved.{left, given}
+use Rattle.driver.proofs.Conserved.{run-leaves, given}
 
 -- For every slice of bytes, whatever its calls, marks or not.
 module _ (κs : Lfts 1) (bytes : _) (r : Responded) (ran : run-fn.Learnt κs (bytes, tt) r (bytes, tt)) where
@@ -25,12 +25,12 @@ module _ (κs : Lfts 1) (bytes : _) (r : Responded) (ran : run-fn.Learnt κs (by
   SaysSettledAfter a = is-settled-fn.Learnt tt (r .machine .structure, tt) a (r .machine .structure, tt)
 
   pub run-then-asked : (a : Bool) → SaysSettledAfter a → a ≡ settledAfter (trace (callsIn (now bytes)) start [])
-  run-then-asked a says = says ∙ ap (λ (m : Machine). m .structure .settled) (left κs bytes r ran) ∙ settled-is (callsIn (now bytes))
+  run-then-asked a says = says ∙ ap (λ (m : Machine). m .structure .settled) (run-leaves κs bytes r ran) ∙ settled-is (callsIn (now bytes))
 
   -- where it says yes, a close of it reports no change, and a settle runs one close
 
   nothing : SaysSettledAfter true → NothingToClose (machineOf (r .machine))
-  nothing says = settled-closes-at (callsIn (now bytes)) (machineOf (r .machine)) (sym (left κs bytes r ran)) (sym says)
+  nothing says = settled-closes-at (callsIn (now bytes)) (machineOf (r .machine)) (sym (run-leaves κs bytes r ran)) (sym says)
 
   pub run-then-close-unchanged : SaysSettledAfter true → (z : Stepped) → close-fn.Learnt tt (given κs bytes r ran) z (given κs bytes r ran) → answerOf [] (z .answer) ≡ closed noChange
   run-then-close-unchanged says z did = ap (λ (s : Step). s .answer) (did .0) ∙ nothing says .closes

@@ -1,17 +1,18 @@
 -- Laws of the links and marks of rows: reads, stores, a merge, entries as roots.
 use mathlib.Core.Path.{_≡_, refl, sym, ap, _∙_}
-use mathlib.Core.Bool.{Bool, false, _&&_}
-use mathlib.Core.List.{List, [], _∷_, map}
-use Prim.Native.Nat.{ℕ, zero, suc, _≤_, _<_}
+use mathlib.Core.Bool.{Bool, true, false, _&&_, _||_}
+use mathlib.Core.List.{List, [], _∷_, _++_, map}
+use Prim.Native.Nat.{ℕ, zero, suc, _+_, _≤_, _<_}
 use native.Mathlib.Nat.{le-of-suc-le-suc, not-suc-le-zero}
+use native.Mathlib.Numerals.{add-one}
 use native.Mathlib.Omega.{arith}
 use lib.ListN.{length, take, getD, set, length-set, List·getD-eq-default}
-use lib.Seq.{set-out, set-getD}
+use lib.Seq.{set-out, set-getD, take-suc}
 use Rattle.ids.proofs.Views.{length-view}
 use Rattle.unification.specs.Roots.{link, rootOf}
 use Rattle.unification.proofs.Laws.{root-stop, merged-less}
 use Rattle.semantics.specs.Structure.{Fact, fact, FuncApp, func-app, canonicalFact, canonicalFuncApp}
-use Rattle.semantics.specs.Types.{marked, mergedMarks}
+use Rattle.semantics.specs.Types.{marked, mergedMarks, anyMarked}
 use Rattle.el_rows.specs.View.{linkIn, markIn, linksIn, marksIn, Merged}
 
 -- A view of the first n rows, over any type of rows.
@@ -106,3 +107,18 @@ pub app-roots : (ls : List ℕ) (x : FuncApp) {r : ℕ} {ps es : List ℕ} → p
     → r ≡ rootOf ls (x .result) → func-app (x .func) ps es r ≡ canonicalFuncApp ls x
 unfolding canonicalFuncApp
 app-roots ls x p q r = λ i. func-app (x .func) (p i) (q i) (r i)
+
+-- A mark more at the end.
+
+or-none : (b : Bool) → (b || false) ≡ b
+or-none true = refl
+or-none false = refl
+
+any-pushed : (ms : List Bool) (m : Bool) → anyMarked (ms ++ m ∷ []) ≡ (anyMarked ms || m)
+unfolding anyMarked
+any-pushed [] m = or-none m
+any-pushed (true ∷ ms) m = refl
+any-pushed (false ∷ ms) m = any-pushed ms m
+
+pub any-more : (ms : List Bool) (i : ℕ) (d : Bool) → i < length ms → anyMarked (take (i + 1) ms) ≡ (anyMarked (take i ms) || getD ms i d)
+any-more ms i d h = rw (add-one, take-suc ms i d h) (any-pushed (take i ms) (getD ms i d))

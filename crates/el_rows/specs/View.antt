@@ -5,8 +5,8 @@ use mathlib.Core.Bool.{Bool}
 use mathlib.Core.List.{List, map}
 use lib.ListN.{length, take, getD}
 use lib.Dec.{eqb}
-use Rattle.unification.specs.Roots.{mergedOf}
-use Rattle.semantics.specs.Types.{mergedMarks}
+use Rattle.unification.specs.Roots.{maxEls, mergedOf}
+use Rattle.semantics.specs.Types.{anyMarked, mergedMarks}
 
 -- the link of an element, and 1 where it is marked
 unfoldable pub linkIn : List ℕ → ℕ
@@ -27,3 +27,10 @@ pub record Merged (n keep drop : ℕ) (before after : List (List ℕ)) : Type 0 
   pub links : linksIn n after ≡ mergedOf (linksIn n before) keep drop
   pub marks : marksIn n after ≡ mergedMarks (marksIn n before) keep drop
   pub long : length after ≡ length before
+
+-- the first n rows hold the links and the marks of the first n elements
+pub record ElsInRows (n : ℕ) (links : List ℕ) (marks : List Bool) (els : List (List ℕ)) (some-marked : Bool) : Type 0 where
+  pub links-are : linksIn n els ≡ take n links
+  pub marks-are : marksIn n els ≡ take n marks
+  pub some-is : some-marked ≡ anyMarked (take n marks)
+  pub long : length els ≡ maxEls

@@ -4,21 +4,25 @@ use facts::ConcreteType;
 use facts::Fact;
 use ids::ElId;
 use ids::ElIds;
+use unification::Unification;
 ghost use mathlib.Core.Path.{_≡_};
 ghost use mathlib.Core.Bool.{_&&_, _||_};
 ghost use mathlib.Core.List.{map};
 ghost use Prim.Native.Nat.{_≤_, _<_};
-ghost use lib.ListN.{length};
+ghost use lib.ListN.{length, take};
 ghost use Rattle.ids.specs.Ids.{elsOf};
-ghost use Rattle.unification.specs.Roots.{rootOf};
+ghost use Rattle.unification.specs.Roots.{maxEls, rootOf};
 ghost use Rattle.semantics.specs.Structure.{canonicalFact, canonicalFuncApp};
 ghost use Rattle.semantics.specs.Types.{marked};
 ghost use Rattle.facts.specs.View.{factOf};
 ghost use Rattle.apps.specs.View.{funcAppOf};
-ghost use Rattle.el_rows.specs.View.{linkIn, markIn, linksIn, marksIn, Merged};
+ghost use Rattle.el_rows.specs.View.{linkIn, markIn, linksIn, marksIn, Merged, ElsInRows};
+
+// How many numbers a row of an element has.
+pub const EL_WIDTH: usize = 2;
 
 // The link of an element, and 1 where it is marked.
-pub type ElRow = [u16; 2];
+pub type ElRow = [u16; EL_WIDTH];
 
 // The root of an element of the first n. A number that is no element is its own root.
 pub fn find(els: &[ElRow], n: usize, el: ElId) -> ElId
@@ -144,4 +148,55 @@ pub fn canonical_func_app(els: &[ElRow], n: usize, app: FuncApp) -> FuncApp
         args,
         result,
     }
+}
+
+// The first n elements as rows: gives whether one is marked.
+pub fn fill_els(
+    els: &mut [ElRow],
+    n: usize,
+    links: [u16; Unification::MAX_ELS],
+    marks: [bool; Unification::MAX_ELS],
+) -> bool
+    requires { ⌜ (n ≤ maxEls) × (length (now els) ≡ maxEls) ⌝ }
+    ensures { λ r. ⌜ ElsInRows n links marks (now (els .exit)) r ⌝ }
+{
+    let mut is_marked = false;
+    for i in 0..n {
+        let mark = marks[i];
+        els[i] = row_of(links[i], mark);
+        is_marked = ids::or(is_marked, mark);
+    }
+    is_marked
+}
+
+// The links that the first n rows hold; past them the table is as given.
+pub fn links_of(
+    els: &[ElRow],
+    n: usize,
+    links: [u16; Unification::MAX_ELS],
+) -> [u16; Unification::MAX_ELS]
+    requires { ⌜ (n ≤ maxEls) × (length (now els) ≡ maxEls) ⌝ }
+    ensures { λ r. ⌜ take n r ≡ linksIn n (now (els .entry)) ⌝ }
+{
+    let mut out = links;
+    for i in 0..n {
+        out[i] = els[i][0];
+    }
+    out
+}
+
+// The marks that the first n rows hold; past them the table is as given.
+pub fn marks_of(
+    els: &[ElRow],
+    n: usize,
+    marks: [bool; Unification::MAX_ELS],
+) -> [bool; Unification::MAX_ELS]
+    requires { ⌜ (n ≤ maxEls) × (length (now els) ≡ maxEls) ⌝ }
+    ensures { λ r. ⌜ take n r ≡ marksIn n (now (els .entry)) ⌝ }
+{
+    let mut out = marks;
+    for i in 0..n {
+        out[i] = els[i][1] == 1;
+    }
+    out
 }

@@ -12,13 +12,16 @@ ghost use Prim.Native.Nat.{_≤_, _<_};
 ghost use lib.ListN.{length};
 ghost use Rattle.ids.specs.Table.{positionFrom};
 ghost use Rattle.ids.specs.Sorted.{Sorted};
-ghost use Rattle.rows.specs.Table.{isLess, Placed, Inserted};
+ghost use Rattle.rows.specs.Table.{isLess, RowPlaced, Inserted};
 ghost use Rattle.semantics.specs.Structure.{compareFact};
 ghost use Rattle.facts.specs.View.{factOf};
 ghost use Rattle.fact_rows.specs.View.{factIn, factsIn};
 
+// How many numbers a row of a fact has.
+pub const FACT_WIDTH: usize = 8;
+
 // The element, the type, the entries of the list of parents and its length; the last is not used.
-pub type FactRow = [u16; 8];
+pub type FactRow = [u16; FACT_WIDTH];
 
 pub fn row_of(fact: Fact) -> FactRow
     ensures { λ r. ⌜ factIn r ≡ factOf fact ⌝ }
@@ -143,7 +146,7 @@ pub fn search(rows: &[FactRow], n: usize, sorted: bool, entry: Fact) -> Place
 // One row more at an index, those from there to n one place higher.
 pub fn place(rows: &mut [FactRow], n: usize, at: usize, row: FactRow)
     requires { ⌜ (at ≤ n) × (n < length (now rows)) ⌝ }
-    ensures { λ r. ⌜ Placed n at row (now (rows .entry)) (now (rows .exit)) ⌝ }
+    ensures { λ r. ⌜ RowPlaced n at row (now (rows .entry)) (now (rows .exit)) ⌝ }
 {
     let mut i = n;
     while at < i {

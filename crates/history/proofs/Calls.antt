@@ -28,9 +28,9 @@ use Rattle.semantics.specs.Calls.{isEl, areEls, elCauses, withEl, equate, equal
 use Rattle.semantics.specs.Calls.{appliedEqual, applyAt, insertFuncAppOrEquate, appliedTo, applicationCauses, withApplied, withPredApp}
 use Rattle.semantics.specs.Calls.{withVar, withAmbient, Call, push-type, push-pred, push-func, push-model, push-mor-app, push-el, equate-els}
 use Rattle.semantics.specs.Calls.{impose-type, apply-func, apply-pred, bind-var, bind-ambient, close, type-conflicts, settle, root, root-const}
-use Rattle.semantics.specs.Calls.{lookup-type, ambient-parents, isAccepted, Machine, Step, equalityRule, impositionRule, applicationRule}
+use Rattle.semantics.specs.Calls.{lookup-type, ambient-parents, isAccepted, mergesOf, Machine, Step, equalityRule, impositionRule, applicationRule}
 use Rattle.semantics.specs.Calls.{closeRule, settleRule, rule, closed, mergesIn, sumsOf, leaves, acceptance, step}
-use Rattle.history.specs.Book.{Book, with-merges, elements, taken, fed, mergesOf}
+use Rattle.history.specs.Book.{Book, with-merges, elements, taken, fed}
 use Rattle.semantics.proofs.Links.{length-push}
 use Rattle.semantics.proofs.Judged.{step-by, effect-accepted, below-if}
 use Rattle.semantics.proofs.Settling.{Closes, closesLeave, run-closes}
@@ -330,7 +330,7 @@ module _ (m : Machine) (b : Book) (v : ValidMachine m) (g : AgreesWith b (m .str
   }
 
   closed-agrees : (a : Closed) → step close m .answer ≡ closed a → AgreesWith (taken close (a .merges) b) (step close m .after .structure)
-  unfolding coreAtStart
+  unfolding coreAtStart leaves
   closed-agrees a e =
       let q = closed-step m a e in
       subst (λ (z : Machine). AgreesWith (taken close (a .merges) b) (z .structure)) (sym (q .after))

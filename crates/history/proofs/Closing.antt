@@ -1,6 +1,6 @@
 -- A close, where no element is marked.
 use mathlib.Core.Path.{_≡_, refl, sym, subst, ap, _∙_}
-use mathlib.Core.Bool.{true, not}
+use mathlib.Core.Bool.{true}
 use mathlib.Core.List.{[]}
 use mathlib.Core.Option.{Option, none, some}
 use Prim.Native.Nat.{ℕ, _+_, _≤_, _<_}
@@ -9,12 +9,12 @@ use Rattle.ids.specs.Answers.{Outcome, outcome, accepted, refusing, accepting}
 use Rattle.ids.proofs.Judging.{NoneApplies, decided-by}
 use Rattle.ids.proofs.Sorted.{All, Sorted, no-test}
 use Rattle.signature.specs.Model.{Sig}
-use Rattle.semantics.specs.Structure.{Structure, compareFuncApp, with-flags}
+use Rattle.semantics.specs.Structure.{Structure, compareFuncApp}
 use Rattle.semantics.specs.Types.{Core, imposeAll}
 use Rattle.semantics.specs.Close.{Rounds, rounds, fuel, Closed, coreAtStart, canonicaliseRefs, withCore, CloseRun, imposedAfter, closeRun, reportOf}
 use Rattle.semantics.specs.Close.{afterClose, metCauses, closeCauses, closeBy, close}
 use Rattle.semantics.specs.Calls as calls
-use Rattle.semantics.specs.Calls.{closed, Machine, machine, Step, closeRule, acceptance, leaves, settledBy}
+use Rattle.semantics.specs.Calls.{closed, Machine, machine, Step, closeRule, acceptance, leaves}
 use Rattle.semantics.proofs.Counts.{roots}
 use Rattle.semantics.proofs.Judged.{step-by}
 use Rattle.history.proofs.Functionality.{Canon}
@@ -47,11 +47,11 @@ accepted-close g s a =
 
 -- what the call leaves, having answered a
 abbrev pub closedMachine : Machine → Closed → Machine
-closedMachine m a = machine (m .sig) (with-flags true (not (a .changed)) (afterClose (closeRun (m .sig) (m .structure)) (m .structure)))
+closedMachine m a = machine (m .sig) (leaves true (closed a) (afterClose (closeRun (m .sig) (m .structure)) (m .structure)))
 
 pub closed-step : (m : Machine) (a : Closed) → calls.step calls.close m .answer ≡ closed a
     → AcceptedClose (closeRun (m .sig) (m .structure)) a (closedMachine m a) (calls.step calls.close m .after)
-unfolding calls.rule closeRule acceptance leaves settledBy
+unfolding calls.rule closeRule acceptance leaves
 closed-step m a =
     step-by calls.close m (λ (t : Step). t .answer ≡ closed a → AcceptedClose run a (closedMachine m a) (t .after))
     (λ n q e. let z : _≡_ {A = ℕ} 0 1 = cc in absurd (omega arith))

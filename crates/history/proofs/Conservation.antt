@@ -16,17 +16,17 @@ returned-conserves h cs r =
     let b = h .book in
     let v = h .machine .structure in
     let w = coreAtStart v in
-    let only = only-shared b w (v .func-apps) (r .named) (r .tied) (r .left .pairs) (r .left .sorted) (r .left .canon) in
+    let only = only-shared b w (v .func-apps) (r .named) (r .tied) (r .closed-to .pairs) (r .closed-to .sorted) (r .closed-to .canon) in
     let shared = shared-if b w (v .func-apps) (r .named) (r .tied) in
     record {
       long = r .long;
       classes = _;
-      counted = root-classes b w (v .func-apps) (r .named) (r .tied) (r .left .pairs) (r .left .sorted) (r .left .canon);
+      counted = root-classes b w (v .func-apps) (r .named) (r .tied) (r .closed-to .pairs) (r .closed-to .sorted) (r .closed-to .canon);
       sum = sym (r .tied .sum);
       one-root = λ x y hx hy. (shared x y hx, only x y);
       of-class = λ x hx. (omega (arith, root-le (v .links) x), shared x (rootOf (v .links) x) hx (sym (root-root (v .links) x)));
       lowest = λ x y hx hy z. omega (arith, root-le (v .links) y, only x y z);
-      few = r .left .few;
+      few = r .closed-to .few;
     }
 
 -- For every list of calls and every accepted close or settle in it with no element marked up to then: the elements added are the classes and all

@@ -11,11 +11,11 @@ use Rattle.signature.specs.Model.{plain}
 use Rattle.semantics.specs.Structure.{pair, func-app}
 use Rattle.semantics.specs.Types.{anyMarked}
 use Rattle.semantics.specs.Close.{Closed, report}
-use Rattle.semantics.specs.Calls.{Call, equate-els, close, settle, root, says, closed, totals, isAccepted, Machine, start, step, afterCalls}
+use Rattle.semantics.specs.Calls.{Call, equate-els, close, settle, root, says, closed, totals, isAccepted, mergesOf, Machine, start, step, afterCalls}
 use Rattle.semantics.proofs.Computes.{everything}
 use Rattle.semantics.proofs.ProvedCases.{typ, func, plainEl, markedEl, impose, app}
 use Rattle.validity.proofs.Calls.{calls-valid}
-use Rattle.history.specs.Book.{blank, elements, taken, fed, mergesOf, noted, next, run, begin, History, history, Shared}
+use Rattle.history.specs.Book.{blank, elements, taken, fed, noted, next, run, begin, History, history, Shared}
 use Rattle.history.specs.Book.{Classes, RanCloses, closes, settles, Conserved, Conservation}
 use Rattle.history.specs.Settled.{asserts, isYes, saidYes}
 use Rattle.history.proofs.SecondClose.{noChange, NextUnchanged}

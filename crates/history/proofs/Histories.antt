@@ -15,8 +15,8 @@ use Rattle.unification.proofs.Arrays.{link-past}
 use Rattle.semantics.specs.Structure.{Structure, empty, compareFuncApp}
 use Rattle.semantics.specs.Types.{anyMarked}
 use Rattle.semantics.specs.Close.{Closed, coreAtStart}
-use Rattle.semantics.specs.Calls.{Call, push-el, close, number, closed, isAccepted, Machine, Step, start, rule, acceptance, step, afterCalls}
-use Rattle.history.specs.Book.{blank, elements, taken, fed, mergesOf, History, noted, next, run, begin, history, Shared, RanCloses, closes, settles}
+use Rattle.semantics.specs.Calls.{Call, push-el, close, number, closed, isAccepted, mergesOf, Machine, Step, start, leaves, rule, acceptance, step, afterCalls}
+use Rattle.history.specs.Book.{blank, elements, taken, fed, History, noted, next, run, begin, history, Shared, RanCloses, closes, settles}
 use Rattle.semantics.proofs.Counts.{roots}
 use Rattle.semantics.proofs.Judged.{step-by}
 use Rattle.semantics.proofs.Settling.{Closes, settle-closes}
@@ -126,7 +126,7 @@ pub record Returned (h : History) (cs : List Closed) : Type 1 where
   pub long : length (h .machine .structure .links) ≡ elements (h .book)
   pub named : Named (h .book)
   pub tied : TiedTo (h .book) (h .machine .structure)
-  pub left : LeftBy cs (h .machine .structure)
+  pub closed-to : LeftBy cs (h .machine .structure)
 
 -- neither marks anything
 ran-marks : {k : Call} {cs : List Closed} (h : History) → RanCloses (h .machine) k cs → next k h .book .marks ≡ h .book .marks
@@ -147,6 +147,7 @@ ran-some m v (settles {t} e) = (settle-closes m t e, last-some (settle-ends m v 
 -- one close
 close-leaves : (h : History) (c : Closed) → ValidHistory h → anyMarked (h .book .marks) ≡ false → step close (h .machine) .answer ≡ closed c
     → LeftBy (c ∷ []) (step close (h .machine) .after .structure)
+unfolding leaves
 close-leaves h c valid unmarked e =
     let a = closed-step (h .machine) c e in
     let s = close-soundly (h .book) (h .machine) (valid .book .tied unmarked) (a .met) in
@@ -177,7 +178,7 @@ next-returned {k} {cs} h valid ran unmarked =
       long = after .long;
       named = after .named;
       tied = after .tied unmarked;
-      left = closes-leave cs h (step k (h .machine) .after) valid (sym (ap anyMarked (ran-marks h ran)) ∙ unmarked) (some .0) (some .1);
+      closed-to = closes-leave cs h (step k (h .machine) .after) valid (sym (ap anyMarked (ran-marks h ran)) ∙ unmarked) (some .0) (some .1);
     }
 
 pub returned : (before : List Call) (k : Call) (cs : List Closed) → RanCloses (history before .machine) k cs

@@ -25,6 +25,6 @@ mirrored before k cs ran unmarked =
     let s = h .machine .structure in
     let r = returned before k cs ran unmarked in
     record {
-      image = stored-image (h .book) (coreAtStart s) (s .func-apps) (r .named) (r .tied) (r .left .pairs) (r .left .sorted) (r .left .canon);
-      stored = image-stored (h .book) (coreAtStart s) (s .func-apps) (r .named) (r .tied) (r .left .pairs) (r .left .sorted) (r .left .canon);
+      image = stored-image (h .book) (coreAtStart s) (s .func-apps) (r .named) (r .tied) (r .closed-to .pairs) (r .closed-to .sorted) (r .closed-to .canon);
+      stored = image-stored (h .book) (coreAtStart s) (s .func-apps) (r .named) (r .tied) (r .closed-to .pairs) (r .closed-to .sorted) (r .closed-to .canon);
     }

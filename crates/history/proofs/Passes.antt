@@ -88,7 +88,7 @@ pub record OnlyTidied (g : Sig) (preds : List PredApp) (t u : Turn) : Type 0 whe
   pub pairs : List Pair
   pub apps : List FuncApp
   pub is : u ≡ turn (types.with-pairs pairs (t .core)) apps (t .worked)
-  pub left : NoWork g preds u
+  pub no-work : NoWork g preds u
   -- no pair is queued, and applications that are rewritten already stay
   pub none : t .core .pairs ≡ [] → pairs ≡ []
   pub same : Sorted compareFuncApp (t .apps) → All (Canon (t .core .links)) (t .apps) → apps ≡ t .apps
@@ -100,7 +100,7 @@ tidied-then {g} {preds} t u v a =
       pairs = b .pairs;
       apps = b .apps;
       is = b .is;
-      left = b .left;
+      no-work = b .no-work;
       none = λ e. b .none (a .none e);
       same = λ s c.
           let e = a .same s c in
@@ -178,11 +178,11 @@ module _ (g : Sig) (preds : List PredApp) where
   run-idle : (ps : List Pass) (A B : Stage) → AllLawful ps A B → (t : Turn) → A t → NoWork g preds t → OnlyTidied g preds t (runPasses ps g preds t)
   unfolding runPasses
   run-idle [] A B l t h r =
-      record { pairs = t .core .pairs; apps = t .apps; is = refl; left = r; none = λ e. e; same = λ s c. refl }
+      record { pairs = t .core .pairs; apps = t .apps; is = refl; no-work = r; none = λ e. e; same = λ s c. refl }
   run-idle (p ∷ ps) A C l t h r =
       let a = l .1 .idle t h r in
       let next = l .1 .leads t (inr (ap (λ (u : Turn). u .core .merges) (a .is))) h in
-      tidied-then t (p g preds t) _ a (run-idle ps (l .0) C (l .2) (p g preds t) next (a .left))
+      tidied-then t (p g preds t) _ a (run-idle ps (l .0) C (l .2) (p g preds t) next (a .no-work))
 
   run-more : (ps : List Pass) (A B : Stage) → AllLawful ps A B → (t : Turn) → t .core .merges ≤ runPasses ps g preds t .core .merges
   unfolding runPasses
@@ -288,20 +288,20 @@ drain-lawful g preds w = record {
       let e = drain-same v (r .joined) in
       let is = reports-none t (t .apps) (drain v) (types.with-pairs [] v) (ltb (v .merges) (drain v .merges)) e
       (ap (λ (x : Core). ltb (v .merges) (x .merges)) e ∙ le-ltb (v .merges) (v .merges) (le-refl (v .merges))) in
-      let left : NoWork g preds (turn (types.with-pairs [] v) (t .apps) (t .worked)) =
+      let no-work : NoWork g preds (turn (types.with-pairs [] v) (t .apps) (t .worked)) =
       record { unworked = r .unworked; unmet = r .unmet; joined = tt; agree = r .agree; safe = r .safe } in
-      record { pairs = []; apps = t .apps; is = is; left = subst (NoWork g preds) (sym is) left; none = λ q. refl; same = λ s c. refl };
+      record { pairs = []; apps = t .apps; is = is; no-work = subst (NoWork g preds) (sym is) no-work; none = λ q. refl; same = λ s c. refl };
   was-idle = λ t h r.
       let v = t .core in
       let quiet = or-second (t .worked) (ltb (v .merges) (drain v .merges)) (r .unworked) in
       let still : drain v .merges ≡ v .merges = omega (arith, ltb-false (v .merges) (drain v .merges) quiet, drain-counted v .grew) in
-      let left = subst (λ (x : Core). NoWork g preds (drained x t)) (drain-counted v .still still) r in
+      let no-work = subst (λ (x : Core). NoWork g preds (drained x t)) (drain-counted v .still still) r in
       record {
         unworked = or-first (t .worked) (ltb (v .merges) (drain v .merges)) (r .unworked);
-        unmet = left .unmet;
+        unmet = no-work .unmet;
         joined = drain-within v still;
-        agree = left .agree;
-        safe = left .safe;
+        agree = no-work .agree;
+        safe = no-work .safe;
       };
   more = λ t. drain-counted (t .core) .grew;
   rooted = λ t e h. subst (λ (x : Core). OnRoots (x .links) (x .facts)) (sym (drain-counted (t .core) .still e)) h;
@@ -370,7 +370,7 @@ functionality-lawful g preds w = record {
       let xs = entered ls (t .apps) .apps in
       let again = entered-again ls (t .apps) in
       let is = ap (λ (x : Rewritten). rewrote x t) (rewritten-only t (h .none) (r .agree)) ∙ reports-none t xs (t .core) (t .core) false refl refl in
-      let left : NoWork g preds (turn (t .core) xs (t .worked)) = record {
+      let no-work : NoWork g preds (turn (t .core) xs (t .worked)) = record {
         unworked = r .unworked;
         unmet = r .unmet;
         joined = r .joined;
@@ -381,7 +381,7 @@ functionality-lawful g preds w = record {
         pairs = t .core .pairs;
         apps = xs;
         is = is;
-        left = subst (NoWork g preds) (sym is) left;
+        no-work = subst (NoWork g preds) (sym is) no-work;
         none = λ e. e;
         same = λ s c. ap (λ (x : Rewritten). x .apps) (entered-same ls (t .apps) s c);
       };
@@ -390,13 +390,13 @@ functionality-lawful g preds w = record {
       let agree : entered ls (t .apps) .queued ≡ false =
       ap (λ (ps : List Pair). enterAll ls (t .apps) (rewriting [] ps false) .queued) (sym (h .none))
       ∙ or-second (t .worked) (rewritten t .queued) (r .unworked) in
-      let left = subst (λ (x : Rewritten). NoWork g preds (rewrote x t)) (rewritten-only t (h .none) agree) r in
+      let no-work = subst (λ (x : Rewritten). NoWork g preds (rewrote x t)) (rewritten-only t (h .none) agree) r in
       record {
         unworked = or-first (t .worked) (rewritten t .queued) (r .unworked);
         unmet = r .unmet;
-        joined = left .joined;
+        joined = no-work .joined;
         agree = agree;
-        safe = subst (DemandsSafe g preds (t .core)) (entered-again ls (t .apps)) (left .safe);
+        safe = subst (DemandsSafe g preds (t .core)) (entered-again ls (t .apps)) (no-work .safe);
       };
   more = λ t. le-refl (t .core .merges);
   rooted = λ t e h. h;
@@ -479,19 +479,19 @@ module _ (g : Sig) (preds : List PredApp) where
           pairs = t .core .pairs;
           apps = t .apps;
           is = is;
-          left = subst (NoWork g preds) (sym is) r;
+          no-work = subst (NoWork g preds) (sym is) r;
           none = λ q. q;
           same = λ s c. refl;
         };
     was-idle = λ t h r.
         let work = grew (t .core) (imposed t) in
-        let left = subst (λ (x : Core). NoWork g preds (typed x t)) (imposeAll-same (asked t) (t .core) (or-second (t .worked) work (r .unworked)) (r .unmet)) r in
+        let no-work = subst (λ (x : Core). NoWork g preds (typed x t)) (imposeAll-same (asked t) (t .core) (or-second (t .worked) work (r .unworked)) (r .unmet)) r in
         record {
           unworked = or-first (t .worked) work (r .unworked);
-          unmet = left .unmet;
-          joined = left .joined;
-          agree = left .agree;
-          safe = left .safe;
+          unmet = no-work .unmet;
+          joined = no-work .joined;
+          agree = no-work .agree;
+          safe = no-work .safe;
         };
     more = λ t. imposeAll-counts (asked t) (t .core);
     rooted = λ t e h. subst (λ (x : Core). OnRoots (x .links) (x .facts)) (sym (impose-inserts (asked t) (t .core) e)) (insertAll-roots (asked t) (t .core) h);

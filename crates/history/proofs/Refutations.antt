@@ -16,10 +16,10 @@ use Rattle.semantics.specs.Structure.{Pair, pair, FuncApp, func-app}
 use Rattle.semantics.specs.Types.{anyMarked}
 use Rattle.semantics.specs.Close.{Closed, report}
 use Rattle.semantics.specs.Calls.{Call, equate-els, close, settle, totals, Answer, number, says, done, closed, conflicting, summed, found, typed, els, refuse}
-use Rattle.semantics.specs.Calls.{isAccepted, mergesIn}
+use Rattle.semantics.specs.Calls.{isAccepted, mergesOf, mergesIn}
 use Rattle.semantics.proofs.WrongSettles.{lastMerges}
 use Rattle.semantics.proofs.ProvedCases.{typ, func, plainEl, markedEl, impose, app}
-use Rattle.history.specs.Book.{Book, book, with-equalities, with-apps, elements, taken, fed, mergesOf, history, Together, none, Meet, Shared}
+use Rattle.history.specs.Book.{Book, book, with-equalities, with-apps, elements, taken, fed, history, Together, none, Meet, Shared}
 use Rattle.history.specs.Book.{Classes, RanCloses, closes, settles, Conserved, Conservation}
 use Rattle.history.proofs.SecondClose.{noChange}
 use Rattle.history.proofs.Conservation.{conservation}

@@ -1,6 +1,6 @@
 -- What it is that the next close is accepted and reports no change, marks or not; and that a close which merges nothing leaves it so.
 use mathlib.Core.Path.{_≡_, refl, sym, subst, ap, ap₂, _∙_}
-use mathlib.Core.Bool.{Bool, true, false, not, _&&_}
+use mathlib.Core.Bool.{Bool, true, false, _&&_}
 use mathlib.Core.List.{List, [], _∷_, _++_, map, map-append}
 use mathlib.Core.Option.{none}
 use Prim.Native.Nat.{ℕ, zero, suc, _≤_, _<_}
@@ -224,14 +224,15 @@ module _ (g : Sig) (s : Structure) where
     safe-before fs = subst (λ (t : Turn). All (Safe (t .core .links) (t .core .marks) (t .core .facts)) fs) (rest .is)
 
   module _ (i : Idle g s) where
-    abbrev left : Turn
-    left = tidied (i .rounds)
+    -- what its one round leaves
+    abbrev idleTurn : Turn
+    idleTurn = tidied (i .rounds)
 
-    idle-run : closeRun g s ≡ close-run (lastRound left) (left .core)
+    idle-run : closeRun g s ≡ close-run (lastRound idleTurn) (idleTurn .core)
     unfolding closeRun rounds imposedAfter lastRound coreAtStart
     idle-run =
-        ap (λ (x : Rounds). imposedAfter x s) (ap (roundsFrom fuel g (s .pred-apps)) (rest (i .rounds) .is) ∙ stop g (s .pred-apps) fuel left refl)
-        ∙ ap (close-run (lastRound left)) (safe-idle (s .impositions) (left .core) (i .imposed))
+        ap (λ (x : Rounds). imposedAfter x s) (ap (roundsFrom fuel g (s .pred-apps)) (rest (i .rounds) .is) ∙ stop g (s .pred-apps) fuel idleTurn refl)
+        ∙ ap (close-run (lastRound idleTurn)) (safe-idle (s .impositions) (idleTurn .core) (i .imposed))
 
     pub idle-met : closeRun g s .core .met ≡ none
     idle-met = rw idle-run (unfold coreAtStart in refl)
@@ -348,9 +349,10 @@ next-settles m u =
 -- where the facts stand on roots, "close C 0 R" is followed by "close 0 0 1"
 pub second-close : (m : Machine) (c : Closed) → OnRoots (m .structure .links) (m .structure .facts) → step calls.close m .answer ≡ closed c → c .merges ≡ 0
     → NextUnchanged (step calls.close m .after)
+unfolding leaves
 second-close m c on e z =
     let a = closed-step m c e in
     subst NextUnchanged (sym (a .after))
     (idle-next (closedMachine m c)
-    (idle-flags (m .sig) (afterClose (closeRun (m .sig) (m .structure)) (m .structure)) true (not (c .changed))
+    (idle-flags (m .sig) (afterClose (closeRun (m .sig) (m .structure)) (m .structure)) true _
     (after-idle (m .sig) (m .structure) on (a .met) (sym (ap (λ (x : Closed). x .merges) (a .answer)) ∙ z))))

@@ -141,6 +141,7 @@ SettledUnchanged m = m .structure .settled ≡ true → NextUnchanged m
 module _ (m : Machine) (v : ValidMachine m) where
   -- an accepted close, by its report
   close-settled : (c : Closed) → step close m .answer ≡ closed c → SettledUnchanged (step close m .after)
+  unfolding leaves settledBy
   close-settled c e q =
       let told : not (c .changed) ≡ true = ap (λ (z : Machine). z .structure .settled) (sym (closed-step m c e .after)) ∙ q in
       second-close m c (v .structure .facts-rooted) e (ap (λ (x : Closed). x .merges) (unchanged-report m c e (not-true (c .changed) told)))

@@ -12,8 +12,8 @@ use Rattle.unification.specs.Roots.{rootOf}
 use Rattle.semantics.specs.Structure.{Pair, FuncApp}
 use Rattle.semantics.specs.Types.{anyMarked}
 use Rattle.semantics.specs.Close.{Closed}
-use Rattle.semantics.specs.Calls.{Call, Answer, isAccepted, Machine, start, step}
-use Rattle.history.specs.Book.{Book, blank, elements, fed, mergesOf, History, noted, next, run, begin, history}
+use Rattle.semantics.specs.Calls.{Call, Answer, isAccepted, mergesOf, Machine, start, step}
+use Rattle.history.specs.Book.{Book, blank, elements, fed, History, noted, next, run, begin, history}
 use Rattle.history.specs.Book.{Partition, Meet, Shared, RanCloses, Conserved, Conservation}
 
 -- where a list has come to when the close or settle after it returns

@@ -14,8 +14,7 @@ use Rattle.semantics.specs.Types.{anyMarked}
 use Rattle.semantics.specs.Close.{Closed}
 use Rattle.semantics.specs.Calls.{Call, push-type, push-pred, push-func, push-model, push-mor-app, push-el, equate-els, impose-type}
 use Rattle.semantics.specs.Calls.{apply-func, apply-pred, bind-var, bind-ambient, close, type-conflicts, settle, root, root-const}
-use Rattle.semantics.specs.Calls.{lookup-type, ambient-parents, Totals, Answer, number, says, done, closed, conflicting, summed, found, typed}
-use Rattle.semantics.specs.Calls.{els, refuse, Machine, isAccepted, settleRun, Step, start, step}
+use Rattle.semantics.specs.Calls.{lookup-type, ambient-parents, Totals, closed, summed, isAccepted, mergesOf, Machine, settleRun, Step, start, step}
 
 -- The book: "it reads no structure".
 
@@ -80,19 +79,6 @@ taken (ambient-parents ts) n b = b
 -- "A book is fed each call's arguments, whether it was accepted, and a close's merges"; "Every other call, and every refused one, leaves the book as it was."
 unfoldable pub fed : Call → Bool → ℕ → Book → Book
 fed k accepted n b = elim accepted [ true ↦ taken k n b | false ↦ b ]
-
--- "a close's merges", and those of a settle
-unfoldable pub mergesOf : Answer → ℕ
-mergesOf (number n) = 0
-mergesOf (says b) = 0
-mergesOf done = 0
-mergesOf (closed c) = c .merges
-mergesOf (conflicting l) = 0
-mergesOf (summed t) = t .merges
-mergesOf (found f) = 0
-mergesOf (typed t) = 0
-mergesOf (els l) = 0
-mergesOf (refuse n) = 0
 
 -- The lists of calls.
 

@@ -20,7 +20,7 @@ use Rattle.ids.proofs.Answers.{and-right}
 use Rattle.ids.proofs.Sorted.{placed-sorted}
 use Rattle.ids.proofs.Tables.{at-present, before-spot}
 use Rattle.ids.proofs.Views.{length-view, view-cons, view-nil, view-placed, view-next, view-done}
-use Rattle.rows.specs.Table.{Placed, Inserted}
+use Rattle.rows.specs.Table.{RowPlaced, Inserted}
 use Rattle.unification.specs.Roots.{rootOf}
 use Rattle.semantics.specs.Structure.{Fact, Pair, pair, maxFacts, compareFact, canonicalFact}
 use Rattle.semantics.specs.Types as types
@@ -32,9 +32,9 @@ use Rattle.facts.specs.declared.Impositions.{Impositions}
 use Rattle.facts.specs.View.{factOf, impositionsOf}
 use Rattle.fact_rows.specs.View.{factIn, factsIn}
 use Rattle.merging.specs.declared.Tally.{Tally}
-use Rattle.merging.specs.View.{lent, metOf, coreOf, ElsHeld, FactsHeld, PairsHeld, LentHeld}
+use Rattle.merging.specs.View.{with-insertion-counted, lent, metOf, coreOf, ElsHeld, FactsHeld, PairsHeld, LentHeld}
 use Rattle.merging.proofs.Laws.{idle}
-use Rattle.imposing.specs.View.{TypesOf, Inserts, refined}
+use Rattle.imposing.specs.View.{TypesOf, InsertsFact, refined}
 
 -- Two parents.
 
@@ -194,24 +194,9 @@ met-first n e = ap (λ (k : ℕ). firstMet tooManyFacts (metOf k)) (sym e)
 pub met-again : (n : ℕ) → (n ≡ 0 → ⊥) → metOf n ≡ firstMet tooManyFacts (metOf n)
 met-again n d = let e : metOf n ≡ some n = rw (ne-eqb n 0 d, metOf) in e ∙ sym (ap (firstMet tooManyFacts) e)
 
--- counts with other numbers of facts and additions, and another number met
-abbrev pub withFacts : Tally → ℕ → ℕ → ℕ → Tally
-withFacts c n a m = record {
-  els = c .els;
-  facts = n;
-  «func_apps» = c .«func_apps»;
-  «pred_apps» = c .«pred_apps»;
-  pairs = c .pairs;
-  «is_sorted» = c .«is_sorted»;
-  «is_marked» = c .«is_marked»;
-  met = m;
-  merges = c .merges;
-  added = a;
-}
-
 module _ (facts : List (List ℕ)) (c : Tally) (f : Fact) (held : FactsHeld facts c) (k : ℕ) where
   -- it is there
-  pub known : positionFrom compareFact f 0 (factsIn (c .facts) facts) ≡ At k → Inserts facts c facts c f
+  pub known : positionFrom compareFact f 0 (factsIn (c .facts) facts) ≡ At k → InsertsFact facts c facts c f
   unfolding insertFact
   known e els pairs eh ph =
       idle (lent els facts pairs c) (record { els-held = eh; facts-held = held; pairs-held = ph })
@@ -230,8 +215,8 @@ module _ (facts : List (List ℕ)) (c : Tally) (f : Fact) (held : FactsHeld fact
     place-most = omega (arith, spot .1 .0, many)
 
     -- the tables hold with other facts
-    holds-still : (facts' : List (List ℕ)) (n a m : ℕ) → FactsHeld facts' (withFacts c n a m) → (els pairs : List (List ℕ))
-        → ElsHeld els c → PairsHeld pairs c → LentHeld (lent els facts' pairs (withFacts c n a m))
+    holds-still : (facts' : List (List ℕ)) (n a m : ℕ) → FactsHeld facts' (with-insertion-counted n a m c) → (els pairs : List (List ℕ))
+        → ElsHeld els c → PairsHeld pairs c → LentHeld (lent els facts' pairs (with-insertion-counted n a m c))
     holds-still facts' n a m fh els pairs eh ph = record {
       els-held = record { long = eh .long; few = eh .few; unmarked = eh .unmarked };
       facts-held = fh;
@@ -240,7 +225,7 @@ module _ (facts : List (List ℕ)) (c : Tally) (f : Fact) (held : FactsHeld fact
 
     -- there is no room
     pub no-room : (m : ℕ) → maxFacts ≤ c .facts → metOf m ≡ firstMet tooManyFacts (metOf (c .met))
-        → Inserts facts c facts (withFacts c (c .facts) (c .added) m) f
+        → InsertsFact facts c facts (with-insertion-counted (c .facts) (c .added) m c) f
     unfolding insertFact
     no-room m h e els pairs eh ph = record {
       is =
@@ -253,10 +238,10 @@ module _ (facts : List (List ℕ)) (c : Tally) (f : Fact) (held : FactsHeld fact
     }
 
     -- there is
-    pub grown : (facts' : List (List ℕ)) (row : List ℕ) → c .facts < maxFacts → factIn row ≡ f → Placed (c .facts) k row facts facts'
-        → Inserts facts c facts' (withFacts c (c .facts + 1) (c .added + 1) (c .met)) f
+    pub has-room : (facts' : List (List ℕ)) (row : List ℕ) → c .facts < maxFacts → factIn row ≡ f → RowPlaced (c .facts) k row facts facts'
+        → InsertsFact facts c facts' (with-insertion-counted (c .facts + 1) (c .added + 1) (c .met) c) f
     unfolding insertFact
-    grown facts' row h is put els pairs eh ph = record {
+    has-room facts' row h is put els pairs eh ph = record {
       is =
           let w = coreOf (lent els facts pairs c) in
           (λ i. core (w .links) (w .marks) (now i) (w .pairs) (w .merges) (add-one (w .added) i) (w .met))

@@ -30,6 +30,6 @@ unfoldable pub refined : Fact → Core → Core
 refined f w = refineAll (concreteTypesOf (w .links) (w .facts) (f .el)) f w
 
 -- a fact is inserted, whatever the links, the marks and the queue are
-abbrev pub Inserts : List (List ℕ) → Tally → List (List ℕ) → Tally → Fact → Type 0
-Inserts facts c facts' r f =
+abbrev pub InsertsFact : List (List ℕ) → Tally → List (List ℕ) → Tally → Fact → Type 0
+InsertsFact facts c facts' r f =
     (els pairs : List (List ℕ)) → ElsHeld els c → PairsHeld pairs c → Passes (lent els facts pairs c) (lent els facts' pairs r) 1 (insertFact f)

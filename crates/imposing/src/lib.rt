@@ -1,5 +1,6 @@
 // Facts imposed on elements (structure.rs, `impose_concrete_type` and `apply_pending_type_impositions`), on the tables that a close lends.
 use el_rows::ElRow;
+use fact_rows::FACT_WIDTH;
 use fact_rows::FactRow;
 use facts::Fact;
 use facts::Facts;
@@ -22,10 +23,10 @@ ghost use Rattle.semantics.specs.Types.{refine, refineParents, impose, imposeAl
 ghost use Rattle.facts.specs.View.{factOf, impositionsOf};
 ghost use Rattle.fact_rows.specs.View.{factsIn};
 ghost use Rattle.el_rows.specs.View.{linksIn, marksIn};
-ghost use Rattle.merging.specs.View.{lent, ElsHeld, FactsHeld, LentHeld, Room, Passes};
+ghost use Rattle.merging.specs.View.{lent, ElsHeld, FactsHeld, LentHeld, RoomToCount, Passes};
 ghost use Rattle.imposing.specs.Bounds.{onePair, oneList, oneFact, oneImposed, allImpositions};
 ghost use Rattle.imposing.specs.Keeps.{keepsPair, keepsParents, keepsTypes};
-ghost use Rattle.imposing.specs.View.{FirstOf, TypesOf, Inserts, refined};
+ghost use Rattle.imposing.specs.View.{FirstOf, TypesOf, InsertsFact, refined};
 
 // Whether two parents are not merged: their roots are one, or neither is marked.
 fn keeps_pair(els: &[ElRow], n: usize, p: ElId, q: ElId) -> bool
@@ -121,7 +122,7 @@ fn refine(
     p: ElId,
     q: ElId,
 ) -> Tally
-    requires { ⌜ LentHeld (lent (now els) (now facts) (now pairs) counts) × Room onePair counts ⌝ }
+    requires { ⌜ LentHeld (lent (now els) (now facts) (now pairs) counts) × RoomToCount onePair counts ⌝ }
     ensures { λ r. ⌜ Passes (lent (now (els .entry)) (now (facts .entry)) (now (pairs .entry)) counts)
         (lent (now (els .exit)) (now (facts .exit)) (now (pairs .entry)) r) onePair (refine (p .0) (q .0)) ⌝ }
 {
@@ -147,7 +148,7 @@ fn refine_parents(
     ps: ElIds,
     qs: ElIds,
 ) -> Tally
-    requires { ⌜ LentHeld (lent (now els) (now facts) (now pairs) counts) × Room oneList counts ⌝ }
+    requires { ⌜ LentHeld (lent (now els) (now facts) (now pairs) counts) × RoomToCount oneList counts ⌝ }
     ensures { λ r. ⌜ Passes (lent (now (els .entry)) (now (facts .entry)) (now (pairs .entry)) counts)
         (lent (now (els .exit)) (now (facts .exit)) (now (pairs .entry)) r) oneList (refineParents (elsOf ps) (elsOf qs)) ⌝ }
 {
@@ -199,11 +200,11 @@ fn refine_all(
     counts: Tally,
     fact: Fact,
 ) -> Tally
-    requires { ⌜ LentHeld (lent (now els) (now facts) (now pairs) counts) × Room oneFact counts ⌝ }
+    requires { ⌜ LentHeld (lent (now els) (now facts) (now pairs) counts) × RoomToCount oneFact counts ⌝ }
     ensures { λ r. ⌜ Passes (lent (now (els .entry)) (now (facts .entry)) (now (pairs .entry)) counts)
         (lent (now (els .exit)) (now (facts .exit)) (now (pairs .entry)) r) oneFact (refined (factOf fact)) ⌝ }
 {
-    let mut types = [[0u16; 8]; Facts::MAX_LEN];
+    let mut types = [[0u16; FACT_WIDTH]; Facts::MAX_LEN];
     let n = concrete_types_of(els, facts, counts, fact.el, &mut types);
     let parents = fact.ct.parents;
     let mut now = counts;
@@ -227,7 +228,7 @@ fn refine_types(
     counts: Tally,
     fact: Fact,
 ) -> Tally
-    requires { ⌜ LentHeld (lent (now els) (now facts) (now pairs) counts) × Room oneFact counts ⌝ }
+    requires { ⌜ LentHeld (lent (now els) (now facts) (now pairs) counts) × RoomToCount oneFact counts ⌝ }
     ensures { λ r. ⌜ Passes (lent (now (els .entry)) (now (facts .entry)) (now (pairs .entry)) counts)
         (lent (now (els .exit)) (now (facts .exit)) (now (pairs .entry)) r) oneFact (refined (factOf fact)) ⌝ }
 {
@@ -242,8 +243,8 @@ fn refine_types(
 
 // The fact inserted; number 11 is judged here, after the merges.
 fn insert_fact(facts: &mut [FactRow], counts: Tally, fact: Fact) -> Tally
-    requires { ⌜ FactsHeld (now facts) counts × Room 1 counts ⌝ }
-    ensures { λ r. ⌜ Inserts (now (facts .entry)) counts (now (facts .exit)) r (factOf fact) ⌝ }
+    requires { ⌜ FactsHeld (now facts) counts × RoomToCount 1 counts ⌝ }
+    ensures { λ r. ⌜ InsertsFact (now (facts .entry)) counts (now (facts .exit)) r (factOf fact) ⌝ }
 {
     let n = counts.facts as usize;
     let found = fact_rows::search(facts, n, counts.is_sorted, fact);
@@ -272,7 +273,7 @@ pub fn impose_concrete_type(
     counts: Tally,
     fact: Fact,
 ) -> Tally
-    requires { ⌜ LentHeld (lent (now els) (now facts) (now pairs) counts) × Room oneImposed counts ⌝ }
+    requires { ⌜ LentHeld (lent (now els) (now facts) (now pairs) counts) × RoomToCount oneImposed counts ⌝ }
     ensures { λ r. ⌜ Passes (lent (now (els .entry)) (now (facts .entry)) (now (pairs .entry)) counts)
         (lent (now (els .exit)) (now (facts .exit)) (now (pairs .entry)) r) oneImposed (impose (factOf fact)) ⌝ }
 {
@@ -289,7 +290,7 @@ pub fn apply_pending_type_impositions(
     counts: Tally,
     impositions: Impositions,
 ) -> Tally
-    requires { ⌜ LentHeld (lent (now els) (now facts) (now pairs) counts) × Room allImpositions counts ⌝ }
+    requires { ⌜ LentHeld (lent (now els) (now facts) (now pairs) counts) × RoomToCount allImpositions counts ⌝ }
     ensures { λ r. ⌜ Passes (lent (now (els .entry)) (now (facts .entry)) (now (pairs .entry)) counts)
         (lent (now (els .exit)) (now (facts .exit)) (now (pairs .entry)) r) allImpositions (imposeAll (impositionsOf impositions)) ⌝ }
 {

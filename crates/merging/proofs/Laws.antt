@@ -6,7 +6,7 @@ use native.Mathlib.Nat.{add-mul, mul-le-mul-right}
 use native.Mathlib.Omega.{arith}
 use lib.ListN.{getD}
 use Rattle.semantics.specs.Types as types
-use Rattle.merging.specs.View.{Lent, coreOf, LentHeld, Room, Toward, Passes}
+use Rattle.merging.specs.View.{Lent, coreOf, LentHeld, RoomToCount, Toward, Passes}
 
 -- nothing is done yet
 pub begins : (t : Lent) → LentHeld t → (f : types.Core → types.Core) → Toward t t 0 f f
@@ -45,7 +45,7 @@ module _ {before now : Lent} {most : ℕ} {rest whole : types.Core → types.Cor
   counts-as e = record { is = so-far .is ∙ e; holds = so-far .holds; kept = so-far .kept; count-most = so-far .count-most }
 
   -- what can still be counted, of what could be at the start
-  pub room-left : (more : ℕ) {total : ℕ} → Room total (before .counts) → most + more ≤ total → Room more (now .counts)
+  pub room-left : (more : ℕ) {total : ℕ} → RoomToCount total (before .counts) → most + more ≤ total → RoomToCount more (now .counts)
   room-left more r h = omega (arith, r, h, so-far .count-most)
 
   -- what it keeps
@@ -87,7 +87,7 @@ module _ {before now : Lent} (per : ℕ) {rest whole : types.Core → types.Core
   idle-turn e = stays so-far (omega (arith, add-mul i 1 per)) e
 
   -- there is room for a turn, where there was for n of them
-  pub room-turn : {n : ℕ} → Room (n * per) (before .counts) → i + 1 ≤ n → Room per (now .counts)
+  pub room-turn : {n : ℕ} → RoomToCount (n * per) (before .counts) → i + 1 ≤ n → RoomToCount per (now .counts)
   room-turn {n} r h = room-left so-far per r (rw (sym (add-mul i 1 per ∙ one)) (mul-le-mul-right per h))
     where
       one : i * per + 1 * per ≡ i * per + per

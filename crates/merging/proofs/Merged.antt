@@ -21,6 +21,7 @@ use Rattle.fact_rows.specs.View.{factIn, factsIn}
 use Rattle.el_rows.specs.View.{linksIn, Merged}
 use Rattle.merging.specs.declared.Tally.{Tally}
 use Rattle.merging.specs.View.{Lent, lent, coreOf, pairIn, pairsIn, metOf, ElsHeld, FactsHeld, LentHeld, Passes, PassesAnyQueue, movedFact}
+use Rattle.merging.specs.View.{with-merge-counted, with-pairs-count}
 use Rattle.merging.proofs.Laws.{idle, counts-as}
 
 -- Facts.
@@ -58,24 +59,9 @@ unmarked-merged ms keep drop h = rw (unmarked-at ms keep h, mergedMarks) (unmark
 
 -- A merge.
 
--- the counts after it
-abbrev pub after-merge : Tally → ℕ → Tally
-after-merge c moved = record {
-  els = c .els;
-  facts = moved;
-  «func_apps» = c .«func_apps»;
-  «pred_apps» = c .«pred_apps»;
-  pairs = c .pairs;
-  «is_sorted» = c .«is_sorted»;
-  «is_marked» = c .«is_marked»;
-  met = c .met;
-  merges = c .merges + 1;
-  added = c .added;
-}
-
 pub merged : (els els' facts facts' : List (List ℕ)) (c : Tally) (keep drop k : ℕ) → ElsHeld els c → FactsHeld facts c
     → Merged (c .els) keep drop els els' → InPlaceRewritten compareFact factIn (movedFact keep drop) (c .facts) facts facts' k
-    → PassesAnyQueue els facts c els' facts' (after-merge c k) 1 (merge keep drop)
+    → PassesAnyQueue els facts c els' facts' (with-merge-counted k c) 1 (merge keep drop)
 unfolding merge
 merged els els' facts facts' c keep drop k e f united done pairs held =
     let one : c .merges + 1 ≡ suc (c .merges) = omega arith in
@@ -146,31 +132,17 @@ last rows k d h =
     ∙ ap reverse (map-append pairIn (take k rows) (getD rows k d ∷ []))
     ∙ reverse-append (map pairIn (take k rows)) (pairIn (getD rows k d) ∷ [])
 
--- the queue taken out
-abbrev pub taken : Tally → Tally
-taken c = record {
-  els = c .els;
-  facts = c .facts;
-  «func_apps» = c .«func_apps»;
-  «pred_apps» = c .«pred_apps»;
-  pairs = 0;
-  «is_sorted» = c .«is_sorted»;
-  «is_marked» = c .«is_marked»;
-  met = c .met;
-  merges = c .merges;
-  added = c .added;
-}
-
 module _ {els facts pairs : List (List ℕ)} {c : Tally} where
-  pub taken-holds : LentHeld (lent els facts pairs c) → LentHeld (lent els facts pairs (taken c))
-  taken-holds h = record {
+  -- the queue taken out
+  pub unqueued-holds : LentHeld (lent els facts pairs c) → LentHeld (lent els facts pairs (with-pairs-count 0 c))
+  unqueued-holds h = record {
     els-held = record { long = h .els-held .long; few = h .els-held .few; unmarked = h .els-held .unmarked };
     facts-held = record { long = h .facts-held .long; few = h .facts-held .few; sorted = h .facts-held .sorted };
     pairs-held = record { long = h .pairs-held .long; few = omega arith };
   }
 
   -- and drained
-  pub drained : {after : Lent} {most : ℕ} → Passes (lent els facts pairs (taken c)) after most (drainPairs (pairsIn (c .pairs) pairs))
+  pub drained : {after : Lent} {most : ℕ} → Passes (lent els facts pairs (with-pairs-count 0 c)) after most (drainPairs (pairsIn (c .pairs) pairs))
       → Passes (lent els facts pairs c) after most drain
   unfolding drain
   drained p = record { is = p .is; holds = p .holds; kept = p .kept; count-most = p .count-most }

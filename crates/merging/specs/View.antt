@@ -1,7 +1,7 @@
 -- What a close lends to its passes, as the definitions speak of it.
 use Prim.Native.Nat.{ℕ, _+_, _≤_}
 use mathlib.Core.Path.{_≡_}
-use mathlib.Core.Bool.{true, false}
+use mathlib.Core.Bool.{Bool, true, false}
 use mathlib.Core.List.{List, [], _∷_, map, reverse}
 use mathlib.Core.Option.{Option, none, some}
 use lib.ListN.{length, take, getD}
@@ -12,6 +12,8 @@ use Rattle.semantics.specs.Structure as model
 use Rattle.semantics.specs.Structure.{pair, factAt, compareFact, maxFacts, maxPairs}
 use Rattle.semantics.specs.Types as types
 use Rattle.semantics.specs.Types.{core, anyMarked}
+use Rattle.equalities.specs.declared.Pairs.{Pairs}
+use Rattle.equalities.specs.View.{pairsOf}
 use Rattle.fact_rows.specs.View.{factsIn}
 use Rattle.el_rows.specs.View.{linksIn, marksIn}
 use Rattle.merging.specs.declared.Tally.{Tally}
@@ -26,6 +28,42 @@ pairsIn n rows = reverse (map pairIn (take n rows))
 -- the number first met, where 0 stands for none
 abbrev pub metOf : ℕ → Option ℕ
 metOf n = elim (eqb n 0) [ true ↦ none | false ↦ some n ]
+
+-- The one place that builds the counts: the fields in their order.
+abbrev pub tally : ℕ → ℕ → ℕ → ℕ → ℕ → Bool → Bool → ℕ → ℕ → ℕ → Tally
+tally els facts funcs preds pairs is-sorted is-marked met merges added = record {
+  els = els;
+  facts = facts;
+  «func_apps» = funcs;
+  «pred_apps» = preds;
+  pairs = pairs;
+  «is_sorted» = is-sorted;
+  «is_marked» = is-marked;
+  met = met;
+  merges = merges;
+  added = added;
+}
+
+-- Counts replaced, the others as they were.
+
+abbrev pub with-pairs-count : ℕ → Tally → Tally
+with-pairs-count n c =
+    tally (c .els) (c .facts) (c .«func_apps») (c .«pred_apps») n (c .«is_sorted») (c .«is_marked») (c .met) (c .merges) (c .added)
+
+-- function applications and pairs
+abbrev pub with-apps-and-pairs-count : ℕ → ℕ → Tally → Tally
+with-apps-and-pairs-count apps ps c =
+    tally (c .els) (c .facts) apps (c .«pred_apps») ps (c .«is_sorted») (c .«is_marked») (c .met) (c .merges) (c .added)
+
+-- what a merge alters: the facts, by one merge more
+abbrev pub with-merge-counted : ℕ → Tally → Tally
+with-merge-counted n c =
+    tally (c .els) n (c .«func_apps») (c .«pred_apps») (c .pairs) (c .«is_sorted») (c .«is_marked») (c .met) (c .merges + 1) (c .added)
+
+-- what an insertion alters: the facts, the additions, and the number met
+abbrev pub with-insertion-counted : ℕ → ℕ → ℕ → Tally → Tally
+with-insertion-counted n a m c =
+    tally (c .els) n (c .«func_apps») (c .«pred_apps») (c .pairs) (c .«is_sorted») (c .«is_marked») m (c .merges) a
 
 -- the tables that the passes alter, and the counts
 pub record Lent : Type 0 where
@@ -68,9 +106,13 @@ pub record LentHeld (t : Lent) : Type 0 where
 abbrev pub workOf : Tally → ℕ
 workOf c = c .merges + c .added
 
+-- the greatest number of a `u64`, in which merges and additions are counted
+abbrev pub maxCount : ℕ
+maxCount = 18446744073709551615
+
 -- so many more can be counted
-abbrev pub Room : ℕ → Tally → Type 0
-Room most c = most + workOf c ≤ 18446744073709551615
+abbrev pub RoomToCount : ℕ → Tally → Type 0
+RoomToCount most c = most + workOf c ≤ maxCount
 
 -- what no pass on these tables alters
 abbrev pub frame : Tally → List ℕ
@@ -96,3 +138,9 @@ PassesAnyQueue els facts c els' facts' r most f =
 -- a fact when those of `drop` go to `keep`
 unfoldable pub movedFact : ℕ → ℕ → model.Fact → model.Fact
 movedFact keep drop f = elim (eqb (f .el) drop) [ true ↦ factAt keep f | false ↦ f ]
+
+-- the first r rows hold the pairs of a queue
+pub record PairsInRows (queue : Pairs) (pairs : List (List ℕ)) (r : ℕ) : Type 0 where
+  pub is : pairsIn r pairs ≡ pairsOf queue
+  pub most : r ≤ maxPairs
+  pub long : length pairs ≡ maxPairs

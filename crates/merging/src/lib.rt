@@ -1,5 +1,7 @@
 // Merges, and the drain (structure.rs, `drain_equalities`), on the tables that a close lends.
 use el_rows::ElRow;
+use equalities::Pair;
+use equalities::Pairs;
 use fact_rows::FactRow;
 use facts::Fact;
 use ids::ElId;
@@ -11,10 +13,14 @@ ghost use Rattle.semantics.specs.Structure.{pair, compareFact, maxPairs};
 ghost use Rattle.semantics.specs.Types.{merge, join, drain};
 ghost use Rattle.facts.specs.View.{factOf};
 ghost use Rattle.fact_rows.specs.View.{factIn};
-ghost use Rattle.merging.specs.View.{lent, ElsHeld, FactsHeld, LentHeld, Room, PassesAnyQueue, Passes, movedFact};
+ghost use Rattle.equalities.specs.View.{pairsOf};
+ghost use Rattle.merging.specs.View.{pairsIn, PairsInRows, lent, ElsHeld, FactsHeld, LentHeld, RoomToCount, PassesAnyQueue, Passes, movedFact};
+
+// How many numbers a row of a pair has.
+pub const PAIR_WIDTH: usize = 2;
 
 // The two elements of a pair.
-pub type PairRow = [u16; 2];
+pub type PairRow = [u16; PAIR_WIDTH];
 
 // How many rows of the tables are in use, what is known of them, what was counted, and the number first met that refuses the close; 0
 // stands for none.
@@ -60,7 +66,7 @@ fn move_facts(facts: &mut [FactRow], n: usize, keep: ElId, drop: ElId) -> usize
 
 // One merge, of the larger root into the smaller.
 fn merge(els: &mut [ElRow], facts: &mut [FactRow], counts: Tally, keep: ElId, drop: ElId) -> Tally
-    requires { ⌜ ElsHeld (now els) counts × (FactsHeld (now facts) counts × (Room 1 counts × (keep .0 < drop .0))) ⌝ }
+    requires { ⌜ ElsHeld (now els) counts × (FactsHeld (now facts) counts × (RoomToCount 1 counts × (keep .0 < drop .0))) ⌝ }
     ensures { λ r. ⌜ PassesAnyQueue (now (els .entry)) (now (facts .entry)) counts (now (els .exit)) (now (facts .exit)) r 1 (merge (keep .0) (drop .0)) ⌝ }
 {
     el_rows::union_roots(els, counts.els as usize, keep, drop);
@@ -73,7 +79,7 @@ fn merge(els: &mut [ElRow], facts: &mut [FactRow], counts: Tally, keep: ElId, dr
 
 // A pair drained: where its two roots differ they are merged.
 pub fn join(els: &mut [ElRow], facts: &mut [FactRow], counts: Tally, lhs: ElId, rhs: ElId) -> Tally
-    requires { ⌜ ElsHeld (now els) counts × (FactsHeld (now facts) counts × Room 1 counts) ⌝ }
+    requires { ⌜ ElsHeld (now els) counts × (FactsHeld (now facts) counts × RoomToCount 1 counts) ⌝ }
     ensures { λ r. ⌜ PassesAnyQueue (now (els .entry)) (now (facts .entry)) counts (now (els .exit)) (now (facts .exit)) r 1 (join (pair (lhs .0) (rhs .0))) ⌝ }
 {
     let n = counts.els as usize;
@@ -95,7 +101,7 @@ pub fn drain_equalities(
     pairs: &[PairRow],
     counts: Tally,
 ) -> Tally
-    requires { ⌜ LentHeld (lent (now els) (now facts) (now pairs) counts) × Room maxPairs counts ⌝ }
+    requires { ⌜ LentHeld (lent (now els) (now facts) (now pairs) counts) × RoomToCount maxPairs counts ⌝ }
     ensures { λ r. ⌜ Passes (lent (now (els .entry)) (now (facts .entry)) (now (pairs .entry)) counts)
         (lent (now (els .exit)) (now (facts .exit)) (now (pairs .entry)) r) maxPairs drain ⌝ }
 {
@@ -111,4 +117,31 @@ pub fn drain_equalities(
         i -= 1;
     }
     now
+}
+
+// The pairs as rows: gives how many there are.
+pub fn fill_pairs(pairs: &mut [PairRow], queue: Pairs) -> usize
+    requires { ⌜ length (now pairs) ≡ maxPairs ⌝ }
+    ensures { λ r. ⌜ PairsInRows queue (now (pairs .exit)) r ⌝ }
+{
+    let n = queue.size();
+    for i in 0..n {
+        let pair = queue.items[i];
+        pairs[i] = [pair.lhs.0, pair.rhs.0];
+    }
+    n
+}
+
+// The queue of the pairs that the first n rows hold.
+pub fn pairs_of(pairs: &[PairRow], n: usize) -> Pairs
+    requires { ⌜ (n ≤ maxPairs) × (length (now pairs) ≡ maxPairs) ⌝ }
+    ensures { λ r. ⌜ pairsOf r ≡ pairsIn n (now (pairs .entry)) ⌝ }
+{
+    let mut queue = Pairs::new();
+    for i in 0..n {
+        let row = pairs[i];
+        queue.items[i] = Pair::new(ElId(row[0]), ElId(row[1]));
+    }
+    queue.len = n as u16;
+    queue
 }

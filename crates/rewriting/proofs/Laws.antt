@@ -17,7 +17,7 @@ use Rattle.ids.specs.Table.{placed, lookupOf, positionFrom, rewriteInto}
 use Rattle.ids.proofs.Sorted.{Sorted, placed-sorted}
 use Rattle.ids.proofs.Tables.{at-entry, before-none}
 use Rattle.ids.proofs.Views.{view-at, view-cons, view-nil, view-pushed}
-use Rattle.rows.specs.Table.{Placed, Inserted, InPlaceRewritten}
+use Rattle.rows.specs.Table.{RowPlaced, Inserted, InPlaceRewritten}
 use Rattle.rows.proofs.InPlace.{getD-rest, drop-later}
 use Rattle.rows.proofs.Shifting.{inserted-before}
 use Rattle.semantics.specs.Structure.{FuncApp, pair, pred-app, maxPairs, compareFuncApp, comparePredApp, canonicalFuncApp, canonicalPredApp}
@@ -121,10 +121,10 @@ module _ {ls : List ℕ} {n : ℕ} {start apps pairs : List (List ℕ)} {k q i :
 
     -- its key is new
     pub entering-placed : (at : ℕ) {row : List ℕ} {after : List (List ℕ)} → positionFrom compareFuncApp z 0 (funcAppsIn k apps) ≡ Before at
-        → funcAppIn row ≡ z → Placed k at row apps after → Entering ls n start after pairs (k + 1) q (i + 1)
+        → funcAppIn row ≡ z → RowPlaced k at row apps after → Entering ls n start after pairs (k + 1) q (i + 1)
     entering-placed at {row} {after} e row-is p =
         let put : Inserted compareFuncApp funcAppIn z k apps after (k + 1) =
-        inserted-before compareFuncApp funcAppIn z k apps (omega (arith, so-far .few, so-far .apps-long)) at e row-is p in
+        inserted-before compareFuncApp funcAppIn z k apps (omega (arith, so-far .few, so-far .apps-long)) (sym e) refl row-is p in
         record {
           is = on (enter-new z (entered k apps q pairs) (before-none compareFuncApp z z at (funcAppsIn k apps) e)
               ∙ ap (λ (l : List FuncApp). rewriting l (pairsIn q pairs) (ltb 0 q)) (sym (put .is)));

@@ -51,19 +51,20 @@ module _ {A : Type 0} {cmp : A → A → Ordering} (o : Ordered cmp) (x d : A) w
   past ys k s h e = rw add-one (rw (zero-add (suc k)) at (skip 0 ys k s h e))
 
 -- x is searched among the first n rows, which are in order; d stands for a row past the last
-pub record Search {A B : Type 0} (cmp : B → B → Ordering) (view : A → B) (n : ℕ) (rows : List A) (x : B) (d : A) : Type 0 where
+pub record HalvingSearch {A B : Type 0} (cmp : B → B → Ordering) (view : A → B) (n : ℕ) (rows : List A) (x : B) (d : A) : Type 0 where
   pub ordered : Ordered cmp
   pub there : n ≤ length rows
   pub sorted : Sorted cmp (map view (take n rows))
 
 -- the search is between low and high: the rows before low are smaller than x, and that at high is not
 pub record Halving {A B : Type 0} (cmp : B → B → Ordering) (view : A → B) (n : ℕ) (rows : List A) (x : B) (d : A) (low high : ℕ) : Type 0 where
+  pub sought : HalvingSearch cmp view n rows x d
   pub from : positionFrom cmp x low (drop low (map view (take n rows))) ≡ positionFrom cmp x 0 (map view (take n rows))
   pub above : isLess (cmp (view (getD rows high d)) x) ≡ false
   pub fits : low ≤ high
   pub within : high < n
 
-module _ {A B : Type 0} {cmp : B → B → Ordering} {view : A → B} {n : ℕ} {rows : List A} {x : B} {d : A} (s : Search cmp view n rows x d) where
+module _ {A B : Type 0} {cmp : B → B → Ordering} {view : A → B} {n : ℕ} {rows : List A} {x : B} {d : A} (s : HalvingSearch cmp view n rows x d) where
   -- there is none
   pub halving-none : n ≡ 0 → Before 0 ≡ positionFrom cmp x 0 (map view (take n rows))
   unfolding positionFrom
@@ -89,20 +90,31 @@ module _ {A B : Type 0} {cmp : B → B → Ordering} {view : A → B} {n : ℕ} 
 
     -- it is not: the search starts
     pub halving-start : 0 < n → k ≡ n - 1 → b ≡ false → Halving cmp view n rows x d 0 k
-    halving-start h last e = record { from = refl; above = told e; fits = omega arith; within = omega arith }
+    halving-start h last e = record { sought = s; from = refl; above = told e; fits = omega arith; within = omega arith }
 
-    module _ {low high : ℕ} (so-far : Halving cmp view n rows x d low high) (after : low ≤ k) (before : k < high) where
-      -- the one in the middle is smaller
-      pub halving-low : b ≡ true → Halving cmp view n rows x d (k + 1) high
-      halving-low e = record { from = passed (omega (arith, so-far .within)) e; above = so-far .above; fits = omega arith; within = so-far .within }
+module _ {A B : Type 0} {cmp : B → B → Ordering} {view : A → B} {n : ℕ} {rows : List A} {x : B} {d : A} {low high : ℕ}
+    (so-far : Halving cmp view n rows x d low high) where
+  abbrev s : HalvingSearch cmp view n rows x d
+  s = so-far .sought
 
-      -- it is not
-      pub halving-high : b ≡ false → Halving cmp view n rows x d low k
-      halving-high e = record { from = so-far .from; above = told e; fits = after; within = omega (arith, so-far .within) }
+  -- y is a row k in the middle, and b whether it is smaller than x
+  module _ (k : ℕ) {y : B} {b : Bool} (is : y ≡ view (getD rows k d)) (test : b ≡ isLess (cmp y x)) (after : low ≤ k) (before : k < high) where
+    -- it is
+    pub halving-low : b ≡ true → Halving cmp view n rows x d (k + 1) high
+    halving-low e = record {
+      sought = s;
+      from = passed s k is test (omega (arith, so-far .within)) e;
+      above = so-far .above;
+      fits = omega arith;
+      within = so-far .within;
+    }
+
+    -- it is not
+    pub halving-high : b ≡ false → Halving cmp view n rows x d low k
+    halving-high e = record { sought = s; from = so-far .from; above = told s k is test e; fits = after; within = omega (arith, so-far .within) }
 
   -- one is left, y; b is whether x is smaller
-  module _ {low high : ℕ} (so-far : Halving cmp view n rows x d low high) (end : high ≤ low) {y : B} {b : Bool}
-      (is : y ≡ view (getD rows low d)) (test : b ≡ isLess (cmp x y)) where
+  module _ (end : high ≤ low) {y : B} {b : Bool} (is : y ≡ view (getD rows low d)) (test : b ≡ isLess (cmp x y)) where
     abbrev here : B
     here = view (getD rows low d)
 

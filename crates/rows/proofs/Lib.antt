@@ -1,3 +1,4 @@
+pub mod Copying
 pub mod InPlace
 pub mod Four
 pub mod Halving

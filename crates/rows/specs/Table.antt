@@ -12,7 +12,7 @@ unfoldable pub isLess : Ordering → Bool
 isLess o = elim o [ Less ↦ true | Equal ↦ false | Greater ↦ false ]
 
 -- a row more at an index among the first n; those past them are as they were
-pub record Placed {A : Type 0} (n at : ℕ) (x : A) (before after : List A) : Type 0 where
+pub record RowPlaced {A : Type 0} (n at : ℕ) (x : A) (before after : List A) : Type 0 where
   pub is : take (n + 1) after ≡ take at before ++ x ∷ drop at (take n before)
   pub rest : drop (n + 1) after ≡ drop (n + 1) before
   pub long : length after ≡ length before
@@ -30,3 +30,9 @@ module _ {A B : Type 0} (cmp : B → B → Ordering) (view : A → B) where
     pub is : map view (take r after) ≡ rewriteInto cmp f (map view (take n before)) []
     pub most : r ≤ n
     pub long : length after ≡ length before
+
+-- the first r rows hold the entries of a table that has at most so many
+pub record InRows {A B : Type 0} (view : A → B) (entries : List B) (limit : ℕ) (rows : List A) (r : ℕ) : Type 0 where
+  pub is : map view (take r rows) ≡ entries
+  pub most : r ≤ limit
+  pub long : length rows ≡ limit

@@ -6,7 +6,7 @@ use mathlib.Core.Path.{_≡_, refl, sym, ap, subst, _∙_}
 use mathlib.Core.Bool.{Bool, true, false, _&&_}
 use mathlib.Core.List.{List, [], _∷_, _++_, map, append-nil, append-assoc, List·Memᴰ, List·Memᴰ·head, List·Memᴰ·tail, List·Memᴰ·append-cases}
 use mathlib.Core.Logic.{inl, inr}
-use mathlib.Core.Option.{none, some}
+use mathlib.Core.Option.{some}
 use Prim.Native.Nat.{ℕ, zero, suc, _+_, _-_, _*_}
 use lib.ListN.{length, drop, replicate}
 use lib.Dec.{eqb, ltb}
@@ -17,10 +17,11 @@ use Rattle.ids.specs.Table.{placed, rewriteInto}
 use Rattle.ids.proofs.Sorted.{All, Sorted, all-map, placed-last, no-test}
 use Rattle.unification.specs.Roots.{rootOf}
 use Rattle.signature.specs.Model.{Sig, plain, maxTypes}
-use Rattle.semantics.specs.Structure.{Fact, fact, Structure, structure, compareFact, canonicalFact, factAt, maxFacts, with-flags}
-use Rattle.semantics.specs.Types.{Core, core, with-added, with-met, factsAt, concreteTypesOf, refineAll, insertCanonical, impose, imposeAll, grew}
+use Rattle.semantics.specs.Structure.{Fact, fact, Structure, empty, compareFact, canonicalFact, factAt, maxFacts}
+use Rattle.semantics.specs.Structure.{with-links, with-marks, with-facts, with-impositions, with-flags}
+use Rattle.semantics.specs.Types.{Core, with-merge, with-added, with-met, factsAt, concreteTypesOf, refineAll, insertCanonical, impose, imposeAll, grew}
 use Rattle.semantics.specs.Close as closing
-use Rattle.semantics.specs.Close.{Closed, report, rounds-made, CloseRun, close-run, closeRun, closeBy, metCauses, reportOf, afterClose}
+use Rattle.semantics.specs.Close.{Closed, report, coreAtStart, rounds-made, CloseRun, close-run, closeRun, closeBy, metCauses, reportOf, afterClose}
 use Rattle.semantics.specs.Calls as steps
 use Rattle.semantics.specs.Calls.{close, settle, closed, Machine, Step, answers, refusal, step, start, afterCalls, leaves, SettleRun, settle-run}
 use Rattle.semantics.specs.Calls.{reportedFirst, settleAfter, settleBy, settleFrom, settleRun}
@@ -103,13 +104,14 @@ factsAt-append e (f ∷ k) l = go (eqb (f .el) e) (factsAt-append e k l)
 -- A structure with no application and no pair: the round of a close does nothing.
 
 abbrev given : List ℕ → List Bool → List Fact → List Fact → Bool → Structure
-given ls ms fs qs is-settled = structure ls ms fs [] [] [] [] [] qs true is-settled
+given ls ms fs qs is-settled = with-links ls (with-marks ms (with-facts fs (with-impositions qs (with-flags true is-settled empty))))
 
-abbrev ran : List ℕ → List Bool → List Fact → Core → CloseRun
-ran ls ms fs w = close-run (rounds-made (core ls ms fs [] 0 0 none) [] 1) w
+abbrev ran : Structure → Core → CloseRun
+ran s w = close-run (rounds-made (coreAtStart s) [] 1) w
 
-no-rounds : (g : Sig) (ls : List ℕ) (ms : List Bool) (fs qs : List Fact) (is-settled : Bool)
-    → closeRun g (given ls ms fs qs is-settled) ≡ ran ls ms fs (imposeAll qs (core ls ms fs [] 0 0 none))
+no-rounds : (g : Sig) (ls : List ℕ) (ms : List Bool) (fs qs : List Fact) (is-settled : Bool) →
+    let s = given ls ms fs qs is-settled in
+    closeRun g s ≡ ran s (imposeAll qs (coreAtStart s))
 unfolding everything
 no-rounds g ls ms fs qs is-settled = refl
 
@@ -213,18 +215,18 @@ module _ (F : List Fact) (h : Others F) where
   -- The first close.
 
   abbrev w0 : Core
-  w0 = core links0 marks0 (facts0 ++ F) [] 0 0 none
+  w0 = coreAtStart (before F)
 
   abbrev w1 : Core
-  w1 = core links1 marks1 (facts1 ++ F) [] 1 0 none
+  w1 = with-merge links1 marks1 (facts1 ++ F) w0
 
   first-one : impose one w0 ≡ w0
-  first-one = imposes one w0 w0 w0 facts0 refl (unfold computed in h .at-zero) (unfold computed in refl) (unfold computed in refl)
+  first-one = imposes one w0 w0 w0 facts0 (unfold coreAtStart in refl) (unfold computed in h .at-zero) (unfold computed in refl) (unfold computed in refl)
 
   first-two : impose two0 w0 ≡ w1
   first-two =
-      imposes two0 w0 w1 w1 facts0 refl (unfold computed in h .at-two)
-      (unfold computed in ap (λ (fs : List Fact). core links1 marks1 fs [] 1 0 none) (h .merge-one)) (unfold computed in refl)
+      imposes two0 w0 w1 w1 facts0 (unfold coreAtStart in refl) (unfold computed in h .at-two)
+      (unfold computed in ap (λ (fs : List Fact). with-merge links1 marks1 fs w0) (h .merge-one)) (unfold computed in refl)
 
   first-three : impose three w1 ≡ w1
   first-three = imposes three w1 w1 w1 facts1 refl (unfold computed in h .at-three) (unfold computed in refl) (unfold computed in refl)
@@ -233,11 +235,11 @@ module _ (F : List Fact) (h : Others F) where
   unfolding imposeAll
   first-all = ap (λ (w : Core). impose three (impose two0 w)) first-one ∙ ap (impose three) first-two ∙ first-three
 
-  first-close : (g : Sig) → closing.close g (before F) ≡ accepting answer (afterClose (ran links0 marks0 (facts0 ++ F) w1) (before F))
-  unfolding closing.close closeBy outcome metCauses firstOf decided reportOf grew
+  first-close : (g : Sig) → closing.close g (before F) ≡ accepting answer (afterClose (ran (before F) w1) (before F))
+  unfolding closing.close closeBy outcome metCauses firstOf decided reportOf grew coreAtStart
   first-close g =
       ap (λ (r : CloseRun). closeBy r (before F))
-      (no-rounds g links0 marks0 (facts0 ++ F) (one ∷ two0 ∷ three ∷ []) true ∙ ap (ran links0 marks0 (facts0 ++ F)) first-all)
+      (no-rounds g links0 marks0 (facts0 ++ F) (one ∷ two0 ∷ three ∷ []) true ∙ ap (ran (before F)) first-all)
 
   first-leaves : (g : Sig) → leaves true (closed answer) (closing.close g (before F) .after) ≡ between F
   first-leaves g =
@@ -247,15 +249,15 @@ module _ (F : List Fact) (h : Others F) where
   -- The second.
 
   abbrev v0 : Core
-  v0 = core links1 marks1 (facts1 ++ F) [] 0 0 none
+  v0 = coreAtStart (between F)
 
   abbrev v1 : Core
-  v1 = core links2 marks2 (facts2 ++ F) [] 1 0 none
+  v1 = with-merge links2 marks2 (facts2 ++ F) v0
 
   second-one : impose one v0 ≡ v1
   second-one =
-      imposes one v0 v1 v1 facts1 refl (unfold computed in h .at-zero)
-      (unfold computed in ap (λ (fs : List Fact). core links2 marks2 fs [] 1 0 none) (h .merge-two)) (unfold computed in refl)
+      imposes one v0 v1 v1 facts1 (unfold coreAtStart in refl) (unfold computed in h .at-zero)
+      (unfold computed in ap (λ (fs : List Fact). with-merge links2 marks2 fs v0) (h .merge-two)) (unfold computed in refl)
 
   second-two : impose two1 v1 ≡ v1
   second-two = imposes two1 v1 v1 v1 facts2 refl (unfold computed in h .at-zero) (unfold computed in refl) (unfold computed in refl)
@@ -277,10 +279,10 @@ module _ (F : List Fact) (h : Others F) where
   second-all = ap (λ (w : Core). impose three (impose two1 w)) second-one ∙ ap (impose three) second-two ∙ second-three
 
   second-close : (g : Sig) → closing.close g (between F) ≡ refusing (between F) tooManyFacts
-  unfolding closing.close closeBy outcome metCauses firstOf decided
+  unfolding closing.close closeBy outcome metCauses firstOf decided coreAtStart
   second-close g =
       ap (λ (r : CloseRun). closeBy r (between F))
-      (no-rounds g links1 marks1 (facts1 ++ F) (one ∷ two1 ∷ three ∷ []) false ∙ ap (ran links1 marks1 (facts1 ++ F)) second-all)
+      (no-rounds g links1 marks1 (facts1 ++ F) (one ∷ two1 ∷ three ∷ []) false ∙ ap (ran (between F)) second-all)
 
   -- The settle.
 

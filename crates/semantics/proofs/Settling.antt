@@ -78,10 +78,10 @@ module _ (m : Machine) where
   close-refused n e = sym (close-steps m) ∙ ap (closedAnswer m (o .after)) e
 
   -- what an accepted close leaves
-  abbrev left : Closed → Machine
-  left c = machine (m .sig) (leaves true (closed c) (o .after))
+  abbrev closedTo : Closed → Machine
+  closedTo c = machine (m .sig) (leaves true (closed c) (o .after))
 
-  pub close-accepted : (c : Closed) → o .answer ≡ accepted c → step close m ≡ answers (closed c) (left c)
+  pub close-accepted : (c : Closed) → o .answer ≡ accepted c → step close m ≡ answers (closed c) (closedTo c)
   unfolding closedAnswer
   close-accepted c e = sym (close-steps m) ∙ ap (closedAnswer m (o .after)) e
 
@@ -98,7 +98,7 @@ module _ (m : Machine) where
     refused = λ k q. (let same : n ≡ k = cc in ap (λ (s : Step). s .answer) (close-refused n e) ∙ ap refuse same);
   })
 
-  ran-first : (c : Closed) (r : SettleRun) → o .answer ≡ accepted c → ComesTo (left c) r → ChangedUntilLast (c ∷ r .reports) → ComesTo m (reportedFirst c r)
+  ran-first : (c : Closed) (r : SettleRun) → o .answer ≡ accepted c → ComesTo (closedTo c) r → ChangedUntilLast (c ∷ r .reports) → ComesTo m (reportedFirst c r)
   unfolding reportedFirst
   ran-first c r e h u = record {
     closes = (
@@ -114,11 +114,11 @@ module _ (m : Machine) where
   ran-by k rest = go (o .answer) refl
     where
       after : (c : Closed) → o .answer ≡ accepted c → (b : Bool) → c .changed ≡ b
-          → ComesTo m (reportedFirst c (elim b [ true ↦ settleFrom k (m .sig) (left c .structure) | false ↦ settle-run [] none (left c .structure) ]))
+          → ComesTo m (reportedFirst c (elim b [ true ↦ settleFrom k (m .sig) (closedTo c .structure) | false ↦ settle-run [] none (closedTo c .structure) ]))
       after c e true q =
-          let r = settleFrom k (m .sig) (left c .structure) in
-          ran-first c r e (rest (left c)) (until-more c (r .reports) q (rest (left c) .until))
-      after c e false q = ran-first c _ e (ran-none (left c)) tt
+          let r = settleFrom k (m .sig) (closedTo c .structure) in
+          ran-first c r e (rest (closedTo c)) (until-more c (r .reports) q (rest (closedTo c) .until))
+      after c e false q = ran-first c _ e (ran-none (closedTo c)) tt
 
       go : (a : Answered Closed) → o .answer ≡ a → ComesTo m (settleAfter a (o .after) (settleFrom k (m .sig)))
       go (refused n) e = ran-refused n e

@@ -261,6 +261,19 @@ isAccepted (typed t) = true
 isAccepted (els l) = true
 isAccepted (refuse n) = false
 
+-- "a close's merges", and those of a settle
+unfoldable pub mergesOf : Answer → ℕ
+mergesOf (number n) = 0
+mergesOf (says b) = 0
+mergesOf done = 0
+mergesOf (closed c) = c .merges
+mergesOf (conflicting l) = 0
+mergesOf (summed t) = t .merges
+mergesOf (found f) = 0
+mergesOf (typed t) = 0
+mergesOf (els l) = 0
+mergesOf (refuse n) = 0
+
 pub record Machine : Type 0 where
   pub sig : Sig
   pub structure : Structure

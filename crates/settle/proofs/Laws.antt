@@ -23,7 +23,7 @@ use Rattle.structure.specs.declared.Answer as code
 use Rattle.structure.specs.declared.Answer.the-variants as variants
 use Rattle.structure.specs.View.{structureOf, totalsOf, answerOf}
 use Rattle.structure.proofs.Answer.{the-type}
-use Rattle.close.specs.View.{oneClose}
+use Rattle.rounds.specs.View.{oneClose}
 use Rattle.settle.specs.declared.SettleRun as declared
 use Rattle.settle.specs.View.{refusedBy, SettleRunIs}
 
@@ -151,9 +151,9 @@ module _ (g : Sig) where
 
       module _ (met : closeRun g s .core .met ≡ none) {c : Closed} {x : Answer} {v : Structure} (answered : c ≡ reportOf (closeRun g s))
           (stepped : answers x (machine g v) ≡ step calls.close (machine g s)) where
-        left : v ≡ leaves true (closed c) (afterClose (closeRun g s) s)
+        effect-is : v ≡ leaves true (closed c) (afterClose (closeRun g s) s)
         unfolding rule closeRule acceptance
-        left =
+        effect-is =
             ap (λ (y : Step). y .after .structure) (stepped ∙ met-accepts calls.close (machine g s) (closeRun g s .core .met) refl met)
             ∙ ap (λ (d : Closed). leaves true (closed d) (afterClose (closeRun g s) s)) (sym answered)
 
@@ -168,7 +168,7 @@ module _ (g : Sig) where
             ap (λ (o : Outcome Closed Structure). settleBy o (settleFrom k g))
             (decided-accepts (refusing s) (accepting (reportOf r) (afterClose r s)) (close-first r ∙ met))
             ∙ ap (λ (d : Closed). reportedFirst d (then k (d .changed) (leaves true (closed d) (afterClose r s)))) (sym answered)
-            ∙ ap (λ (x : Structure). reportedFirst c (then k (c .changed) x)) (sym left)
+            ∙ ap (λ (x : Structure). reportedFirst c (then k (c .changed) x)) (sym effect-is)
 
         abbrev now : List Closed
         now = so-far .reports ++ (c ∷ [])

@@ -25,7 +25,7 @@ ghost use Rattle.semantics.specs.Types.{imposeAll};
 ghost use Rattle.semantics.specs.Close.{demands};
 ghost use Rattle.apps.specs.View.{funcAppOf, predAppOf};
 ghost use Rattle.app_rows.specs.View.{funcAppsIn, predAppsIn};
-ghost use Rattle.merging.specs.View.{lent, LentHeld, Room, Passes};
+ghost use Rattle.merging.specs.View.{lent, LentHeld, RoomToCount, Passes};
 ghost use Rattle.typing.specs.Bounds.{oneDemand, allDemands};
 ghost use Rattle.typing.specs.Rows.{demandOf, ofFuncArgs, ofPredArgs, ofFuncResult, countOf, askedOf, mostAsked, allAsked, DemandImposed, Used};
 
@@ -106,7 +106,7 @@ fn impose_demand(
     types: Types,
     demand: Demand,
 ) -> Tally
-    requires { ⌜ LentHeld (lent (now els) (now facts) (now pairs) counts) × Room oneDemand counts ⌝ }
+    requires { ⌜ LentHeld (lent (now els) (now facts) (now pairs) counts) × RoomToCount oneDemand counts ⌝ }
     ensures { λ r. ⌜ DemandImposed types demand (lent (now (els .entry)) (now (facts .entry)) (now (pairs .entry)) counts)
         (lent (now (els .exit)) (now (facts .exit)) (now (pairs .entry)) r) ⌝ }
 {
@@ -178,7 +178,7 @@ fn impose_demands(
     asked: DemandKind,
 ) -> Tally
     requires { ⌜ LentHeld (lent (now els) (now facts) (now pairs) counts)
-        × (Room (mostAsked asked * oneDemand) counts × Used (countOf counts asked) (now apps) (mostAsked asked)) ⌝ }
+        × (RoomToCount (mostAsked asked * oneDemand) counts × Used (countOf counts asked) (now apps) (mostAsked asked)) ⌝ }
     ensures { λ r. ⌜ Passes (lent (now (els .entry)) (now (facts .entry)) (now (pairs .entry)) counts)
         (lent (now (els .exit)) (now (facts .exit)) (now (pairs .entry)) r) (mostAsked asked * oneDemand)
         (imposeAll (allAsked (sigOf signature) asked (take (countOf counts asked) (now (apps .entry))))) ⌝ }
@@ -210,7 +210,7 @@ pub fn typing(
     apps: &[AppRow],
     preds: &[AppRow],
 ) -> Tally
-    requires { ⌜ LentHeld (lent (now els) (now facts) (now pairs) counts) × (Room allDemands counts
+    requires { ⌜ LentHeld (lent (now els) (now facts) (now pairs) counts) × (RoomToCount allDemands counts
         × (Used (counts .«func_apps») (now apps) maxFuncApps × Used (counts .«pred_apps») (now preds) maxPredApps)) ⌝ }
     ensures { λ r. ⌜ Passes (lent (now (els .entry)) (now (facts .entry)) (now (pairs .entry)) counts)
         (lent (now (els .exit)) (now (facts .exit)) (now (pairs .entry)) r) allDemands

@@ -32,17 +32,17 @@ pub record Reaches (m : Machine) (cs : List Closed) (z : Machine) : Type 0 where
 
 module _ (m : Machine) (v : ValidMachine m) (c : Closed) (q : step close m .answer ≡ closed c) where
   -- an accepted close leaves its effect
-  left : step close m ≡ acceptance (rule close m)
+  accepted-effect : step close m ≡ acceptance (rule close m)
   unfolding isAccepted
-  left = accepted-leaves close m (ap isAccepted q) .1
+  accepted-effect = accepted-leaves close m (ap isAccepted q) .1
 
   links : step close m .after .structure .links ≡ afterClose (closeRun (m .sig) (m .structure)) (m .structure) .links
   unfolding rule closeRule acceptance leaves
-  links = ap (λ (s : Step). s .after .structure .links) left
+  links = ap (λ (s : Step). s .after .structure .links) accepted-effect
 
   merges : c .merges ≡ reportOf (closeRun (m .sig) (m .structure)) .merges
   unfolding rule closeRule acceptance
-  merges = let e = sym q ∙ ap (λ (s : Step). s .answer) left in cc
+  merges = let e = sym q ∙ ap (λ (s : Step). s .answer) accepted-effect in cc
 
   pub close-step-els : elementCount (step close m .after) ≡ elementCount m
   close-step-els = ap length links ∙ after-els (m .sig) (m .structure) v

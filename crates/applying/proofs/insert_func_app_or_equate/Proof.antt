@@ -7,30 +7,12 @@ use borrow.Author.Needs.{needs}
 use Rattle.applying.proofs.insert_func_app_or_equate.Statement.{statement}
 use Rattle.applying.proofs.insert_func_app_or_equate.Tie as tie
 
-canonical-func-app-requires : tie.Need-canonical-func-app-requires
-canonical-func-app-requires c κs = search needs
-
-get-requires : tie.Need-get-requires
-get-requires c κs = search needs
-
-enum-told : tie.Need-enum-told
-enum-told c = search needs
-
-insert-requires : tie.Need-insert-requires
-insert-requires c κs = search needs
-
-enum-known-existing : tie.Need-enum-known-existing
-enum-known-existing c = search needs
-
 returns : tie.Need-returns
 returns c =
     let existing = c .before .before .before .before in
     let got = existing .before .before in
     let found = sym (ap apps.found (existing .existing .given .1)) ∙ got .get .ensures in
     app-same _ _ _ _ _ (got .before .before .canonical-func-app .ensures) _ found (c .if1 .taken)
-
-size-requires : tie.Need-size-requires
-size-requires c κs = search needs
 
 returns-2 : tie.Need-returns-2
 returns-2 c =
@@ -39,9 +21,6 @@ returns-2 c =
     let got = existing .before .before in
     let found = sym (ap apps.found (existing .existing .given .1)) ∙ got .get .ensures in
     app-full _ _ _ _ _ (got .before .before .canonical-func-app .ensures) _ found (e1 .if1 .left) (full (c .before .size .ensures) (c .if2 .taken))
-
-equate-requires : tie.Need-equate-requires
-equate-requires c κs = search needs
 
 returns-3 : tie.Need-returns-3
 returns-3 c =
@@ -65,14 +44,14 @@ pub insert-func-app-or-equate-spec : {M : Type 1} → statement M
 insert-func-app-or-equate-spec =
     tie.close
     (tie.spec
-    canonical-func-app-requires
-    get-requires
-    enum-told
-    insert-requires
-    enum-known-existing
+    (λ c κs. search needs)
+    (λ c κs. search needs)
+    (λ c. search needs)
+    (λ c κs. search needs)
+    (λ c. search needs)
     returns
-    size-requires
+    (λ c κs. search needs)
     returns-2
-    equate-requires
+    (λ c κs. search needs)
     returns-3
     returns-4)

@@ -6,16 +6,10 @@ use borrow.Author.Needs.{needs}
 use Rattle.canonical.proofs.canonical_fact.Statement.{statement}
 use Rattle.canonical.proofs.canonical_fact.Tie as tie
 
-find-requires : tie.Need-find-requires
-find-requires c κs = search needs
-
-roots-requires : tie.Need-roots-requires
-roots-requires c κs = search needs
-
 returns : tie.Need-returns
 returns c =
     let found = c .before .before in
     fact-roots _ (factOf (found .before .before .before .before .args .fact)) (found .find .ensures) (as-held (c .roots .ensures))
 
 pub canonical-fact-spec : {M : Type 1} → statement M
-canonical-fact-spec = tie.close (tie.spec find-requires roots-requires returns)
+canonical-fact-spec = tie.close (tie.spec (λ c κs. search needs) (λ c κs. search needs) returns)

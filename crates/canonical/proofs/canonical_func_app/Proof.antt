@@ -6,15 +6,6 @@ use borrow.Author.Needs.{needs}
 use Rattle.canonical.proofs.canonical_func_app.Statement.{statement}
 use Rattle.canonical.proofs.canonical_func_app.Tie as tie
 
-roots-requires : tie.Need-roots-requires
-roots-requires c κs = search needs
-
-roots-requires-2 : tie.Need-roots-requires-2
-roots-requires-2 c κs = search needs
-
-find-requires : tie.Need-find-requires
-find-requires c κs = search needs
-
 returns : tie.Need-returns
 returns c =
     let found = c .before in
@@ -25,4 +16,4 @@ returns c =
 
 pub canonical-func-app-spec : {M : Type 1} → statement M
 canonical-func-app-spec =
-    tie.close (tie.spec roots-requires roots-requires-2 find-requires returns)
+    tie.close (tie.spec (λ c κs. search needs) (λ c κs. search needs) (λ c κs. search needs) returns)

@@ -25,15 +25,6 @@ Inv-loop unification facts root n types₀ i₀ types i =
 abbrev μ-loop : tie.MeasureT-loop
 μ-loop unification facts root n types₀ i₀ types i = n - i
 
-find-requires : tie.Need-find-requires Inv-loop μ-loop
-find-requires c κs = search needs
-
-size-requires : tie.Need-size-requires Inv-loop μ-loop
-size-requires c κs = search needs
-
-new-requires : tie.Need-new-requires Inv-loop μ-loop
-new-requires c κs = search needs
-
 loop-holds : tie.Need-loop-holds Inv-loop μ-loop
 loop-holds c =
     let a = c .before .before .before .args in
@@ -43,18 +34,6 @@ loop-holds c =
       ap (rewriteInto compareFact (canonicalFact (linksOf (a .unification))) (factsAt root (factsOf (a .t2)))) none,
     )
 
-mul-here : tie.Need-mul-here Inv-loop μ-loop
-mul-here c = search needs
-
-element-copy-out-here : tie.Need-element-copy-out-here Inv-loop μ-loop
-element-copy-out-here c = search needs
-
-add-i : tie.Need-add-i Inv-loop μ-loop
-add-i c = search needs
-
-loop-less : tie.Need-loop-less Inv-loop μ-loop
-loop-less c = search needs
-
 loop-again : tie.Need-loop-again Inv-loop μ-loop
 loop-again c =
     let test = c .before .before .before in
@@ -62,18 +41,6 @@ loop-again c =
     let l = test .before .loop in
     let at : l .i < length (factsOf (sized .before .before .args .t2)) = omega (arith, sized .size .ensures .is, test .loop-test .taken) in
     (omega (arith, l .inv .0), other-el _ _ (sized .before .before .args .t2) (l .i) _ _ at (l .inv .1) (c .if1 .taken))
-
-canonical-fact-requires : tie.Need-canonical-fact-requires Inv-loop μ-loop
-canonical-fact-requires c κs = search needs
-
-insert-requires : tie.Need-insert-requires Inv-loop μ-loop
-insert-requires c κs = search needs
-
-add-i-2 : tie.Need-add-i-2 Inv-loop μ-loop
-add-i-2 c = search needs
-
-loop-less-2 : tie.Need-loop-less-2 Inv-loop μ-loop
-loop-less-2 c = search needs
 
 loop-again-2 : tie.Need-loop-again-2 Inv-loop μ-loop
 loop-again-2 c =
@@ -106,18 +73,18 @@ concrete-types-of-spec =
     (tie.spec
     Inv-loop
     μ-loop
-    find-requires
-    size-requires
-    new-requires
+    (λ c κs. search needs)
+    (λ c κs. search needs)
+    (λ c κs. search needs)
     loop-holds
-    mul-here
-    element-copy-out-here
-    add-i
-    loop-less
+    (λ c. search needs)
+    (λ c. search needs)
+    (λ c. search needs)
+    (λ c. search needs)
     loop-again
-    canonical-fact-requires
-    insert-requires
-    add-i-2
-    loop-less-2
+    (λ c κs. search needs)
+    (λ c κs. search needs)
+    (λ c. search needs)
+    (λ c. search needs)
     loop-again-2
     returns)

@@ -10,18 +10,6 @@ use borrow.Author.Needs.{needs}
 use Rattle.carrying.proofs.after_declaring.Statement.{statement}
 use Rattle.carrying.proofs.after_declaring.Tie as tie
 
-enum-known-answer : tie.Need-enum-known-answer
-enum-known-answer c = search needs
-
-answered-requires : tie.Need-answered-requires
-answered-requires c κs = search needs
-
-enum-known-answer-2 : tie.Need-enum-known-answer-2
-enum-known-answer-2 c = search needs
-
-answered-requires-2 : tie.Need-answered-requires-2
-answered-requires-2 c κs = search needs
-
 -- what the record answers, by what the call answers
 abbrev carries : tie.Start → Declared → CarriedM
 carries at x = withConflicts (answers (declaredOf x) (machine (sigOf (at .args .d .signature)) (structureOf (at .args .machine .structure))))
@@ -36,9 +24,9 @@ pub after-declaring-spec : {M : Type 1} → statement M
 after-declaring-spec =
     tie.close
     (tie.spec
-    enum-known-answer
-    answered-requires
-    enum-known-answer-2
-    answered-requires-2
+    (λ c. search needs)
+    (λ c κs. search needs)
+    (λ c. search needs)
+    (λ c κs. search needs)
     returns
     returns-2)

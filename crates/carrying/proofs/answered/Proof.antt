@@ -10,9 +10,6 @@ use borrow.Author.Needs.{needs}
 use Rattle.carrying.proofs.answered.Statement.{statement}
 use Rattle.carrying.proofs.answered.Tie as tie
 
-new-requires : tie.Need-new-requires
-new-requires c κs = search needs
-
 returns : tie.Need-returns
 returns c =
     let a = c .before .args in
@@ -20,4 +17,4 @@ returns c =
     λ i. record { step = answers (answerOf (c .new .ensures i .held) (a .answer)) (machineOf (a .machine)); conflicts = none i }
 
 pub answered-spec : {M : Type 1} → statement M
-answered-spec = tie.close (tie.spec new-requires returns)
+answered-spec = tie.close (tie.spec (λ c κs. search needs) returns)

@@ -11,21 +11,6 @@ use borrow.Author.Needs.{needs}
 use Rattle.carrying.proofs.apply_pred.Statement.{statement}
 use Rattle.carrying.proofs.apply_pred.Tie as tie
 
-els-in-requires : tie.Need-els-in-requires
-els-in-requires c κs = search needs
-
-els-in-requires-2 : tie.Need-els-in-requires-2
-els-in-requires-2 c κs = search needs
-
-new-requires : tie.Need-new-requires
-new-requires c κs = search needs
-
-insert-pred-app-requires : tie.Need-insert-pred-app-requires
-insert-pred-app-requires c κs = search needs
-
-after-step-requires : tie.Need-after-step-requires
-after-step-requires c κs = search needs
-
 returns : tie.Need-returns
 unfolding predAppForm
 returns c =
@@ -39,9 +24,9 @@ pub apply-pred-spec : {M : Type 1} → statement M
 apply-pred-spec =
     tie.close
     (tie.spec
-    els-in-requires
-    els-in-requires-2
-    new-requires
-    insert-pred-app-requires
-    after-step-requires
+    (λ c κs. search needs)
+    (λ c κs. search needs)
+    (λ c κs. search needs)
+    (λ c κs. search needs)
+    (λ c κs. search needs)
     returns)

@@ -6,16 +6,10 @@ use borrow.Author.Needs.{needs}
 use Rattle.carrying.proofs.bind_ambient.Statement.{statement}
 use Rattle.carrying.proofs.bind_ambient.Tie as tie
 
-insert-ambient-model-el-requires : tie.Need-insert-ambient-model-el-requires
-insert-ambient-model-el-requires c κs = search needs
-
-after-step-requires : tie.Need-after-step-requires
-after-step-requires c κs = search needs
-
 returns : tie.Need-returns
 unfolding ambientForm
 returns c = c .after-step .ensures ∙ ap withConflicts (c .before .insert-ambient-model-el .ensures)
 
 pub bind-ambient-spec : {M : Type 1} → statement M
 bind-ambient-spec =
-    tie.close (tie.spec insert-ambient-model-el-requires after-step-requires returns)
+    tie.close (tie.spec (λ c κs. search needs) (λ c κs. search needs) returns)

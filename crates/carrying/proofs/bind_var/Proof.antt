@@ -7,15 +7,9 @@ use borrow.Author.Needs.{needs}
 use Rattle.carrying.proofs.bind_var.Statement.{statement}
 use Rattle.carrying.proofs.bind_var.Tie as tie
 
-insert-var-el-requires : tie.Need-insert-var-el-requires
-insert-var-el-requires c κs = search needs
-
-after-step-requires : tie.Need-after-step-requires
-after-step-requires c κs = search needs
-
 returns : tie.Need-returns
 unfolding varForm
 returns c = let a = c .before .before .before .args in c .after-step .ensures ∙ ap withConflicts (c .before .insert-var-el .ensures (sigOf (a .machine .signature)))
 
 pub bind-var-spec : {M : Type 1} → statement M
-bind-var-spec = tie.close (tie.spec insert-var-el-requires after-step-requires returns)
+bind-var-spec = tie.close (tie.spec (λ c κs. search needs) (λ c κs. search needs) returns)

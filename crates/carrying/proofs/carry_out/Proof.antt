@@ -13,12 +13,6 @@ use borrow.Author.Needs.{needs}
 use Rattle.carrying.proofs.carry_out.Statement.{statement}
 use Rattle.carrying.proofs.carry_out.Tie as tie
 
-fits-requires : tie.Need-fits-requires
-fits-requires c κs = search needs
-
-answered-requires : tie.Need-answered-requires
-answered-requires c κs = search needs
-
 returns : tie.Need-returns
 unfolding callOf carryOut
 returns c =
@@ -37,23 +31,11 @@ carries c e =
     let fits = holds (c .before .fits2 .ensures) (c .if1 .left) in
     e ∙ ap withConflicts (fitting (recordView (a .given)) (machineOf (a .machine)) (formOf (a .given .kind)) fits)
 
-run-close-requires : tie.Need-run-close-requires
-run-close-requires c κs = search needs
-
-find-conflicts-requires : tie.Need-find-conflicts-requires
-find-conflicts-requires c κs = search needs
-
-run-settle-requires : tie.Need-run-settle-requires
-run-settle-requires c κs = search needs
-
 declare-requires : tie.Need-declare-requires
 declare-requires c κs = (c .before .if2 .left, omega (arith, c .if3 .taken))
 
 state-requires : tie.Need-state-requires
 state-requires c κs = (c .before .if3 .left, omega (arith, c .if4 .taken))
-
-answered-requires-2 : tie.Need-answered-requires-2
-answered-requires-2 c κs = search needs
 
 returns-2 : tie.Need-returns-2
 unfolding forms formOf formStep closeForm
@@ -98,15 +80,15 @@ pub carry-out-spec : {M : Type 1} → statement M
 carry-out-spec =
     tie.close
     (tie.spec
-    fits-requires
-    answered-requires
+    (λ c κs. search needs)
+    (λ c κs. search needs)
     returns
-    run-close-requires
-    find-conflicts-requires
-    run-settle-requires
+    (λ c κs. search needs)
+    (λ c κs. search needs)
+    (λ c κs. search needs)
     declare-requires
     state-requires
-    answered-requires-2
+    (λ c κs. search needs)
     returns-2
     returns-3
     returns-4

@@ -9,21 +9,6 @@ use borrow.Author.Needs.{needs}
 use Rattle.carrying.proofs.declare.Statement.{statement}
 use Rattle.carrying.proofs.declare.Tie as tie
 
-push-type-requires : tie.Need-push-type-requires
-push-type-requires c κs = search needs
-
-push-pred-requires : tie.Need-push-pred-requires
-push-pred-requires c κs = search needs
-
-push-func-requires : tie.Need-push-func-requires
-push-func-requires c κs = search needs
-
-push-model-requires : tie.Need-push-model-requires
-push-model-requires c κs = search needs
-
-push-mor-app-func-requires : tie.Need-push-mor-app-func-requires
-push-mor-app-func-requires c κs = search needs
-
 returns : tie.Need-returns
 unfolding forms formOf formStep
 returns c = let a = c .before .before .args in c .push-type .ensures ∙ ap withConflicts (of-kind (recordView (a .given)) (machineOf (a .machine)) (c .before .match .keys1))
@@ -52,11 +37,11 @@ pub declare-spec : {M : Type 1} → statement M
 declare-spec =
     tie.close
     (tie.spec
-    push-type-requires
-    push-pred-requires
-    push-func-requires
-    push-model-requires
-    push-mor-app-func-requires
+    (λ c κs. search needs)
+    (λ c κs. search needs)
+    (λ c κs. search needs)
+    (λ c κs. search needs)
+    (λ c κs. search needs)
     returns
     returns-2
     returns-3

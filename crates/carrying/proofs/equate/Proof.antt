@@ -7,15 +7,9 @@ use borrow.Author.Needs.{needs}
 use Rattle.carrying.proofs.equate.Statement.{statement}
 use Rattle.carrying.proofs.equate.Tie as tie
 
-equate-requires : tie.Need-equate-requires
-equate-requires c κs = search needs
-
-after-step-requires : tie.Need-after-step-requires
-after-step-requires c κs = search needs
-
 returns : tie.Need-returns
 unfolding equalityForm
 returns c = let a = c .before .before .before .args in c .after-step .ensures ∙ ap withConflicts (c .before .equate .ensures (sigOf (a .machine .signature)))
 
 pub equate-spec : {M : Type 1} → statement M
-equate-spec = tie.close (tie.spec equate-requires after-step-requires returns)
+equate-spec = tie.close (tie.spec (λ c κs. search needs) (λ c κs. search needs) returns)

@@ -7,9 +7,6 @@ use borrow.Author.Needs.{needs}
 use Rattle.carrying.proofs.find_conflicts.Statement.{statement}
 use Rattle.carrying.proofs.find_conflicts.Tie as tie
 
-type-conflicts-requires : tie.Need-type-conflicts-requires
-type-conflicts-requires c κs = search needs
-
 after-conflicting-requires : tie.Need-after-conflicting-requires
 after-conflicting-requires c κs =
     let g = sigOf (c .before .before .args .machine .signature) in
@@ -22,4 +19,4 @@ returns c =
 
 pub find-conflicts-spec : {M : Type 1} → statement M
 find-conflicts-spec =
-    tie.close (tie.spec type-conflicts-requires after-conflicting-requires returns)
+    tie.close (tie.spec (λ c κs. search needs) after-conflicting-requires returns)

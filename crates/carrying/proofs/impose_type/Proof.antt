@@ -11,18 +11,6 @@ use borrow.Author.Needs.{needs}
 use Rattle.carrying.proofs.impose_type.Statement.{statement}
 use Rattle.carrying.proofs.impose_type.Tie as tie
 
-els-in-requires : tie.Need-els-in-requires
-els-in-requires c κs = search needs
-
-new-requires : tie.Need-new-requires
-new-requires c κs = search needs
-
-impose-type-requires : tie.Need-impose-type-requires
-impose-type-requires c κs = search needs
-
-after-step-requires : tie.Need-after-step-requires
-after-step-requires c κs = search needs
-
 returns : tie.Need-returns
 unfolding impositionForm
 returns c =
@@ -34,4 +22,4 @@ returns c =
 
 pub impose-type-spec : {M : Type 1} → statement M
 impose-type-spec =
-    tie.close (tie.spec els-in-requires new-requires impose-type-requires after-step-requires returns)
+    tie.close (tie.spec (λ c κs. search needs) (λ c κs. search needs) (λ c κs. search needs) (λ c κs. search needs) returns)

@@ -7,15 +7,9 @@ use borrow.Author.Needs.{needs}
 use Rattle.carrying.proofs.push_el.Statement.{statement}
 use Rattle.carrying.proofs.push_el.Tie as tie
 
-push-el-requires : tie.Need-push-el-requires
-push-el-requires c κs = search needs
-
-after-step-requires : tie.Need-after-step-requires
-after-step-requires c κs = search needs
-
 returns : tie.Need-returns
 unfolding elForm
 returns c = let a = c .before .before .before .before .args in c .after-step .ensures ∙ ap withConflicts (c .before .push-el .ensures (sigOf (a .machine .signature)))
 
 pub push-el-spec : {M : Type 1} → statement M
-push-el-spec = tie.close (tie.spec push-el-requires after-step-requires returns)
+push-el-spec = tie.close (tie.spec (λ c κs. search needs) (λ c κs. search needs) returns)

@@ -9,18 +9,6 @@ use borrow.Author.Needs.{needs}
 use Rattle.carrying.proofs.push_func.Statement.{statement}
 use Rattle.carrying.proofs.push_func.Tie as tie
 
-types-in-requires : tie.Need-types-in-requires
-types-in-requires c κs = search needs
-
-types-in-requires-2 : tie.Need-types-in-requires-2
-types-in-requires-2 c κs = search needs
-
-push-func-requires : tie.Need-push-func-requires
-push-func-requires c κs = search needs
-
-after-declaring-requires : tie.Need-after-declaring-requires
-after-declaring-requires c κs = search needs
-
 returns : tie.Need-returns
 unfolding funcForm
 returns c =
@@ -33,8 +21,8 @@ pub push-func-spec : {M : Type 1} → statement M
 push-func-spec =
     tie.close
     (tie.spec
-    types-in-requires
-    types-in-requires-2
-    push-func-requires
-    after-declaring-requires
+    (λ c κs. search needs)
+    (λ c κs. search needs)
+    (λ c κs. search needs)
+    (λ c κs. search needs)
     returns)

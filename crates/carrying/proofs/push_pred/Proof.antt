@@ -9,18 +9,6 @@ use borrow.Author.Needs.{needs}
 use Rattle.carrying.proofs.push_pred.Statement.{statement}
 use Rattle.carrying.proofs.push_pred.Tie as tie
 
-types-in-requires : tie.Need-types-in-requires
-types-in-requires c κs = search needs
-
-types-in-requires-2 : tie.Need-types-in-requires-2
-types-in-requires-2 c κs = search needs
-
-push-pred-requires : tie.Need-push-pred-requires
-push-pred-requires c κs = search needs
-
-after-declaring-requires : tie.Need-after-declaring-requires
-after-declaring-requires c κs = search needs
-
 returns : tie.Need-returns
 unfolding predForm
 returns c =
@@ -33,8 +21,8 @@ pub push-pred-spec : {M : Type 1} → statement M
 push-pred-spec =
     tie.close
     (tie.spec
-    types-in-requires
-    types-in-requires-2
-    push-pred-requires
-    after-declaring-requires
+    (λ c κs. search needs)
+    (λ c κs. search needs)
+    (λ c κs. search needs)
+    (λ c κs. search needs)
     returns)

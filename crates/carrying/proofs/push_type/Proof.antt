@@ -9,18 +9,6 @@ use borrow.Author.Needs.{needs}
 use Rattle.carrying.proofs.push_type.Statement.{statement}
 use Rattle.carrying.proofs.push_type.Tie as tie
 
-type-kind-requires : tie.Need-type-kind-requires
-type-kind-requires c κs = search needs
-
-types-in-requires : tie.Need-types-in-requires
-types-in-requires c κs = search needs
-
-push-type-requires : tie.Need-push-type-requires
-push-type-requires c κs = search needs
-
-after-declaring-requires : tie.Need-after-declaring-requires
-after-declaring-requires c κs = search needs
-
 returns : tie.Need-returns
 unfolding typeForm
 returns c =
@@ -33,8 +21,8 @@ pub push-type-spec : {M : Type 1} → statement M
 push-type-spec =
     tie.close
     (tie.spec
-    type-kind-requires
-    types-in-requires
-    push-type-requires
-    after-declaring-requires
+    (λ c κs. search needs)
+    (λ c κs. search needs)
+    (λ c κs. search needs)
+    (λ c κs. search needs)
     returns)

@@ -5,14 +5,8 @@ use borrow.Author.Needs.{needs}
 use Rattle.carrying.proofs.run_close.Statement.{statement}
 use Rattle.carrying.proofs.run_close.Tie as tie
 
-close-requires : tie.Need-close-requires
-close-requires c κs = search needs
-
-after-step-requires : tie.Need-after-step-requires
-after-step-requires c κs = search needs
-
 returns : tie.Need-returns
 returns c = c .after-step .ensures ∙ ap withConflicts (c .before .close .ensures .0)
 
 pub run-close-spec : {M : Type 1} → statement M
-run-close-spec = tie.close (tie.spec close-requires after-step-requires returns)
+run-close-spec = tie.close (tie.spec (λ c κs. search needs) (λ c κs. search needs) returns)

@@ -5,14 +5,8 @@ use borrow.Author.Needs.{needs}
 use Rattle.carrying.proofs.run_settle.Statement.{statement}
 use Rattle.carrying.proofs.run_settle.Tie as tie
 
-settle-requires : tie.Need-settle-requires
-settle-requires c κs = search needs
-
-after-step-requires : tie.Need-after-step-requires
-after-step-requires c κs = search needs
-
 returns : tie.Need-returns
 returns c = c .after-step .ensures ∙ ap withConflicts (c .before .settle .ensures)
 
 pub run-settle-spec : {M : Type 1} → statement M
-run-settle-spec = tie.close (tie.spec settle-requires after-step-requires returns)
+run-settle-spec = tie.close (tie.spec (λ c κs. search needs) (λ c κs. search needs) returns)

@@ -9,27 +9,6 @@ use borrow.Author.Needs.{needs}
 use Rattle.carrying.proofs.state.Statement.{statement}
 use Rattle.carrying.proofs.state.Tie as tie
 
-push-el-requires : tie.Need-push-el-requires
-push-el-requires c κs = search needs
-
-equate-requires : tie.Need-equate-requires
-equate-requires c κs = search needs
-
-impose-type-requires : tie.Need-impose-type-requires
-impose-type-requires c κs = search needs
-
-apply-func-requires : tie.Need-apply-func-requires
-apply-func-requires c κs = search needs
-
-apply-pred-requires : tie.Need-apply-pred-requires
-apply-pred-requires c κs = search needs
-
-bind-var-requires : tie.Need-bind-var-requires
-bind-var-requires c κs = search needs
-
-bind-ambient-requires : tie.Need-bind-ambient-requires
-bind-ambient-requires c κs = search needs
-
 returns : tie.Need-returns
 unfolding forms formOf formStep
 returns c = let a = c .before .before .args in c .push-el .ensures ∙ ap withConflicts (of-kind (recordView (a .given)) (machineOf (a .machine)) (c .before .match .keys1))
@@ -66,13 +45,13 @@ pub state-spec : {M : Type 1} → statement M
 state-spec =
     tie.close
     (tie.spec
-    push-el-requires
-    equate-requires
-    impose-type-requires
-    apply-func-requires
-    apply-pred-requires
-    bind-var-requires
-    bind-ambient-requires
+    (λ c κs. search needs)
+    (λ c κs. search needs)
+    (λ c κs. search needs)
+    (λ c κs. search needs)
+    (λ c κs. search needs)
+    (λ c κs. search needs)
+    (λ c κs. search needs)
     returns
     returns-2
     returns-3

@@ -1,5 +1,5 @@
 -- `close` meets its contract: the structure is read into rows (`loaded`), the rounds and the impositions run on them, and what they leave is
--- written back (Whole.antt).
+-- written back (Closing.antt).
 use mathlib.Core.Path.{_≡_, refl, ap, _∙_}
 use Prim.Native.Nat.{_-_, _≤_}
 use mathlib.Core.Bool.{_||_}
@@ -11,13 +11,15 @@ use Rattle.ids.proofs.Views.{long, length-view, view-clamped}
 use Rattle.unification.specs.Roots.{maxEls}
 use Rattle.signature.specs.Model.{Sig, sigOf}
 use Rattle.semantics.specs.Structure.{maxFacts, maxPredApps}
-use Rattle.semantics.specs.Calls.{Step}
+use Rattle.semantics.specs.Calls.{Step, mergesOf}
 use Rattle.facts.specs.View.{factOf, noFact}
 use Rattle.fact_rows.specs.View.{factIn}
-use Rattle.merging.specs.View.{Lent, lent}
+use Rattle.merging.specs.View.{Lent, lent, tally}
 use Rattle.merging.proofs.Laws.{func-apps-kept}
-use Rattle.close.proofs.Whole.{Copied, copied-none, copied-next, copied-all, Loaded, loaded-holds, loaded-room, imposing-room}
-use Rattle.close.proofs.Whole.{merges-most, written, refuses, accepts, merges-few}
+use Rattle.rows.proofs.Copying.{Copied, copied-none, copied-next, copied-all}
+use Rattle.rounds.specs.View.{oneClose}
+use Rattle.close.proofs.Closing.{Loaded, loaded-holds, loaded-room, imposing-room}
+use Rattle.close.proofs.Closing.{merges-most, written, refuses, accepts}
 use borrow.Author.Needs.{needs}
 use Rattle.close.proofs.close.Statement.{statement}
 use Rattle.close.proofs.close.Tie as tie
@@ -84,18 +86,10 @@ module _ (c : tie.After-is-sorted Inv-loop μ-loop Inv-loop2 μ-loop2) where
   first = begun (read .before)
 
   abbrev start : Lent
-  start = lent (elements .fill-els .last .0) (read .loop .facts) (queue .fill-pairs .last .0) (record {
-    els = elements .before .before .size .result;
-    facts = read .before .size2 .result;
-    «func_apps» = funcs .fill-func-apps .result;
-    «pred_apps» = preds .fill-pred-apps .result;
-    pairs = queue .fill-pairs .result;
-    «is_sorted» = c .is-sorted .result;
-    «is_marked» = elements .fill-els .result;
-    met = 0;
-    merges = 0;
-    added = 0;
-  })
+  start =
+      lent (elements .fill-els .last .0) (read .loop .facts) (queue .fill-pairs .last .0)
+      (tally (elements .before .before .size .result) (read .before .size2 .result) (funcs .fill-func-apps .result)
+      (preds .fill-pred-apps .result) (queue .fill-pairs .result) (c .is-sorted .result) (elements .fill-els .result) 0 0 0)
 
   loaded : Loaded (first .args .structure) start (funcs .fill-func-apps .last .0) (preds .fill-pred-apps .last .0)
   loaded =
@@ -148,13 +142,18 @@ grew-requires c κs =
 abbrev imposing : tie.After-or Inv-loop μ-loop Inv-loop2 μ-loop2 → tie.After-apply-pending-type-impositions Inv-loop μ-loop Inv-loop2 μ-loop2
 imposing c = c .before .before .before .before .before
 
+-- the merges that an answer reports are those of the step that it makes
+answered : {s t : Step} → s ≡ t → mergesOf (t .answer) ≤ oneClose → mergesOf (s .answer) ≤ oneClose
+answered e h = rw (ap (λ (x : Step). mergesOf (x .answer)) e) h
+
 returns : tie.Need-returns Inv-loop μ-loop Inv-loop2 μ-loop2
+unfolding mergesOf
 returns c =
     let w = imposing (c .before .before) in
     let r = running w in
     let g = sig r in (
       c .refuse .ensures g ∙ refuses g (loaded (sorting r)) (r .rounds .ensures) (w .apply-pending-type-impositions .ensures) (c .before .if1 .taken),
-      merges-few (c .refuse .result .answer) (ap (λ (s : Step). s .answer) (c .refuse .ensures g)) (omega arith),
+      answered (c .refuse .ensures g) (omega arith),
     )
 
 -- the rows of the elements after the impositions
@@ -326,6 +325,7 @@ module _ (c : tie.After-accept Inv-loop μ-loop Inv-loop2 μ-loop2) where
   facts = stored .before .before .before
 
 returns-2 : tie.Need-returns-2 Inv-loop μ-loop Inv-loop2 μ-loop2
+unfolding mergesOf
 returns-2 c =
     let o = from-vars (vars c .before) in
     let preds = rewritten (predicates c .before) in
@@ -342,7 +342,7 @@ returns-2 c =
     (queued c .pairs-of .ensures) (imposed c .canonical-impositions .ensures) in (
       c .accept .ensures g ∙ accepts g l rs is (preds .before .before .before .if1 .left)
           (o .or .ensures ∙ (λ i. ltb 1 (r .rounds .result .rounds) || o .before .grew .ensures i)) all,
-      merges-few (c .accept .result .answer) (ap (λ (s : Step). s .answer) (c .accept .ensures g)) (merges-most g l rs is),
+      answered (c .accept .ensures g) (merges-most g l rs is),
     )
 
 pub close-spec : {M : Type 1} → statement M

@@ -5,9 +5,6 @@ use Rattle.close_sheet.proofs.Laws.{after-failed, after-end, after-over
 use Rattle.close_sheet.proofs.after_read.Statement.{statement}
 use Rattle.close_sheet.proofs.after_read.Tie as tie
 
-add-over : tie.Need-add-over
-add-over c = search needs
-
 returns : tie.Need-returns
 returns c =
     let a = c .before .args in after-failed (a .at) (a .failed) (a .n) (c .if1 .taken)
@@ -24,12 +21,9 @@ returns-4 : tie.Need-returns-4
 returns-4 c =
     let a = c .before .before .before .before .args in after-over (a .at) (a .failed) (a .n) (c .before .before .before .if1 .left) (c .before .before .if2 .left) (omega (arith, c .before .if3 .left, c .if4 .taken))
 
-add-t6 : tie.Need-add-t6
-add-t6 c = search needs
-
 returns-5 : tie.Need-returns-5
 returns-5 c =
     let a = c .before .before .before .before .args in after-more (a .at) (a .failed) (a .n) (c .before .before .before .if1 .left) (c .before .before .if2 .left) (omega (arith, c .before .if3 .left, c .if4 .left))
 
 pub after-read-spec : {M : Type 1} → statement M
-after-read-spec = tie.close (tie.spec add-over returns returns-2 returns-3 returns-4 add-t6 returns-5)
+after-read-spec = tie.close (tie.spec (λ c. search needs) returns returns-2 returns-3 returns-4 (λ c. search needs) returns-5)

@@ -11,15 +11,6 @@ use borrow.Author.Needs.{needs}
 use Rattle.close_sheet.proofs.came_to.Statement.{statement}
 use Rattle.close_sheet.proofs.came_to.Tie as tie
 
-is-failure-requires : tie.Need-is-failure-requires
-is-failure-requires c κs = search needs
-
-count-requires : tie.Need-count-requires
-count-requires c κs = search needs
-
-after-read-requires : tie.Need-after-read-requires
-after-read-requires c κs = search needs
-
 returns : tie.Need-returns
 returns c =
     let s = c .before .before .before .before in
@@ -29,4 +20,4 @@ returns c =
     ∙ ap (λ (z : ℤ). afterRead (a .at) (isNegative z) (clamped z (length (now (a .part))))) (toZ-ofZ w64 (a .got) (s .fits .got))
 
 pub came-to-spec : {M : Type 1} → statement M
-came-to-spec = tie.close (tie.spec is-failure-requires count-requires after-read-requires returns)
+came-to-spec = tie.close (tie.spec (λ c κs. search needs) (λ c κs. search needs) (λ c κs. search needs) returns)

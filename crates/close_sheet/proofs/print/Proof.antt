@@ -17,20 +17,11 @@ Inv-loop bytes text₀ length progress₀ text progress = Unit {0}
 abbrev μ-loop : tie.MeasureT-loop
 μ-loop bytes text₀ length progress₀ text progress = piecesOf bytes (progressOf progress)
 
-start-requires : tie.Need-start-requires Inv-loop μ-loop
-start-requires c κs = search needs
-
 loop-holds : tie.Need-loop-holds Inv-loop μ-loop
 loop-holds c = tt
 
-is-ended-requires : tie.Need-is-ended-requires Inv-loop μ-loop
-is-ended-requires c κs = search needs
-
 returns : tie.Need-returns Inv-loop μ-loop
 returns c = tt
-
-fill-requires : tie.Need-fill-requires Inv-loop μ-loop
-fill-requires c κs = search needs
 
 write-page-requires : tie.Need-write-page-requires Inv-loop μ-loop
 write-page-requires c κs =
@@ -58,11 +49,11 @@ print-spec =
     (tie.spec
     Inv-loop
     μ-loop
-    start-requires
+    (λ c κs. search needs)
     loop-holds
-    is-ended-requires
+    (λ c κs. search needs)
     returns
-    fill-requires
+    (λ c κs. search needs)
     write-page-requires
     returns-2
     loop-less

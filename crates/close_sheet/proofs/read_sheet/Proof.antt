@@ -20,12 +20,6 @@ abbrev μ-loop : tie.MeasureT-loop
 loop-holds : tie.Need-loop-holds Inv-loop μ-loop
 loop-holds c = λ r h. h
 
-read-on-requires : tie.Need-read-on-requires Inv-loop μ-loop
-read-on-requires c κs = search needs
-
-enum-known-reading : tie.Need-enum-known-reading Inv-loop μ-loop
-enum-known-reading c = search needs
-
 loop-less : tie.Need-loop-less Inv-loop μ-loop
 loop-less c =
     let done = c .before .before .before in
@@ -39,18 +33,12 @@ loop-again c =
     let l = done .before .before .loop in
     λ r h. l .inv r (next (subst (Gave (l .at)) (c .before .reading .given .1) (done .read-on .ensures .0)) h)
 
-enum-known-reading-2 : tie.Need-enum-known-reading-2 Inv-loop μ-loop
-enum-known-reading-2 c = search needs
-
 returns : tie.Need-returns Inv-loop μ-loop
 unfolding readingOf
 returns c =
     let done = c .before .before .before in
     let l = done .before .before .loop in
     l .inv _ (last (subst (Gave (l .at)) (c .before .reading2 .given .1) (done .read-on .ensures .0)))
-
-enum-told : tie.Need-enum-told Inv-loop μ-loop
-enum-told c = search needs
 
 returns-2 : tie.Need-returns-2 Inv-loop μ-loop
 unfolding readingOf
@@ -66,11 +54,11 @@ read-sheet-spec =
     Inv-loop
     μ-loop
     loop-holds
-    read-on-requires
-    enum-known-reading
+    (λ c κs. search needs)
+    (λ c. search needs)
     loop-less
     loop-again
-    enum-known-reading-2
+    (λ c. search needs)
     returns
-    enum-told
+    (λ c. search needs)
     returns-2)

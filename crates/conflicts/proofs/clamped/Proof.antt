@@ -4,9 +4,6 @@ use borrow.Author.Needs.{needs}
 use Rattle.conflicts.proofs.clamped.Statement.{statement}
 use Rattle.conflicts.proofs.clamped.Tie as tie
 
-clamped-requires : tie.Need-clamped-requires
-clamped-requires c κs = search needs
-
 returns : tie.Need-returns
 returns c =
     let f = c .before .before .before .before .args .fact in
@@ -17,4 +14,4 @@ returns c =
     }
 
 pub clamped-spec : {M : Type 1} → statement M
-clamped-spec = tie.close (tie.spec clamped-requires returns)
+clamped-spec = tie.close (tie.spec (λ c κs. search needs) returns)

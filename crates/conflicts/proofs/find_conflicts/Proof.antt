@@ -50,28 +50,10 @@ Inv-classes unification facts n conflicts₀ e₀ conflicts e =
 abbrev μ-classes : tie.MeasureT-classes
 μ-classes unification facts n conflicts₀ e₀ conflicts e = n - e
 
-size-requires : tie.Need-size-requires Inv-paired μ-paired Inv-stored μ-stored Inv-classes μ-classes
-size-requires c κs = search needs
-
-new-requires : tie.Need-new-requires Inv-paired μ-paired Inv-stored μ-stored Inv-classes μ-classes
-new-requires c κs = search needs
-
 classes-holds : tie.Need-classes-holds Inv-paired μ-paired Inv-stored μ-stored Inv-classes μ-classes
 unfolding conflictsBelow
 classes-holds c =
     (omega arith, c .new .ensures)
-
-cast-number : tie.Need-cast-number Inv-paired μ-paired Inv-stored μ-stored Inv-classes μ-classes
-cast-number c = search needs
-
-find-requires : tie.Need-find-requires Inv-paired μ-paired Inv-stored μ-stored Inv-classes μ-classes
-find-requires c κs = search needs
-
-add-e : tie.Need-add-e Inv-paired μ-paired Inv-stored μ-stored Inv-classes μ-classes
-add-e c = search needs
-
-classes-less : tie.Need-classes-less Inv-paired μ-paired Inv-stored μ-stored Inv-classes μ-classes
-classes-less c = search needs
 
 -- the conflicts so far, past a class with none
 clear : (s : Structure) (out : TypeConflicts) (e : ℕ) → handedConflicts out ≡ whole (conflictsBelow s e) → [] ≡ conflictAt s e
@@ -108,12 +90,6 @@ count-at-requires :
     tie.Need-count-at-requires Inv-paired μ-paired Inv-stored μ-stored Inv-classes μ-classes
 count-at-requires c κs = search needs
 
-add-e-2 : tie.Need-add-e-2 Inv-paired μ-paired Inv-stored μ-stored Inv-classes μ-classes
-add-e-2 c = search needs
-
-classes-less-2 : tie.Need-classes-less-2 Inv-paired μ-paired Inv-stored μ-stored Inv-classes μ-classes
-classes-less-2 c = search needs
-
 classes-again-2 : tie.Need-classes-again-2 Inv-paired μ-paired Inv-stored μ-stored Inv-classes μ-classes
 classes-again-2 c =
     let counted = c .before in
@@ -126,9 +102,6 @@ concrete-types-of-requires :
     tie.Need-concrete-types-of-requires Inv-paired μ-paired Inv-stored μ-stored Inv-classes μ-classes
 concrete-types-of-requires c κs = search needs
 
-size-requires-2 : tie.Need-size-requires-2 Inv-paired μ-paired Inv-stored μ-stored Inv-classes μ-classes
-size-requires-2 c κs = search needs
-
 element-copy-out-a :
     tie.Need-element-copy-out-a Inv-paired μ-paired Inv-stored μ-stored Inv-classes μ-classes
 element-copy-out-a c = search needs
@@ -139,18 +112,9 @@ stored-holds c =
     let types = asked .concrete-types-of .result in
     (refl, (refl, facts-start _ _ (types .len) (types .items)))
 
-mul-b : tie.Need-mul-b Inv-paired μ-paired Inv-stored μ-stored Inv-classes μ-classes
-mul-b c = search needs
-
 element-copy-out-b :
     tie.Need-element-copy-out-b Inv-paired μ-paired Inv-stored μ-stored Inv-classes μ-classes
 element-copy-out-b c = search needs
-
-add-e-3 : tie.Need-add-e-3 Inv-paired μ-paired Inv-stored μ-stored Inv-classes μ-classes
-add-e-3 c = search needs
-
-classes-less-3 : tie.Need-classes-less-3 Inv-paired μ-paired Inv-stored μ-stored Inv-classes μ-classes
-classes-less-3 c = search needs
 
 -- the class whose facts are searched
 abbrev class-of : tie.At-stored Inv-paired μ-paired Inv-stored μ-stored Inv-classes μ-classes → tie.In-classes Inv-paired μ-paired Inv-stored μ-stored Inv-classes μ-classes
@@ -214,20 +178,8 @@ classes-again-3 c =
     let found = facts-conflict ls (el-of l) f (types-of l) _ (l .stored .inv .1 .1) (at other) (other-type ls f g (c .before .if3 .taken)) in
     pushed l (l .stored .conflicts) (c .push .result) (l .stored .e) (l .stored .inv .0) (l .stored .inv .1 .0) (c .push .ensures) found
 
-size-requires-3 : tie.Need-size-requires-3 Inv-paired μ-paired Inv-stored μ-stored Inv-classes μ-classes
-size-requires-3 c κs = search needs
-
-size-requires-4 : tie.Need-size-requires-4 Inv-paired μ-paired Inv-stored μ-stored Inv-classes μ-classes
-size-requires-4 c κs = search needs
-
 paired-holds : tie.Need-paired-holds Inv-paired μ-paired Inv-stored μ-stored Inv-classes μ-classes
 paired-holds c = (refl, (refl, refl))
-
-add-i : tie.Need-add-i Inv-paired μ-paired Inv-stored μ-stored Inv-classes μ-classes
-add-i c = search needs
-
-paired-less : tie.Need-paired-less Inv-paired μ-paired Inv-stored μ-stored Inv-classes μ-classes
-paired-less c = search needs
 
 -- the search at which parents are compared, and the parents
 abbrev search-of : tie.At-paired Inv-paired μ-paired Inv-stored μ-stored Inv-classes μ-classes → tie.In-stored Inv-paired μ-paired Inv-stored μ-stored Inv-classes μ-classes
@@ -251,25 +203,13 @@ paired-again c =
     let past : length (elsOf (qs-of l)) ≤ l .paired .i = omega (arith, l .before .size4 .ensures .is, c .if4 .taken) in
     (l .paired .inv .0, (l .paired .inv .1 .0, parents-past (links-of l) (ps-of l) (qs-of l) _ (l .paired .inv .1 .1) past))
 
-mul-find : tie.Need-mul-find Inv-paired μ-paired Inv-stored μ-stored Inv-classes μ-classes
-mul-find c = search needs
-
 element-copy-out-find :
     tie.Need-element-copy-out-find Inv-paired μ-paired Inv-stored μ-stored Inv-classes μ-classes
 element-copy-out-find c = search needs
 
-find-requires-2 : tie.Need-find-requires-2 Inv-paired μ-paired Inv-stored μ-stored Inv-classes μ-classes
-find-requires-2 c κs = search needs
-
-mul-find-2 : tie.Need-mul-find-2 Inv-paired μ-paired Inv-stored μ-stored Inv-classes μ-classes
-mul-find-2 c = search needs
-
 element-copy-out-find-2 :
     tie.Need-element-copy-out-find-2 Inv-paired μ-paired Inv-stored μ-stored Inv-classes μ-classes
 element-copy-out-find-2 c = search needs
-
-find-requires-3 : tie.Need-find-requires-3 Inv-paired μ-paired Inv-stored μ-stored Inv-classes μ-classes
-find-requires-3 c κs = search needs
 
 push-requires-2 : tie.Need-push-requires-2 Inv-paired μ-paired Inv-stored μ-stored Inv-classes μ-classes
 push-requires-2 c κs =
@@ -319,12 +259,6 @@ classes-again-4 c =
     let conflict = facts-conflict ls (el-of l) f (types-of l) _ (l .stored .inv .1 .1) (at so) (other-parents ls f g type differ) in
     pushed l (l2 .paired .conflicts) (c .push2 .result) (l2 .paired .e) (l2 .paired .inv .0 ∙ l .stored .inv .0) (l2 .paired .inv .1 .0 ∙ l .stored .inv .1 .0) (c .push2 .ensures) conflict
 
-add-i-2 : tie.Need-add-i-2 Inv-paired μ-paired Inv-stored μ-stored Inv-classes μ-classes
-add-i-2 c = search needs
-
-paired-less-2 : tie.Need-paired-less-2 Inv-paired μ-paired Inv-stored μ-stored Inv-classes μ-classes
-paired-less-2 c = search needs
-
 paired-again-2 : tie.Need-paired-again-2 Inv-paired μ-paired Inv-stored μ-stored Inv-classes μ-classes
 unfolding findOf
 paired-again-2 c =
@@ -335,12 +269,6 @@ paired-again-2 c =
     let same-q = ap (λ (x : FindM). x .root) (found .find3 .ensures) in
     let match = parents-match (links-of l2) (ps-of l2) (qs-of l2) _ (l2 .paired .inv .1 .1) noEl (ps-at (other .before)) (qs-at other) (sym same-p ∙ c .if5 .left ∙ same-q) in
     (l2 .paired .inv .0, (l2 .paired .inv .1 .0, match))
-
-add-j : tie.Need-add-j Inv-paired μ-paired Inv-stored μ-stored Inv-classes μ-classes
-add-j c = search needs
-
-stored-less : tie.Need-stored-less Inv-paired μ-paired Inv-stored μ-stored Inv-classes μ-classes
-stored-less c = search needs
 
 stored-again : tie.Need-stored-again Inv-paired μ-paired Inv-stored μ-stored Inv-classes μ-classes
 stored-again c =
@@ -354,12 +282,6 @@ stored-again c =
     let type = l2 .before .before .before .before .before .if3 .left in
     let agree = all-alike ls f g type (parents-done ls (ps-of l2) (qs-of l2) _ (l2 .paired .inv .1 .1) done) in
     (l2 .paired .inv .0 ∙ l .stored .inv .0, (l2 .paired .inv .1 .0 ∙ l .stored .inv .1 .0, facts-agree ls (el-of l) f (types-of l) _ (l .stored .inv .1 .1) (at so) agree))
-
-add-e-5 : tie.Need-add-e-5 Inv-paired μ-paired Inv-stored μ-stored Inv-classes μ-classes
-add-e-5 c = search needs
-
-classes-less-5 : tie.Need-classes-less-5 Inv-paired μ-paired Inv-stored μ-stored Inv-classes μ-classes
-classes-less-5 c = search needs
 
 classes-again-5 : tie.Need-classes-again-5 Inv-paired μ-paired Inv-stored μ-stored Inv-classes μ-classes
 classes-again-5 c =
@@ -392,51 +314,51 @@ find-conflicts-spec =
     μ-stored
     Inv-classes
     μ-classes
-    size-requires
-    new-requires
+    (λ c κs. search needs)
+    (λ c κs. search needs)
     classes-holds
-    cast-number
-    find-requires
-    add-e
-    classes-less
+    (λ c. search needs)
+    (λ c κs. search needs)
+    (λ c. search needs)
+    (λ c. search needs)
     classes-again
     count-at-requires
-    add-e-2
-    classes-less-2
+    (λ c. search needs)
+    (λ c. search needs)
     classes-again-2
     concrete-types-of-requires
-    size-requires-2
+    (λ c κs. search needs)
     element-copy-out-a
     stored-holds
-    mul-b
+    (λ c. search needs)
     element-copy-out-b
     push-requires
-    add-e-3
-    classes-less-3
+    (λ c. search needs)
+    (λ c. search needs)
     classes-again-3
-    size-requires-3
-    size-requires-4
+    (λ c κs. search needs)
+    (λ c κs. search needs)
     paired-holds
-    add-i
-    paired-less
+    (λ c. search needs)
+    (λ c. search needs)
     paired-again
-    mul-find
+    (λ c. search needs)
     element-copy-out-find
-    find-requires-2
-    mul-find-2
+    (λ c κs. search needs)
+    (λ c. search needs)
     element-copy-out-find-2
-    find-requires-3
+    (λ c κs. search needs)
     push-requires-2
     add-e-4
     classes-less-4
     classes-again-4
-    add-i-2
-    paired-less-2
+    (λ c. search needs)
+    (λ c. search needs)
     paired-again-2
-    add-j
-    stored-less
+    (λ c. search needs)
+    (λ c. search needs)
     stored-again
-    add-e-5
-    classes-less-5
+    (λ c. search needs)
+    (λ c. search needs)
     classes-again-5
     returns)

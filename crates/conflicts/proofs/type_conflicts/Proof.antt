@@ -11,12 +11,6 @@ use borrow.Author.Needs.{needs}
 use Rattle.conflicts.proofs.type_conflicts.Statement.{statement}
 use Rattle.conflicts.proofs.type_conflicts.Tie as tie
 
-find-conflicts-requires : tie.Need-find-conflicts-requires
-find-conflicts-requires c κs = search needs
-
-accept-requires : tie.Need-accept-requires
-accept-requires c κs = search needs
-
 returns : tie.Need-returns
 unfolding step stepBy rule acceptance leaves settledBy firstOf decided
 returns c g =
@@ -26,4 +20,4 @@ returns c g =
     λ k. record { given = answers (conflicting (all k .given)) (after k); held = answers (conflicting (all k .held)) (after k) }
 
 pub type-conflicts-spec : {M : Type 1} → statement M
-type-conflicts-spec = tie.close (tie.spec find-conflicts-requires accept-requires returns)
+type-conflicts-spec = tie.close (tie.spec (λ c κs. search needs) (λ c κs. search needs) returns)

@@ -6,27 +6,6 @@ use borrow.Author.Needs.{needs}
 use Rattle.declarations.proofs.any_is_given.Statement.{statement}
 use Rattle.declarations.proofs.any_is_given.Tie as tie
 
-is-given-requires : tie.Need-is-given-requires
-is-given-requires c κs = search needs
-
-is-given-requires-2 : tie.Need-is-given-requires-2
-is-given-requires-2 c κs = search needs
-
-or-requires : tie.Need-or-requires
-or-requires c κs = search needs
-
-is-given-requires-3 : tie.Need-is-given-requires-3
-is-given-requires-3 c κs = search needs
-
-or-requires-2 : tie.Need-or-requires-2
-or-requires-2 c κs = search needs
-
-is-given-requires-4 : tie.Need-is-given-requires-4
-is-given-requires-4 c κs = search needs
-
-or-requires-3 : tie.Need-or-requires-3
-or-requires-3 c κs = search needs
-
 returns : tie.Need-returns
 unfolding anyGiven
 returns c =
@@ -41,11 +20,11 @@ pub any-is-given-spec : {M : Type 1} → statement M
 any-is-given-spec =
     tie.close
     (tie.spec
-    is-given-requires
-    is-given-requires-2
-    or-requires
-    is-given-requires-3
-    or-requires-2
-    is-given-requires-4
-    or-requires-3
+    (λ c κs. search needs)
+    (λ c κs. search needs)
+    (λ c κs. search needs)
+    (λ c κs. search needs)
+    (λ c κs. search needs)
+    (λ c κs. search needs)
+    (λ c κs. search needs)
     returns)

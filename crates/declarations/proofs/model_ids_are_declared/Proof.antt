@@ -8,39 +8,6 @@ use borrow.Author.Needs.{needs}
 use Rattle.declarations.proofs.model_ids_are_declared.Statement.{statement}
 use Rattle.declarations.proofs.model_ids_are_declared.Tie as tie
 
-is-func-requires : tie.Need-is-func-requires
-is-func-requires c κs = search needs
-
-is-func-requires-2 : tie.Need-is-func-requires-2
-is-func-requires-2 c κs = search needs
-
-and-requires : tie.Need-and-requires
-and-requires c κs = search needs
-
-is-func-requires-3 : tie.Need-is-func-requires-3
-is-func-requires-3 c κs = search needs
-
-and-requires-2 : tie.Need-and-requires-2
-and-requires-2 c κs = search needs
-
-is-func-requires-4 : tie.Need-is-func-requires-4
-is-func-requires-4 c κs = search needs
-
-and-requires-3 : tie.Need-and-requires-3
-and-requires-3 c κs = search needs
-
-is-type-requires : tie.Need-is-type-requires
-is-type-requires c κs = search needs
-
-and-requires-4 : tie.Need-and-requires-4
-and-requires-4 c κs = search needs
-
-is-type-requires-2 : tie.Need-is-type-requires-2
-is-type-requires-2 c κs = search needs
-
-and-requires-5 : tie.Need-and-requires-5
-and-requires-5 c κs = search needs
-
 -- one more function below the count
 below : {r a b x y : Bool} → r ≡ (a && b) → a ≡ x → b ≡ y → r ≡ elim x [ true ↦ y | false ↦ false ]
 below {r} {a} {b} {x} {y} e h k = e ∙ (λ i. h i && k i) ∙ same x
@@ -66,15 +33,15 @@ pub model-ids-are-declared-spec : {M : Type 1} → statement M
 model-ids-are-declared-spec =
     tie.close
     (tie.spec
-    is-func-requires
-    is-func-requires-2
-    and-requires
-    is-func-requires-3
-    and-requires-2
-    is-func-requires-4
-    and-requires-3
-    is-type-requires
-    and-requires-4
-    is-type-requires-2
-    and-requires-5
+    (λ c κs. search needs)
+    (λ c κs. search needs)
+    (λ c κs. search needs)
+    (λ c κs. search needs)
+    (λ c κs. search needs)
+    (λ c κs. search needs)
+    (λ c κs. search needs)
+    (λ c κs. search needs)
+    (λ c κs. search needs)
+    (λ c κs. search needs)
+    (λ c κs. search needs)
     returns)

@@ -18,48 +18,6 @@ use borrow.Author.Needs.{needs}
 use Rattle.declarations.proofs.push_func.Statement.{statement}
 use Rattle.declarations.proofs.push_func.Tie as tie
 
-size-requires : tie.Need-size-requires
-size-requires c κs = search needs
-
-is-too-long-requires : tie.Need-is-too-long-requires
-is-too-long-requires c κs = search needs
-
-is-too-long-requires-2 : tie.Need-is-too-long-requires-2
-is-too-long-requires-2 c κs = search needs
-
-or-requires : tie.Need-or-requires
-or-requires c κs = search needs
-
-are-types-requires : tie.Need-are-types-requires
-are-types-requires c κs = search needs
-
-is-type-requires : tie.Need-is-type-requires
-is-type-requires c κs = search needs
-
-and-requires : tie.Need-and-requires
-and-requires c κs = search needs
-
-are-types-requires-2 : tie.Need-are-types-requires-2
-are-types-requires-2 c κs = search needs
-
-and-requires-2 : tie.Need-and-requires-2
-and-requires-2 c κs = search needs
-
-refuse-if-requires : tie.Need-refuse-if-requires
-refuse-if-requires c κs = search needs
-
-refuse-if-requires-2 : tie.Need-refuse-if-requires-2
-refuse-if-requires-2 c κs = search needs
-
-refuse-if-requires-3 : tie.Need-refuse-if-requires-3
-refuse-if-requires-3 c κs = search needs
-
-cast-refuse-if : tie.Need-cast-refuse-if
-cast-refuse-if c = search needs
-
-refuse-if-requires-4 : tie.Need-refuse-if-requires-4
-refuse-if-requires-4 c κs = search needs
-
 -- the function is held as it was given
 held : (c : tie.Start) → let f = c .args .f in
     (tooLong (givenTypes (f .parents)) || tooLong (givenTypes (f .domain))) ≡ false → givenFunc f ≡ funcOf f
@@ -93,18 +51,9 @@ so-far c =
     let s4 = judge noRoom s3 (c .refuse-if4 .ensures) (ap (leb maxFuncs) (sized .size .ensures .is)) in
     record { is = s4 .is ∙ behind malformed _ _ _ (λ x. drop 1 (funcCauses (a .started) (sigOf (a .signature)) x)) (held start) }
 
-enum-known-verdict : tie.Need-enum-known-verdict
-enum-known-verdict c = search needs
-
 returns : tie.Need-returns
 unfolding pushFunc outcome
 returns c = refused-by (refusing _) _ (so-far (c .before .before .before)) _ (ap verdictOf (c .before .verdict .given .1))
-
-enum-told : tie.Need-enum-told
-enum-told c = search needs
-
-push-requires : tie.Need-push-requires
-push-requires c κs = search needs
 
 returns-2 : tie.Need-returns-2
 unfolding pushFunc withFunc with-funcs funcCauses
@@ -121,22 +70,22 @@ pub push-func-spec : {M : Type 1} → statement M
 push-func-spec =
     tie.close
     (tie.spec
-    size-requires
-    is-too-long-requires
-    is-too-long-requires-2
-    or-requires
-    are-types-requires
-    is-type-requires
-    and-requires
-    are-types-requires-2
-    and-requires-2
-    refuse-if-requires
-    refuse-if-requires-2
-    refuse-if-requires-3
-    cast-refuse-if
-    refuse-if-requires-4
-    enum-known-verdict
+    (λ c κs. search needs)
+    (λ c κs. search needs)
+    (λ c κs. search needs)
+    (λ c κs. search needs)
+    (λ c κs. search needs)
+    (λ c κs. search needs)
+    (λ c κs. search needs)
+    (λ c κs. search needs)
+    (λ c κs. search needs)
+    (λ c κs. search needs)
+    (λ c κs. search needs)
+    (λ c κs. search needs)
+    (λ c. search needs)
+    (λ c κs. search needs)
+    (λ c. search needs)
     returns
-    enum-told
-    push-requires
+    (λ c. search needs)
+    (λ c κs. search needs)
     returns-2)

@@ -12,54 +12,6 @@ use borrow.Author.Needs.{needs}
 use Rattle.declarations.proofs.push_model.Statement.{statement}
 use Rattle.declarations.proofs.push_model.Tie as tie
 
-size-requires : tie.Need-size-requires
-size-requires c κs = search needs
-
-model-ids-are-declared-requires : tie.Need-model-ids-are-declared-requires
-model-ids-are-declared-requires c κs = search needs
-
-is-model-requires : tie.Need-is-model-requires
-is-model-requires c κs = search needs
-
-is-mor-of-requires : tie.Need-is-mor-of-requires
-is-mor-of-requires c κs = search needs
-
-and-requires : tie.Need-and-requires
-and-requires c κs = search needs
-
-repeats-requires : tie.Need-repeats-requires
-repeats-requires c κs = search needs
-
-any-is-given-requires : tie.Need-any-is-given-requires
-any-is-given-requires c κs = search needs
-
-or-requires : tie.Need-or-requires
-or-requires c κs = search needs
-
-has-type-requires : tie.Need-has-type-requires
-has-type-requires c κs = search needs
-
-or-requires-2 : tie.Need-or-requires-2
-or-requires-2 c κs = search needs
-
-refuse-if-requires : tie.Need-refuse-if-requires
-refuse-if-requires c κs = search needs
-
-refuse-if-requires-2 : tie.Need-refuse-if-requires-2
-refuse-if-requires-2 c κs = search needs
-
-refuse-if-requires-3 : tie.Need-refuse-if-requires-3
-refuse-if-requires-3 c κs = search needs
-
-refuse-if-requires-4 : tie.Need-refuse-if-requires-4
-refuse-if-requires-4 c κs = search needs
-
-cast-refuse-if : tie.Need-cast-refuse-if
-cast-refuse-if c = search needs
-
-refuse-if-requires-5 : tie.Need-refuse-if-requires-5
-refuse-if-requires-5 c κs = search needs
-
 -- the verdict, as the causes decide it
 so-far : (c : tie.After-refuse-if5) → let a = c .before .before .before .before .before .before .before .before .before .before .before .before .before .before .before .before .args in
     SoFar (verdictOf (c .refuse-if5 .result)) (modelCauses (a .started) (sigOf (a .signature)) (modelOf (a .ids)))
@@ -82,18 +34,9 @@ so-far c =
     let s4 = judge givenAgain s3 (r4 .refuse-if4 .ensures) again in
     judge noRoom s4 (c .refuse-if5 .ensures) (ap (leb maxModels) (named .before .size .ensures .is))
 
-enum-known-verdict : tie.Need-enum-known-verdict
-enum-known-verdict c = search needs
-
 returns : tie.Need-returns
 unfolding pushModel outcome
 returns c = refused-by (refusing _) _ (so-far (c .before .before .before)) _ (ap verdictOf (c .before .verdict .given .1))
-
-enum-told : tie.Need-enum-told
-enum-told c = search needs
-
-push-requires : tie.Need-push-requires
-push-requires c κs = search needs
 
 returns-2 : tie.Need-returns-2
 unfolding pushModel withModel with-models modelCauses
@@ -109,24 +52,24 @@ pub push-model-spec : {M : Type 1} → statement M
 push-model-spec =
     tie.close
     (tie.spec
-    size-requires
-    model-ids-are-declared-requires
-    is-model-requires
-    is-mor-of-requires
-    and-requires
-    repeats-requires
-    any-is-given-requires
-    or-requires
-    has-type-requires
-    or-requires-2
-    refuse-if-requires
-    refuse-if-requires-2
-    refuse-if-requires-3
-    refuse-if-requires-4
-    cast-refuse-if
-    refuse-if-requires-5
-    enum-known-verdict
+    (λ c κs. search needs)
+    (λ c κs. search needs)
+    (λ c κs. search needs)
+    (λ c κs. search needs)
+    (λ c κs. search needs)
+    (λ c κs. search needs)
+    (λ c κs. search needs)
+    (λ c κs. search needs)
+    (λ c κs. search needs)
+    (λ c κs. search needs)
+    (λ c κs. search needs)
+    (λ c κs. search needs)
+    (λ c κs. search needs)
+    (λ c κs. search needs)
+    (λ c. search needs)
+    (λ c κs. search needs)
+    (λ c. search needs)
     returns
-    enum-told
-    push-requires
+    (λ c. search needs)
+    (λ c κs. search needs)
     returns-2)

@@ -12,54 +12,6 @@ use borrow.Author.Needs.{needs}
 use Rattle.declarations.proofs.push_mor_app_func.Statement.{statement}
 use Rattle.declarations.proofs.push_mor_app_func.Tie as tie
 
-size-requires : tie.Need-size-requires
-size-requires c κs = search needs
-
-is-type-requires : tie.Need-is-type-requires
-is-type-requires c κs = search needs
-
-is-type-requires-2 : tie.Need-is-type-requires-2
-is-type-requires-2 c κs = search needs
-
-and-requires : tie.Need-and-requires
-and-requires c κs = search needs
-
-is-func-requires : tie.Need-is-func-requires
-is-func-requires c κs = search needs
-
-and-requires-2 : tie.Need-and-requires-2
-and-requires-2 c κs = search needs
-
-is-given-requires : tie.Need-is-given-requires
-is-given-requires c κs = search needs
-
-has-types-requires : tie.Need-has-types-requires
-has-types-requires c κs = search needs
-
-or-requires : tie.Need-or-requires
-or-requires c κs = search needs
-
-refuse-if-requires : tie.Need-refuse-if-requires
-refuse-if-requires c κs = search needs
-
-refuse-if-requires-2 : tie.Need-refuse-if-requires-2
-refuse-if-requires-2 c κs = search needs
-
-is-mor-requires : tie.Need-is-mor-requires
-is-mor-requires c κs = search needs
-
-refuse-if-requires-3 : tie.Need-refuse-if-requires-3
-refuse-if-requires-3 c κs = search needs
-
-refuse-if-requires-4 : tie.Need-refuse-if-requires-4
-refuse-if-requires-4 c κs = search needs
-
-cast-refuse-if : tie.Need-cast-refuse-if
-cast-refuse-if c = search needs
-
-refuse-if-requires-5 : tie.Need-refuse-if-requires-5
-refuse-if-requires-5 c κs = search needs
-
 -- the verdict, as the causes decide it
 so-far : (c : tie.After-refuse-if5) → let a = c .before .before .before .before .before .before .before .before .before .before .before .before .before .before .before .before .before .before .args in
     SoFar (verdictOf (c .refuse-if5 .result)) (morAppCauses (a .started) (sigOf (a .signature)) (morAppOf (a .m)))
@@ -82,18 +34,9 @@ so-far c =
     let s4 = judge givenAgain s3 (r4 .refuse-if4 .ensures) again in
     judge noRoom s4 (c .refuse-if5 .ensures) (ap (leb maxMorApps) (sized .size .ensures .is))
 
-enum-known-verdict : tie.Need-enum-known-verdict
-enum-known-verdict c = search needs
-
 returns : tie.Need-returns
 unfolding pushMorApp outcome
 returns c = refused-by (refusing _) _ (so-far (c .before .before .before)) _ (ap verdictOf (c .before .verdict .given .1))
-
-enum-told : tie.Need-enum-told
-enum-told c = search needs
-
-push-requires : tie.Need-push-requires
-push-requires c κs = search needs
 
 returns-2 : tie.Need-returns-2
 unfolding pushMorApp withMorApp with-mor-apps morAppCauses
@@ -109,24 +52,24 @@ pub push-mor-app-func-spec : {M : Type 1} → statement M
 push-mor-app-func-spec =
     tie.close
     (tie.spec
-    size-requires
-    is-type-requires
-    is-type-requires-2
-    and-requires
-    is-func-requires
-    and-requires-2
-    is-given-requires
-    has-types-requires
-    or-requires
-    refuse-if-requires
-    refuse-if-requires-2
-    is-mor-requires
-    refuse-if-requires-3
-    refuse-if-requires-4
-    cast-refuse-if
-    refuse-if-requires-5
-    enum-known-verdict
+    (λ c κs. search needs)
+    (λ c κs. search needs)
+    (λ c κs. search needs)
+    (λ c κs. search needs)
+    (λ c κs. search needs)
+    (λ c κs. search needs)
+    (λ c κs. search needs)
+    (λ c κs. search needs)
+    (λ c κs. search needs)
+    (λ c κs. search needs)
+    (λ c κs. search needs)
+    (λ c κs. search needs)
+    (λ c κs. search needs)
+    (λ c κs. search needs)
+    (λ c. search needs)
+    (λ c κs. search needs)
+    (λ c. search needs)
     returns
-    enum-told
-    push-requires
+    (λ c. search needs)
+    (λ c κs. search needs)
     returns-2)

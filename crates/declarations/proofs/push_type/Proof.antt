@@ -17,42 +17,6 @@ use borrow.Author.Needs.{needs}
 use Rattle.declarations.proofs.push_type.Statement.{statement}
 use Rattle.declarations.proofs.push_type.Tie as tie
 
-size-requires : tie.Need-size-requires
-size-requires c κs = search needs
-
-are-types-requires : tie.Need-are-types-requires
-are-types-requires c κs = search needs
-
-model-is-declared-requires : tie.Need-model-is-declared-requires
-model-is-declared-requires c κs = search needs
-
-and-requires : tie.Need-and-requires
-and-requires c κs = search needs
-
-is-too-long-requires : tie.Need-is-too-long-requires
-is-too-long-requires c κs = search needs
-
-refuse-if-requires : tie.Need-refuse-if-requires
-refuse-if-requires c κs = search needs
-
-refuse-if-requires-2 : tie.Need-refuse-if-requires-2
-refuse-if-requires-2 c κs = search needs
-
-refuse-if-requires-3 : tie.Need-refuse-if-requires-3
-refuse-if-requires-3 c κs = search needs
-
-model-is-model-requires : tie.Need-model-is-model-requires
-model-is-model-requires c κs = search needs
-
-refuse-if-requires-4 : tie.Need-refuse-if-requires-4
-refuse-if-requires-4 c κs = search needs
-
-cast-refuse-if : tie.Need-cast-refuse-if
-cast-refuse-if c = search needs
-
-refuse-if-requires-5 : tie.Need-refuse-if-requires-5
-refuse-if-requires-5 c κs = search needs
-
 -- the type is held as it was given
 held : (c : tie.Start) → let t = c .args .t in tooLong (givenTypes (t .parents)) ≡ false → givenType t ≡ typeOf t
 held c short =
@@ -81,18 +45,9 @@ so-far c =
     let s5 = judge noRoom s4 (c .refuse-if5 .ensures) (ap (leb maxTypes) (sized .size .ensures .is)) in
     record { is = s5 .is ∙ behind malformed _ _ _ (λ x. drop 1 (typeCauses (a .started) (sigOf (a .signature)) x)) (held start) }
 
-enum-known-verdict : tie.Need-enum-known-verdict
-enum-known-verdict c = search needs
-
 returns : tie.Need-returns
 unfolding pushType outcome
 returns c = refused-by (refusing _) _ (so-far (c .before .before .before)) _ (ap verdictOf (c .before .verdict .given .1))
-
-enum-told : tie.Need-enum-told
-enum-told c = search needs
-
-push-requires : tie.Need-push-requires
-push-requires c κs = search needs
 
 returns-2 : tie.Need-returns-2
 unfolding pushType withType with-types typeCauses
@@ -109,20 +64,20 @@ pub push-type-spec : {M : Type 1} → statement M
 push-type-spec =
     tie.close
     (tie.spec
-    size-requires
-    are-types-requires
-    model-is-declared-requires
-    and-requires
-    is-too-long-requires
-    refuse-if-requires
-    refuse-if-requires-2
-    refuse-if-requires-3
-    model-is-model-requires
-    refuse-if-requires-4
-    cast-refuse-if
-    refuse-if-requires-5
-    enum-known-verdict
+    (λ c κs. search needs)
+    (λ c κs. search needs)
+    (λ c κs. search needs)
+    (λ c κs. search needs)
+    (λ c κs. search needs)
+    (λ c κs. search needs)
+    (λ c κs. search needs)
+    (λ c κs. search needs)
+    (λ c κs. search needs)
+    (λ c κs. search needs)
+    (λ c. search needs)
+    (λ c κs. search needs)
+    (λ c. search needs)
     returns
-    enum-told
-    push-requires
+    (λ c. search needs)
+    (λ c κs. search needs)
     returns-2)

@@ -6,21 +6,6 @@ use borrow.Author.Needs.{needs}
 use Rattle.declarations.proofs.repeats.Statement.{statement}
 use Rattle.declarations.proofs.repeats.Tie as tie
 
-or-requires : tie.Need-or-requires
-or-requires c κs = search needs
-
-or-requires-2 : tie.Need-or-requires-2
-or-requires-2 c κs = search needs
-
-or-requires-3 : tie.Need-or-requires-3
-or-requires-3 c κs = search needs
-
-or-requires-4 : tie.Need-or-requires-4
-or-requires-4 c κs = search needs
-
-or-requires-5 : tie.Need-or-requires-5
-or-requires-5 c κs = search needs
-
 returns : tie.Need-returns
 unfolding repeats member
 returns c =
@@ -32,4 +17,4 @@ returns c =
 pub repeats-spec : {M : Type 1} → statement M
 repeats-spec =
     tie.close
-    (tie.spec or-requires or-requires-2 or-requires-3 or-requires-4 or-requires-5 returns)
+    (tie.spec (λ c κs. search needs) (λ c κs. search needs) (λ c κs. search needs) (λ c κs. search needs) (λ c κs. search needs) returns)

@@ -6,12 +6,9 @@ use borrow.Author.Needs.{needs}
 use Rattle.declaring.proofs.push_func.Statement.{statement}
 use Rattle.declaring.proofs.push_func.Tie as tie
 
-push-func-requires : tie.Need-push-func-requires
-push-func-requires c κs = search needs
-
 returns : tie.Need-returns
 unfolding pushFunc rule step
 returns c = declares-step _ _ _ _ _ (c .push-func .ensures)
 
 pub push-func-spec : {M : Type 1} → statement M
-push-func-spec = tie.close (tie.spec push-func-requires returns)
+push-func-spec = tie.close (tie.spec (λ c κs. search needs) returns)

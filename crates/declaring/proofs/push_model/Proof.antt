@@ -6,12 +6,9 @@ use borrow.Author.Needs.{needs}
 use Rattle.declaring.proofs.push_model.Statement.{statement}
 use Rattle.declaring.proofs.push_model.Tie as tie
 
-push-model-requires : tie.Need-push-model-requires
-push-model-requires c κs = search needs
-
 returns : tie.Need-returns
 unfolding pushModel rule step
 returns c = declares-step _ _ _ _ _ (c .push-model .ensures)
 
 pub push-model-spec : {M : Type 1} → statement M
-push-model-spec = tie.close (tie.spec push-model-requires returns)
+push-model-spec = tie.close (tie.spec (λ c κs. search needs) returns)

@@ -6,12 +6,9 @@ use borrow.Author.Needs.{needs}
 use Rattle.declaring.proofs.push_mor_app_func.Statement.{statement}
 use Rattle.declaring.proofs.push_mor_app_func.Tie as tie
 
-push-mor-app-func-requires : tie.Need-push-mor-app-func-requires
-push-mor-app-func-requires c κs = search needs
-
 returns : tie.Need-returns
 unfolding pushMorApp rule step
 returns c = declares-step _ _ _ _ _ (c .push-mor-app-func .ensures)
 
 pub push-mor-app-func-spec : {M : Type 1} → statement M
-push-mor-app-func-spec = tie.close (tie.spec push-mor-app-func-requires returns)
+push-mor-app-func-spec = tie.close (tie.spec (λ c κs. search needs) returns)

@@ -6,12 +6,9 @@ use borrow.Author.Needs.{needs}
 use Rattle.declaring.proofs.push_pred.Statement.{statement}
 use Rattle.declaring.proofs.push_pred.Tie as tie
 
-push-pred-requires : tie.Need-push-pred-requires
-push-pred-requires c κs = search needs
-
 returns : tie.Need-returns
 unfolding pushPred rule step
 returns c = declares-step _ _ _ _ _ (c .push-pred .ensures)
 
 pub push-pred-spec : {M : Type 1} → statement M
-push-pred-spec = tie.close (tie.spec push-pred-requires returns)
+push-pred-spec = tie.close (tie.spec (λ c κs. search needs) returns)

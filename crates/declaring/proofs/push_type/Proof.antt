@@ -6,12 +6,9 @@ use borrow.Author.Needs.{needs}
 use Rattle.declaring.proofs.push_type.Statement.{statement}
 use Rattle.declaring.proofs.push_type.Tie as tie
 
-push-type-requires : tie.Need-push-type-requires
-push-type-requires c κs = search needs
-
 returns : tie.Need-returns
 unfolding pushType rule step
 returns c = declares-step _ _ _ _ _ (c .push-type .ensures)
 
 pub push-type-spec : {M : Type 1} → statement M
-push-type-spec = tie.close (tie.spec push-type-requires returns)
+push-type-spec = tie.close (tie.spec (λ c κs. search needs) returns)

@@ -12,18 +12,6 @@ use Rattle.driver.proofs.after_finding.Tie as tie
 abbrev finds : tie.Start → Finding → RespondedM
 finds at x = responded (answers (foundOf x) (machineOf (at .args .machine)))
 
-enum-known-finding : tie.Need-enum-known-finding
-enum-known-finding c = search needs
-
-respond-requires : tie.Need-respond-requires
-respond-requires c κs = search needs
-
-enum-known-finding-2 : tie.Need-enum-known-finding-2
-enum-known-finding-2 c = search needs
-
-refuse-requires : tie.Need-refuse-requires
-refuse-requires c κs = search needs
-
 returns : tie.Need-returns
 returns c = c .respond .ensures ∙ ap (finds (c .before .before .before .before)) (sym (c .before .before .finding .given .1))
 
@@ -34,9 +22,9 @@ pub after-finding-spec : {M : Type 1} → statement M
 after-finding-spec =
     tie.close
     (tie.spec
-    enum-known-finding
-    respond-requires
-    enum-known-finding-2
-    refuse-requires
+    (λ c. search needs)
+    (λ c κs. search needs)
+    (λ c. search needs)
+    (λ c κs. search needs)
     returns
     returns-2)

@@ -11,21 +11,6 @@ use borrow.Author.Needs.{needs}
 use Rattle.driver.proofs.after_lookup.Statement.{statement}
 use Rattle.driver.proofs.after_lookup.Tie as tie
 
-enum-known-typed : tie.Need-enum-known-typed
-enum-known-typed c = search needs
-
-leading-requires : tie.Need-leading-requires
-leading-requires c κs = search needs
-
-respond-els-requires : tie.Need-respond-els-requires
-respond-els-requires c κs = search needs
-
-enum-told : tie.Need-enum-told
-enum-told c = search needs
-
-respond-requires : tie.Need-respond-requires
-respond-requires c κs = search needs
-
 returns : tie.Need-returns
 returns c =
     let at = c .before .before .before in
@@ -45,10 +30,10 @@ pub after-lookup-spec : {M : Type 1} → statement M
 after-lookup-spec =
     tie.close
     (tie.spec
-    enum-known-typed
-    leading-requires
-    respond-els-requires
-    enum-told
-    respond-requires
+    (λ c. search needs)
+    (λ c κs. search needs)
+    (λ c κs. search needs)
+    (λ c. search needs)
+    (λ c κs. search needs)
     returns
     returns-2)

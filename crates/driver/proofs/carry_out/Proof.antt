@@ -11,27 +11,6 @@ use borrow.Author.Needs.{needs}
 use Rattle.driver.proofs.carry_out.Statement.{statement}
 use Rattle.driver.proofs.carry_out.Tie as tie
 
-find-root-requires : tie.Need-find-root-requires
-find-root-requires c κs = search needs
-
-find-root-const-requires : tie.Need-find-root-const-requires
-find-root-const-requires c κs = search needs
-
-els-in-requires : tie.Need-els-in-requires
-els-in-requires c κs = search needs
-
-look-up-type-requires : tie.Need-look-up-type-requires
-look-up-type-requires c κs = search needs
-
-types-in-requires : tie.Need-types-in-requires
-types-in-requires c κs = search needs
-
-look-up-ambients-requires : tie.Need-look-up-ambients-requires
-look-up-ambients-requires c κs = search needs
-
-carry-out-as-sheet-requires : tie.Need-carry-out-as-sheet-requires
-carry-out-as-sheet-requires c κs = search needs
-
 returns : tie.Need-returns
 unfolding callAt carryOut
 returns c =
@@ -73,13 +52,13 @@ pub carry-out-spec : {M : Type 1} → statement M
 carry-out-spec =
     tie.close
     (tie.spec
-    find-root-requires
-    find-root-const-requires
-    els-in-requires
-    look-up-type-requires
-    types-in-requires
-    look-up-ambients-requires
-    carry-out-as-sheet-requires
+    (λ c κs. search needs)
+    (λ c κs. search needs)
+    (λ c κs. search needs)
+    (λ c κs. search needs)
+    (λ c κs. search needs)
+    (λ c κs. search needs)
+    (λ c κs. search needs)
     returns
     returns-2
     returns-3

@@ -10,12 +10,6 @@ use borrow.Author.Needs.{needs}
 use Rattle.driver.proofs.carry_out_as_sheet.Statement.{statement}
 use Rattle.driver.proofs.carry_out_as_sheet.Tie as tie
 
-carry-out-requires : tie.Need-carry-out-requires
-carry-out-requires c κs = search needs
-
-new-requires : tie.Need-new-requires
-new-requires c κs = search needs
-
 returns : tie.Need-returns
 returns c =
     let new = c .new in
@@ -28,4 +22,4 @@ returns c =
     λ i. record { step = carried .ensures i .step; els = els i; conflicts = carried .ensures i .conflicts }
 
 pub carry-out-as-sheet-spec : {M : Type 1} → statement M
-carry-out-as-sheet-spec = tie.close (tie.spec carry-out-requires new-requires returns)
+carry-out-as-sheet-spec = tie.close (tie.spec (λ c κs. search needs) (λ c κs. search needs) returns)

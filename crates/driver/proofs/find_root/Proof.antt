@@ -6,16 +6,10 @@ use borrow.Author.Needs.{needs}
 use Rattle.driver.proofs.find_root.Statement.{statement}
 use Rattle.driver.proofs.find_root.Tie as tie
 
-root-requires : tie.Need-root-requires
-root-requires c κs = search needs
-
-after-finding-requires : tie.Need-after-finding-requires
-after-finding-requires c κs = search needs
-
 returns : tie.Need-returns
 returns c =
     let at = c .before .before in
     c .after-finding .ensures ∙ ap responded (at .root .ensures (sigOf (at .before .before .before .args .machine .signature)))
 
 pub find-root-spec : {M : Type 1} → statement M
-find-root-spec = tie.close (tie.spec root-requires after-finding-requires returns)
+find-root-spec = tie.close (tie.spec (λ c κs. search needs) (λ c κs. search needs) returns)

@@ -6,16 +6,10 @@ use borrow.Author.Needs.{needs}
 use Rattle.driver.proofs.find_root_const.Statement.{statement}
 use Rattle.driver.proofs.find_root_const.Tie as tie
 
-root-const-requires : tie.Need-root-const-requires
-root-const-requires c κs = search needs
-
-after-finding-requires : tie.Need-after-finding-requires
-after-finding-requires c κs = search needs
-
 returns : tie.Need-returns
 returns c =
     let at = c .before in
     c .after-finding .ensures ∙ ap responded (at .root-const .ensures (sigOf (at .before .before .args .machine .signature)))
 
 pub find-root-const-spec : {M : Type 1} → statement M
-find-root-const-spec = tie.close (tie.spec root-const-requires after-finding-requires returns)
+find-root-const-spec = tie.close (tie.spec (λ c κs. search needs) (λ c κs. search needs) returns)

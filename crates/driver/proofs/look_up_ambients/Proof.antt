@@ -13,21 +13,6 @@ use Rattle.driver.proofs.look_up_ambients.Tie as tie
 abbrev looks : tie.After-ambient-parents → Looked → Step
 looks at x = answers (ambientsLookedOf (givenEls (at .ambient-parents .result .els)) x) (machineOf (at .before .before .before .args .machine))
 
-ambient-parents-requires : tie.Need-ambient-parents-requires
-ambient-parents-requires c κs = search needs
-
-enum-told : tie.Need-enum-told
-enum-told c = search needs
-
-respond-els-requires : tie.Need-respond-els-requires
-respond-els-requires c κs = search needs
-
-enum-known-answer : tie.Need-enum-known-answer
-enum-known-answer c = search needs
-
-refuse-requires : tie.Need-refuse-requires
-refuse-requires c κs = search needs
-
 returns : tie.Need-returns
 returns c =
     let at = c .before in
@@ -44,10 +29,10 @@ pub look-up-ambients-spec : {M : Type 1} → statement M
 look-up-ambients-spec =
     tie.close
     (tie.spec
-    ambient-parents-requires
-    enum-told
-    respond-els-requires
-    enum-known-answer
-    refuse-requires
+    (λ c κs. search needs)
+    (λ c. search needs)
+    (λ c κs. search needs)
+    (λ c. search needs)
+    (λ c κs. search needs)
     returns
     returns-2)

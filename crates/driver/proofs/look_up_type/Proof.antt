@@ -9,21 +9,6 @@ use borrow.Author.Needs.{needs}
 use Rattle.driver.proofs.look_up_type.Statement.{statement}
 use Rattle.driver.proofs.look_up_type.Tie as tie
 
-lookup-type-requires : tie.Need-lookup-type-requires
-lookup-type-requires c κs = search needs
-
-enum-known-looked : tie.Need-enum-known-looked
-enum-known-looked c = search needs
-
-after-lookup-requires : tie.Need-after-lookup-requires
-after-lookup-requires c κs = search needs
-
-enum-known-looked-2 : tie.Need-enum-known-looked-2
-enum-known-looked-2 c = search needs
-
-refuse-requires : tie.Need-refuse-requires
-refuse-requires c κs = search needs
-
 returns : tie.Need-returns
 unfolding lookedUp
 returns c =
@@ -46,10 +31,10 @@ pub look-up-type-spec : {M : Type 1} → statement M
 look-up-type-spec =
     tie.close
     (tie.spec
-    lookup-type-requires
-    enum-known-looked
-    after-lookup-requires
-    enum-known-looked-2
-    refuse-requires
+    (λ c κs. search needs)
+    (λ c. search needs)
+    (λ c κs. search needs)
+    (λ c. search needs)
+    (λ c κs. search needs)
     returns
     returns-2)

@@ -11,12 +11,6 @@ use borrow.Author.Needs.{needs}
 use Rattle.driver.proofs.respond.Statement.{statement}
 use Rattle.driver.proofs.respond.Tie as tie
 
-new-requires : tie.Need-new-requires
-new-requires c κs = search needs
-
-respond-els-requires : tie.Need-respond-els-requires
-respond-els-requires c κs = search needs
-
 returns : tie.Need-returns
 returns c =
     let new = c .before .new in
@@ -26,4 +20,4 @@ returns c =
     ∙ (λ i. record { step = answers (responseOf [] (none i) (a .response)) (machineOf (a .machine)); els = none i; conflicts = whole [] })
 
 pub respond-spec : {M : Type 1} → statement M
-respond-spec = tie.close (tie.spec new-requires respond-els-requires returns)
+respond-spec = tie.close (tie.spec (λ c κs. search needs) (λ c κs. search needs) returns)

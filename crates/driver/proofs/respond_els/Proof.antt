@@ -7,9 +7,6 @@ use borrow.Author.Needs.{needs}
 use Rattle.driver.proofs.respond_els.Statement.{statement}
 use Rattle.driver.proofs.respond_els.Tie as tie
 
-new-requires : tie.Need-new-requires
-new-requires c κs = search needs
-
 returns : tie.Need-returns
 returns c =
     let a = c .before .args in
@@ -21,4 +18,4 @@ returns c =
     }
 
 pub respond-els-spec : {M : Type 1} → statement M
-respond-els-spec = tie.close (tie.spec new-requires returns)
+respond-els-spec = tie.close (tie.spec (λ c κs. search needs) returns)

@@ -7,14 +7,8 @@ use borrow.Author.Needs.{needs}
 use Rattle.driver.proofs.run.Statement.{statement}
 use Rattle.driver.proofs.run.Tie as tie
 
-new-requires : tie.Need-new-requires
-new-requires c κs = search needs
-
-run-from-requires : tie.Need-run-from-requires
-run-from-requires c κs = search needs
-
 returns : tie.Need-returns
 returns c = c .run-from .ensures ∙ (λ i. responded (runFrom (c .before .new .ensures i) (now (c .before .before .before .args .bytes))))
 
 pub run-spec : {M : Type 1} → statement M
-run-spec = tie.close (tie.spec new-requires run-from-requires returns)
+run-spec = tie.close (tie.spec (λ c κs. search needs) (λ c κs. search needs) returns)

@@ -18,28 +18,16 @@ Inv-loop bytes count last₀ i₀ last i = (i ≤ count) × (respondedOf last �
 abbrev μ-loop : tie.MeasureT-loop
 μ-loop bytes count last₀ i₀ last i = count - i
 
-respond-requires : tie.Need-respond-requires Inv-loop μ-loop
-respond-requires c κs = search needs
-
 loop-holds : tie.Need-loop-holds Inv-loop μ-loop
 loop-holds c =
     let same = ap (λ (x : RespondedM). x .step .after) (c .respond .ensures) in
     (omega arith, c .respond .ensures ∙ ap responded (begins (now (c .before .before .args .bytes)) (sym same)))
-
-record-in-requires : tie.Need-record-in-requires Inv-loop μ-loop
-record-in-requires c κs = search needs
-
-carry-out-requires : tie.Need-carry-out-requires Inv-loop μ-loop
-carry-out-requires c κs = search needs
 
 add-i : tie.Need-add-i Inv-loop μ-loop
 add-i c =
     let at = c .before .before .before .before in
     let start = at .before .before .before in
     omega (arith, c .before .before .before .loop-test .taken, start .good .0)
-
-loop-less : tie.Need-loop-less Inv-loop μ-loop
-loop-less c = search needs
 
 loop-again : tie.Need-loop-again Inv-loop μ-loop
 loop-again c =
@@ -64,11 +52,11 @@ run-from-spec =
     (tie.spec
     Inv-loop
     μ-loop
-    respond-requires
+    (λ c κs. search needs)
     loop-holds
-    record-in-requires
-    carry-out-requires
+    (λ c κs. search needs)
+    (λ c κs. search needs)
     add-i
-    loop-less
+    (λ c. search needs)
     loop-again
     returns)

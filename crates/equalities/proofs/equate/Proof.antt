@@ -4,15 +4,6 @@ use borrow.Author.Needs.{needs}
 use Rattle.equalities.proofs.equate.Statement.{statement}
 use Rattle.equalities.proofs.equate.Tie as tie
 
-root-value-requires : tie.Need-root-value-requires
-root-value-requires c κs = search needs
-
-root-value-requires-2 : tie.Need-root-value-requires-2
-root-value-requires-2 c κs = search needs
-
-push-requires : tie.Need-push-requires
-push-requires c κs = search needs
-
 returns : tie.Need-returns
 returns c =
     let second = c .before .before in
@@ -20,4 +11,4 @@ returns c =
     equated _ _ _ _ _ (first .root-value .ensures) (second .root-value2 .ensures) (c .push .ensures .0)
 
 pub equate-spec : {M : Type 1} → statement M
-equate-spec = tie.close (tie.spec root-value-requires root-value-requires-2 push-requires returns)
+equate-spec = tie.close (tie.spec (λ c κs. search needs) (λ c κs. search needs) (λ c κs. search needs) returns)

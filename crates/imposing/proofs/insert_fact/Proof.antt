@@ -6,7 +6,7 @@ use Rattle.ids.specs.declared.Place.the-variants.{Before}
 use Rattle.semantics.specs.Structure.{compareFact}
 use Rattle.facts.specs.View.{factOf}
 use Rattle.fact_rows.specs.View.{factsIn}
-use Rattle.imposing.proofs.Laws.{known, place-most, met-first, met-again, no-room, grown}
+use Rattle.imposing.proofs.Laws.{known, place-most, met-first, met-again, no-room, has-room}
 use borrow.Author.Needs.{needs}
 use Rattle.imposing.proofs.insert_fact.Statement.{statement}
 use Rattle.imposing.proofs.insert_fact.Tie as tie
@@ -52,7 +52,7 @@ returns-4 c =
     let row = put .before .before in
     let room = row .before in
     let s = room .before .before .before .before .before .before .before in
-    grown _ _ _ (s .pre .0) _ (place (room .before)) _ _ (room .if1 .left) (row .row-of .ensures) (put .place .ensures)
+    has-room _ _ _ (s .pre .0) _ (place (room .before)) _ _ (room .if1 .left) (row .row-of .ensures) (put .place .ensures)
 
 pub insert-fact-spec : {M : Type 1} → statement M
 insert-fact-spec =

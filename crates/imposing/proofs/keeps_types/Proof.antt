@@ -9,7 +9,6 @@ use Rattle.ids.specs.Ids.{elsOf}
 use Rattle.ids.proofs.Views.{length-view, view-next}
 use Rattle.semantics.specs.Structure as model
 use Rattle.semantics.specs.Structure.{fact}
-use Rattle.facts.specs.declared.Fact.{Fact}
 use Rattle.facts.specs.View.{factOf}
 use Rattle.fact_rows.specs.View.{factIn, factsIn}
 use Rattle.el_rows.specs.View.{linksIn, marksIn}

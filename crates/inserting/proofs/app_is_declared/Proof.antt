@@ -5,27 +5,6 @@ use borrow.Author.Needs.{needs}
 use Rattle.inserting.proofs.app_is_declared.Statement.{statement}
 use Rattle.inserting.proofs.app_is_declared.Tie as tie
 
-are-els-requires : tie.Need-are-els-requires
-are-els-requires c κs = search needs
-
-is-el-requires : tie.Need-is-el-requires
-is-el-requires c κs = search needs
-
-and-requires : tie.Need-and-requires
-and-requires c κs = search needs
-
-are-els-requires-2 : tie.Need-are-els-requires-2
-are-els-requires-2 c κs = search needs
-
-and-requires-2 : tie.Need-and-requires-2
-and-requires-2 c κs = search needs
-
-is-func-requires : tie.Need-is-func-requires
-is-func-requires c κs = search needs
-
-and-requires-3 : tie.Need-and-requires-3
-and-requires-3 c κs = search needs
-
 returns : tie.Need-returns
 returns c =
     let named = c .before .before in
@@ -38,11 +17,11 @@ pub app-is-declared-spec : {M : Type 1} → statement M
 app-is-declared-spec =
     tie.close
     (tie.spec
-    are-els-requires
-    is-el-requires
-    and-requires
-    are-els-requires-2
-    and-requires-2
-    is-func-requires
-    and-requires-3
+    (λ c κs. search needs)
+    (λ c κs. search needs)
+    (λ c κs. search needs)
+    (λ c κs. search needs)
+    (λ c κs. search needs)
+    (λ c κs. search needs)
+    (λ c κs. search needs)
     returns)

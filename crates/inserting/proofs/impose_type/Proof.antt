@@ -30,39 +30,6 @@ use borrow.Author.Needs.{needs}
 use Rattle.inserting.proofs.impose_type.Statement.{statement}
 use Rattle.inserting.proofs.impose_type.Tie as tie
 
-canonical-fact-requires : tie.Need-canonical-fact-requires
-canonical-fact-requires c κs = search needs
-
-contains-requires : tie.Need-contains-requires
-contains-requires c κs = search needs
-
-size-requires : tie.Need-size-requires
-size-requires c κs = search needs
-
-fact-is-declared-requires : tie.Need-fact-is-declared-requires
-fact-is-declared-requires c κs = search needs
-
-is-too-long-requires : tie.Need-is-too-long-requires
-is-too-long-requires c κs = search needs
-
-refuse-if-requires : tie.Need-refuse-if-requires
-refuse-if-requires c κs = search needs
-
-refuse-if-requires-2 : tie.Need-refuse-if-requires-2
-refuse-if-requires-2 c κs = search needs
-
-and-requires : tie.Need-and-requires
-and-requires c κs = search needs
-
-refuse-if-requires-3 : tie.Need-refuse-if-requires-3
-refuse-if-requires-3 c κs = search needs
-
-enum-known-verdict : tie.Need-enum-known-verdict
-enum-known-verdict c = search needs
-
-refuse-requires : tie.Need-refuse-requires
-refuse-requires c κs = search needs
-
 abbrev sized : tie.After-refuse-if3 → tie.After-size
 sized c = c .before .before .before .before .before .before
 
@@ -111,12 +78,6 @@ returns : tie.Need-returns
 unfolding rule impositionRule
 returns c = c .refuse .ensures _ ∙ step-refuses _ _ (so-far (c .before .before .before .before)) _ (ap verdictOf (c .before .before .verdict .given .1))
 
-enum-told : tie.Need-enum-told
-enum-told c = search needs
-
-accept-requires : tie.Need-accept-requires
-accept-requires c κs = search needs
-
 returns-2 : tie.Need-returns-2
 unfolding rule impositionRule impositionCauses acceptance withImposition
 returns-2 c =
@@ -125,12 +86,6 @@ returns-2 c =
     let there = told (queued judged) (c .before .if1 .taken) in
     held-accepts impose-type _ (so-far judged) (ap verdictOf (asked .enum-told .given .1)) (λ none. given (start judged) (none .0)) (λ none.
     accepts _ (c .accept .ensures _) (ap says (sym (not-true there))) (chosen _ there))
-
-push-requires : tie.Need-push-requires
-push-requires c κs = search needs
-
-accept-requires-2 : tie.Need-accept-requires-2
-accept-requires-2 c κs = search needs
 
 returns-3 : tie.Need-returns-3
 unfolding rule impositionRule impositionCauses acceptance withImposition
@@ -151,21 +106,21 @@ pub impose-type-spec : {M : Type 1} → statement M
 impose-type-spec =
     tie.close
     (tie.spec
-    canonical-fact-requires
-    contains-requires
-    size-requires
-    fact-is-declared-requires
-    is-too-long-requires
-    refuse-if-requires
-    refuse-if-requires-2
-    and-requires
-    refuse-if-requires-3
-    enum-known-verdict
-    refuse-requires
+    (λ c κs. search needs)
+    (λ c κs. search needs)
+    (λ c κs. search needs)
+    (λ c κs. search needs)
+    (λ c κs. search needs)
+    (λ c κs. search needs)
+    (λ c κs. search needs)
+    (λ c κs. search needs)
+    (λ c κs. search needs)
+    (λ c. search needs)
+    (λ c κs. search needs)
     returns
-    enum-told
-    accept-requires
+    (λ c. search needs)
+    (λ c κs. search needs)
     returns-2
-    push-requires
-    accept-requires-2
+    (λ c κs. search needs)
+    (λ c κs. search needs)
     returns-3)

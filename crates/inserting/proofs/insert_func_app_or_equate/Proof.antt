@@ -31,42 +31,6 @@ many-marks c = long _ (c .args .structure .«inferred_parent_els») _ (c .good .
 many-links : (c : tie.Start) → length (c .args .structure .unification .links) ≡ maxEls
 many-links c = long _ (c .args .structure .unification .links) _ (c .good .0 .1 .1 .1 .1 .1 .1 .1 .0 .1 .1 .0 .1 .0 .1)
 
-insert-func-app-or-equate-requires : tie.Need-insert-func-app-or-equate-requires
-insert-func-app-or-equate-requires c κs = search needs
-
-is-too-long-requires : tie.Need-is-too-long-requires
-is-too-long-requires c κs = search needs
-
-is-too-long-requires-2 : tie.Need-is-too-long-requires-2
-is-too-long-requires-2 c κs = search needs
-
-or-requires : tie.Need-or-requires
-or-requires c κs = search needs
-
-app-is-declared-requires : tie.Need-app-is-declared-requires
-app-is-declared-requires c κs = search needs
-
-refuse-if-requires : tie.Need-refuse-if-requires
-refuse-if-requires c κs = search needs
-
-refuse-if-requires-2 : tie.Need-refuse-if-requires-2
-refuse-if-requires-2 c κs = search needs
-
-is-reserved-requires : tie.Need-is-reserved-requires
-is-reserved-requires c κs = search needs
-
-refuse-if-requires-3 : tie.Need-refuse-if-requires-3
-refuse-if-requires-3 c κs = search needs
-
-refuse-if-requires-4 : tie.Need-refuse-if-requires-4
-refuse-if-requires-4 c κs = search needs
-
-enum-known-verdict : tie.Need-enum-known-verdict
-enum-known-verdict c = search needs
-
-refuse-requires : tie.Need-refuse-requires
-refuse-requires c κs = search needs
-
 abbrev made : tie.After-refuse-if4 → tie.After-insert-func-app-or-equate
 made c = c .before .before .before .before .before .before .before .before .before
 
@@ -113,12 +77,6 @@ returns : tie.Need-returns
 unfolding rule applicationRule
 returns c = c .refuse .ensures _ ∙ step-refuses _ _ (so-far (c .before .before .before .before)) _ (ap verdictOf (c .before .before .verdict .given .1))
 
-enum-told : tie.Need-enum-told
-enum-told c = search needs
-
-accept-requires : tie.Need-accept-requires
-accept-requires c κs = search needs
-
 returns-2 : tie.Need-returns-2
 unfolding rule applicationRule applicationCauses acceptance
 returns-2 c =
@@ -135,19 +93,19 @@ pub insert-func-app-or-equate-spec : {M : Type 1} → statement M
 insert-func-app-or-equate-spec =
     tie.close
     (tie.spec
-    insert-func-app-or-equate-requires
-    is-too-long-requires
-    is-too-long-requires-2
-    or-requires
-    app-is-declared-requires
-    refuse-if-requires
-    refuse-if-requires-2
-    is-reserved-requires
-    refuse-if-requires-3
-    refuse-if-requires-4
-    enum-known-verdict
-    refuse-requires
+    (λ c κs. search needs)
+    (λ c κs. search needs)
+    (λ c κs. search needs)
+    (λ c κs. search needs)
+    (λ c κs. search needs)
+    (λ c κs. search needs)
+    (λ c κs. search needs)
+    (λ c κs. search needs)
+    (λ c κs. search needs)
+    (λ c κs. search needs)
+    (λ c. search needs)
+    (λ c κs. search needs)
     returns
-    enum-told
-    accept-requires
+    (λ c. search needs)
+    (λ c κs. search needs)
     returns-2)

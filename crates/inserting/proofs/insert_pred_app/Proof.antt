@@ -26,36 +26,6 @@ use borrow.Author.Needs.{needs}
 use Rattle.inserting.proofs.insert_pred_app.Statement.{statement}
 use Rattle.inserting.proofs.insert_pred_app.Tie as tie
 
-insert-requires : tie.Need-insert-requires
-insert-requires c κs = search needs
-
-is-too-long-requires : tie.Need-is-too-long-requires
-is-too-long-requires c κs = search needs
-
-is-too-long-requires-2 : tie.Need-is-too-long-requires-2
-is-too-long-requires-2 c κs = search needs
-
-or-requires : tie.Need-or-requires
-or-requires c κs = search needs
-
-pred-app-is-declared-requires : tie.Need-pred-app-is-declared-requires
-pred-app-is-declared-requires c κs = search needs
-
-refuse-if-requires : tie.Need-refuse-if-requires
-refuse-if-requires c κs = search needs
-
-refuse-if-requires-2 : tie.Need-refuse-if-requires-2
-refuse-if-requires-2 c κs = search needs
-
-refuse-if-requires-3 : tie.Need-refuse-if-requires-3
-refuse-if-requires-3 c κs = search needs
-
-enum-known-verdict : tie.Need-enum-known-verdict
-enum-known-verdict c = search needs
-
-refuse-requires : tie.Need-refuse-requires
-refuse-requires c κs = search needs
-
 abbrev made : tie.After-refuse-if3 → tie.After-insert
 made c = c .before .before .before .before .before .before .before
 
@@ -100,12 +70,6 @@ returns : tie.Need-returns
 unfolding rule
 returns c = c .refuse .ensures _ ∙ step-refuses _ _ (so-far (c .before .before .before .before)) _ (ap verdictOf (c .before .before .verdict .given .1))
 
-enum-told : tie.Need-enum-told
-enum-told c = search needs
-
-accept-requires : tie.Need-accept-requires
-accept-requires c κs = search needs
-
 returns-2 : tie.Need-returns-2
 unfolding rule predicationCauses acceptance withPredApp
 returns-2 c =
@@ -120,17 +84,17 @@ pub insert-pred-app-spec : {M : Type 1} → statement M
 insert-pred-app-spec =
     tie.close
     (tie.spec
-    insert-requires
-    is-too-long-requires
-    is-too-long-requires-2
-    or-requires
-    pred-app-is-declared-requires
-    refuse-if-requires
-    refuse-if-requires-2
-    refuse-if-requires-3
-    enum-known-verdict
-    refuse-requires
+    (λ c κs. search needs)
+    (λ c κs. search needs)
+    (λ c κs. search needs)
+    (λ c κs. search needs)
+    (λ c κs. search needs)
+    (λ c κs. search needs)
+    (λ c κs. search needs)
+    (λ c κs. search needs)
+    (λ c. search needs)
+    (λ c κs. search needs)
     returns
-    enum-told
-    accept-requires
+    (λ c. search needs)
+    (λ c κs. search needs)
     returns-2)

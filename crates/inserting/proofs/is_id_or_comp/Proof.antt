@@ -19,20 +19,8 @@ Inv-loop func models n i₀ i = isIdOrComp (func .0) (drop i (viewModels models)
 abbrev μ-loop : tie.MeasureT-loop
 μ-loop func models n i₀ i = n - i
 
-size-requires : tie.Need-size-requires Inv-loop μ-loop
-size-requires c κs = search needs
-
 loop-holds : tie.Need-loop-holds Inv-loop μ-loop
 loop-holds c = refl
-
-cast-at : tie.Need-cast-at Inv-loop μ-loop
-cast-at c = search needs
-
-mul-ids : tie.Need-mul-ids Inv-loop μ-loop
-mul-ids c = search needs
-
-element-copy-out-ids : tie.Need-element-copy-out-ids Inv-loop μ-loop
-element-copy-out-ids c = search needs
 
 returns : tie.Need-returns Inv-loop μ-loop
 returns c =
@@ -50,12 +38,6 @@ returns-2 c =
     let t = sized .before .args .t1 in
     let is = or-then (ne-eqb _ _ (other .if1 .left)) (eq-eqb _ _ (c .if2 .taken)) in
     found (by-operation _) modelOf (t .len) (t .items) (sized .size .ensures) _ (test .before .loop .inv) _ (test .loop-test .taken) is
-
-add-i : tie.Need-add-i Inv-loop μ-loop
-add-i c = search needs
-
-loop-less : tie.Need-loop-less Inv-loop μ-loop
-loop-less c = search needs
 
 loop-again : tie.Need-loop-again Inv-loop μ-loop
 loop-again c =
@@ -78,14 +60,14 @@ is-id-or-comp-spec =
     (tie.spec
     Inv-loop
     μ-loop
-    size-requires
+    (λ c κs. search needs)
     loop-holds
-    cast-at
-    mul-ids
-    element-copy-out-ids
+    (λ c. search needs)
+    (λ c. search needs)
+    (λ c. search needs)
     returns
     returns-2
-    add-i
-    loop-less
+    (λ c. search needs)
+    (λ c. search needs)
     loop-again
     returns-3)

@@ -7,15 +7,9 @@ use borrow.Author.Needs.{needs}
 use Rattle.inserting.proofs.is_reserved.Statement.{statement}
 use Rattle.inserting.proofs.is_reserved.Tie as tie
 
-is-id-or-comp-requires : tie.Need-is-id-or-comp-requires
-is-id-or-comp-requires c κs = search needs
-
 returns : tie.Need-returns
 unfolding isReserved
 returns c = sym (or-left _ (told (c .before .is-id-or-comp .ensures) (c .if1 .taken)))
-
-has-func-requires : tie.Need-has-func-requires
-has-func-requires c κs = search needs
 
 returns-2 : tie.Need-returns-2
 unfolding isReserved
@@ -24,4 +18,4 @@ returns-2 c =
     sym (or-then (told (e1 .before .is-id-or-comp .ensures) (e1 .if1 .left)) (sym (c .has-func .ensures)))
 
 pub is-reserved-spec : {M : Type 1} → statement M
-is-reserved-spec = tie.close (tie.spec is-id-or-comp-requires returns has-func-requires returns-2)
+is-reserved-spec = tie.close (tie.spec (λ c κs. search needs) returns (λ c κs. search needs) returns-2)

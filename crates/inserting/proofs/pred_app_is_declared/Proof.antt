@@ -5,21 +5,6 @@ use borrow.Author.Needs.{needs}
 use Rattle.inserting.proofs.pred_app_is_declared.Statement.{statement}
 use Rattle.inserting.proofs.pred_app_is_declared.Tie as tie
 
-are-els-requires : tie.Need-are-els-requires
-are-els-requires c κs = search needs
-
-are-els-requires-2 : tie.Need-are-els-requires-2
-are-els-requires-2 c κs = search needs
-
-and-requires : tie.Need-and-requires
-and-requires c κs = search needs
-
-is-pred-requires : tie.Need-is-pred-requires
-is-pred-requires c κs = search needs
-
-and-requires-2 : tie.Need-and-requires-2
-and-requires-2 c κs = search needs
-
 returns : tie.Need-returns
 returns c =
     let named = c .before .before in
@@ -30,9 +15,9 @@ pub pred-app-is-declared-spec : {M : Type 1} → statement M
 pred-app-is-declared-spec =
     tie.close
     (tie.spec
-    are-els-requires
-    are-els-requires-2
-    and-requires
-    is-pred-requires
-    and-requires-2
+    (λ c κs. search needs)
+    (λ c κs. search needs)
+    (λ c κs. search needs)
+    (λ c κs. search needs)
+    (λ c κs. search needs)
     returns)

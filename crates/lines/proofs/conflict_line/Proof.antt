@@ -8,33 +8,6 @@ use borrow.Author.Needs.{needs}
 use Rattle.lines.proofs.conflict_line.Statement.{statement}
 use Rattle.lines.proofs.conflict_line.Tie as tie
 
-new-requires : tie.Need-new-requires
-new-requires c κs = search needs
-
-slice-aggregate-put-word : tie.Need-slice-aggregate-put-word
-slice-aggregate-put-word c = search needs
-
-put-word-requires : tie.Need-put-word-requires
-put-word-requires c κs = search needs
-
-put-number-requires : tie.Need-put-number-requires
-put-number-requires c κs = search needs
-
-put-fact-requires : tie.Need-put-fact-requires
-put-fact-requires c κs = search needs
-
-slice-aggregate-put-word-2 : tie.Need-slice-aggregate-put-word-2
-slice-aggregate-put-word-2 c = search needs
-
-put-word-requires-2 : tie.Need-put-word-requires-2
-put-word-requires-2 c κs = search needs
-
-put-fact-requires-2 : tie.Need-put-fact-requires-2
-put-fact-requires-2 c κs = search needs
-
-put-requires : tie.Need-put-requires
-put-requires c κs = search needs
-
 returns : tie.Need-returns
 returns c =
     let b = c .before in
@@ -64,13 +37,13 @@ pub conflict-line-spec : {M : Type 1} → statement M
 conflict-line-spec =
     tie.close
     (tie.spec
-    new-requires
-    slice-aggregate-put-word
-    put-word-requires
-    put-number-requires
-    put-fact-requires
-    slice-aggregate-put-word-2
-    put-word-requires-2
-    put-fact-requires-2
-    put-requires
+    (λ c κs. search needs)
+    (λ c. search needs)
+    (λ c κs. search needs)
+    (λ c κs. search needs)
+    (λ c κs. search needs)
+    (λ c. search needs)
+    (λ c κs. search needs)
+    (λ c κs. search needs)
+    (λ c κs. search needs)
     returns)

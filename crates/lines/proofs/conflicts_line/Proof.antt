@@ -8,21 +8,6 @@ use borrow.Author.Needs.{needs}
 use Rattle.lines.proofs.conflicts_line.Statement.{statement}
 use Rattle.lines.proofs.conflicts_line.Tie as tie
 
-new-requires : tie.Need-new-requires
-new-requires c κs = search needs
-
-slice-aggregate-put-word : tie.Need-slice-aggregate-put-word
-slice-aggregate-put-word c = search needs
-
-put-word-requires : tie.Need-put-word-requires
-put-word-requires c κs = search needs
-
-put-number-requires : tie.Need-put-number-requires
-put-number-requires c κs = search needs
-
-put-requires : tie.Need-put-requires
-put-requires c κs = search needs
-
 returns : tie.Need-returns
 returns c =
     let w = c .before .before in
@@ -36,9 +21,9 @@ pub conflicts-line-spec : {M : Type 1} → statement M
 conflicts-line-spec =
     tie.close
     (tie.spec
-    new-requires
-    slice-aggregate-put-word
-    put-word-requires
-    put-number-requires
-    put-requires
+    (λ c κs. search needs)
+    (λ c. search needs)
+    (λ c κs. search needs)
+    (λ c κs. search needs)
+    (λ c κs. search needs)
     returns)

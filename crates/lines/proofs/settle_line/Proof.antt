@@ -8,24 +8,6 @@ use borrow.Author.Needs.{needs}
 use Rattle.lines.proofs.settle_line.Statement.{statement}
 use Rattle.lines.proofs.settle_line.Tie as tie
 
-new-requires : tie.Need-new-requires
-new-requires c κs = search needs
-
-slice-aggregate-put-word : tie.Need-slice-aggregate-put-word
-slice-aggregate-put-word c = search needs
-
-put-word-requires : tie.Need-put-word-requires
-put-word-requires c κs = search needs
-
-put-spaced-requires : tie.Need-put-spaced-requires
-put-spaced-requires c κs = search needs
-
-put-spaced-requires-2 : tie.Need-put-spaced-requires-2
-put-spaced-requires-2 c κs = search needs
-
-put-requires : tie.Need-put-requires
-put-requires c κs = search needs
-
 returns : tie.Need-returns
 returns c =
     let m = c .before in
@@ -47,10 +29,10 @@ pub settle-line-spec : {M : Type 1} → statement M
 settle-line-spec =
     tie.close
     (tie.spec
-    new-requires
-    slice-aggregate-put-word
-    put-word-requires
-    put-spaced-requires
-    put-spaced-requires-2
-    put-requires
+    (λ c κs. search needs)
+    (λ c. search needs)
+    (λ c κs. search needs)
+    (λ c κs. search needs)
+    (λ c κs. search needs)
+    (λ c κs. search needs)
     returns)

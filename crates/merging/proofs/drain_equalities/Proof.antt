@@ -5,7 +5,7 @@ use native.Mathlib.Omega.{arith}
 use Rattle.semantics.specs.Types.{drainPairs}
 use Rattle.merging.specs.View.{lent, pairsIn, Toward}
 use Rattle.merging.proofs.Laws.{begins, takes, stays, room-left}
-use Rattle.merging.proofs.Merged.{taken-holds, drained, drain-last, drain-none}
+use Rattle.merging.proofs.Merged.{unqueued-holds, drained, drain-last, drain-none}
 use borrow.Author.Needs.{needs}
 use Rattle.merging.proofs.drain_equalities.Statement.{statement}
 use Rattle.merging.proofs.drain_equalities.Tie as tie
@@ -21,7 +21,7 @@ abbrev μ-loop : tie.MeasureT-loop
 loop-holds : tie.Need-loop-holds Inv-loop μ-loop
 loop-holds c =
     let s = c .before in
-    (omega arith, stays (begins _ (taken-holds (s .pre .0)) _) (omega arith) (λ w. refl))
+    (omega arith, stays (begins _ (unqueued-holds (s .pre .0)) _) (omega arith) (λ w. refl))
 
 sub-at : tie.Need-sub-at Inv-loop μ-loop
 sub-at c = omega (arith, c .loop-test .taken)

@@ -17,15 +17,6 @@ abbrev μ-loop : tie.MeasureT-loop
 loop-holds : tie.Need-loop-holds Inv-loop μ-loop
 loop-holds c = empty-page _ _ _
 
-sub-loop : tie.Need-sub-loop Inv-loop μ-loop
-sub-loop c = search needs
-
-is-ended-requires : tie.Need-is-ended-requires Inv-loop μ-loop
-is-ended-requires c κs = search needs
-
-advance-requires : tie.Need-advance-requires Inv-loop μ-loop
-advance-requires c κs = search needs
-
 put-line-requires : tie.Need-put-line-requires Inv-loop μ-loop
 put-line-requires c κs =
     let in-loop = c .before .before .before .before .before .before in omega (arith, c .put-line-arg .given .0 .1, in-loop .loop-test .taken)
@@ -58,9 +49,9 @@ fill-spec =
     Inv-loop
     μ-loop
     loop-holds
-    sub-loop
-    is-ended-requires
-    advance-requires
+    (λ c. search needs)
+    (λ c κs. search needs)
+    (λ c κs. search needs)
     put-line-requires
     loop-less
     loop-again

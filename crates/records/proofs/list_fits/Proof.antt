@@ -10,11 +10,8 @@ returns c = too-few _ _ _ _ (c .if1 .taken)
 returns-2 : tie.Need-returns-2
 returns-2 c = too-many _ _ _ _ (c .before .if1 .left) (c .if2 .taken)
 
-is-clear-requires : tie.Need-is-clear-requires
-is-clear-requires c κs = search needs
-
 returns-3 : tie.Need-returns-3
 returns-3 c = so-many _ _ _ _ (c .before .before .if1 .left) (c .before .if2 .left) (c .is-clear .ensures)
 
 pub list-fits-spec : {M : Type 1} → statement M
-list-fits-spec = tie.close (tie.spec returns returns-2 is-clear-requires returns-3)
+list-fits-spec = tie.close (tie.spec returns returns-2 (λ c κs. search needs) returns-3)

@@ -6,9 +6,6 @@ use Rattle.records.proofs.Laws.{in-sheet}
 use Rattle.records.proofs.record_at.Statement.{statement}
 use Rattle.records.proofs.record_at.Tie as tie
 
-record-in-requires : tie.Need-record-in-requires
-record-in-requires c κs = search needs
-
 returns : tie.Need-returns
 returns c =
     let sheet = c .before in
@@ -16,4 +13,4 @@ returns c =
     c .record-in .ensures ∙ in-sheet (now (a .bytes)) (a .index) (sheet .sheet .given .0)
 
 pub record-at-spec : {M : Type 1} → statement M
-record-at-spec = tie.close (tie.spec record-in-requires returns)
+record-at-spec = tie.close (tie.spec (λ c κs. search needs) returns)

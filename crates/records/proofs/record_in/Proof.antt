@@ -7,109 +7,10 @@ use Rattle.records.proofs.Laws.{record-read, none-within-past}
 use Rattle.records.proofs.record_in.Statement.{statement}
 use Rattle.records.proofs.record_in.Tie as tie
 
-blank-requires : tie.Need-blank-requires
-blank-requires c κs = search needs
-
 returns : tie.Need-returns
 returns c =
     let a = c .before .before .before .args in
     c .blank .ensures ∙ none-within-past (now (a .bytes)) (a .index) (c .before .if1 .taken)
-
-mul-at : tie.Need-mul-at
-mul-at c = search needs
-
-word-requires : tie.Need-word-requires
-word-requires c κs = search needs
-
-add-word : tie.Need-add-word
-add-word c = search needs
-
-word-requires-2 : tie.Need-word-requires-2
-word-requires-2 c κs = search needs
-
-add-word-2 : tie.Need-add-word-2
-add-word-2 c = search needs
-
-word-requires-3 : tie.Need-word-requires-3
-word-requires-3 c κs = search needs
-
-add-word-3 : tie.Need-add-word-3
-add-word-3 c = search needs
-
-word-requires-4 : tie.Need-word-requires-4
-word-requires-4 c κs = search needs
-
-add-word-4 : tie.Need-add-word-4
-add-word-4 c = search needs
-
-word-requires-5 : tie.Need-word-requires-5
-word-requires-5 c κs = search needs
-
-add-word-5 : tie.Need-add-word-5
-add-word-5 c = search needs
-
-word-requires-6 : tie.Need-word-requires-6
-word-requires-6 c κs = search needs
-
-add-word-6 : tie.Need-add-word-6
-add-word-6 c = search needs
-
-word-requires-7 : tie.Need-word-requires-7
-word-requires-7 c κs = search needs
-
-add-word-7 : tie.Need-add-word-7
-add-word-7 c = search needs
-
-word-requires-8 : tie.Need-word-requires-8
-word-requires-8 c κs = search needs
-
-add-word-8 : tie.Need-add-word-8
-add-word-8 c = search needs
-
-word-requires-9 : tie.Need-word-requires-9
-word-requires-9 c κs = search needs
-
-add-word-9 : tie.Need-add-word-9
-add-word-9 c = search needs
-
-word-requires-10 : tie.Need-word-requires-10
-word-requires-10 c κs = search needs
-
-add-word-10 : tie.Need-add-word-10
-add-word-10 c = search needs
-
-word-requires-11 : tie.Need-word-requires-11
-word-requires-11 c κs = search needs
-
-add-word-11 : tie.Need-add-word-11
-add-word-11 c = search needs
-
-word-requires-12 : tie.Need-word-requires-12
-word-requires-12 c κs = search needs
-
-add-word-12 : tie.Need-add-word-12
-add-word-12 c = search needs
-
-word-requires-13 : tie.Need-word-requires-13
-word-requires-13 c κs = search needs
-
-add-word-13 : tie.Need-add-word-13
-add-word-13 c = search needs
-
-word-requires-14 : tie.Need-word-requires-14
-word-requires-14 c κs = search needs
-
-add-word-14 : tie.Need-add-word-14
-add-word-14 c = search needs
-
-word-requires-15 : tie.Need-word-requires-15
-word-requires-15 c κs = search needs
-
-add-word-15 : tie.Need-add-word-15
-add-word-15 c = search needs
-
-word-requires-16 : tie.Need-word-requires-16
-word-requires-16 c κs = search needs
 
 returns-2 : tie.Need-returns-2
 returns-2 c =
@@ -147,38 +48,38 @@ pub record-in-spec : {M : Type 1} → statement M
 record-in-spec =
     tie.close
     (tie.spec
-    blank-requires
+    (λ c κs. search needs)
     returns
-    mul-at
-    word-requires
-    add-word
-    word-requires-2
-    add-word-2
-    word-requires-3
-    add-word-3
-    word-requires-4
-    add-word-4
-    word-requires-5
-    add-word-5
-    word-requires-6
-    add-word-6
-    word-requires-7
-    add-word-7
-    word-requires-8
-    add-word-8
-    word-requires-9
-    add-word-9
-    word-requires-10
-    add-word-10
-    word-requires-11
-    add-word-11
-    word-requires-12
-    add-word-12
-    word-requires-13
-    add-word-13
-    word-requires-14
-    add-word-14
-    word-requires-15
-    add-word-15
-    word-requires-16
+    (λ c. search needs)
+    (λ c κs. search needs)
+    (λ c. search needs)
+    (λ c κs. search needs)
+    (λ c. search needs)
+    (λ c κs. search needs)
+    (λ c. search needs)
+    (λ c κs. search needs)
+    (λ c. search needs)
+    (λ c κs. search needs)
+    (λ c. search needs)
+    (λ c κs. search needs)
+    (λ c. search needs)
+    (λ c κs. search needs)
+    (λ c. search needs)
+    (λ c κs. search needs)
+    (λ c. search needs)
+    (λ c κs. search needs)
+    (λ c. search needs)
+    (λ c κs. search needs)
+    (λ c. search needs)
+    (λ c κs. search needs)
+    (λ c. search needs)
+    (λ c κs. search needs)
+    (λ c. search needs)
+    (λ c κs. search needs)
+    (λ c. search needs)
+    (λ c κs. search needs)
+    (λ c. search needs)
+    (λ c κs. search needs)
+    (λ c. search needs)
+    (λ c κs. search needs)
     returns-2)

@@ -10,32 +10,8 @@ Inv-loop text₀ n pairs at₀ k i₀ t9 text at i = Unit {0}
 abbrev μ-loop : tie.MeasureT-loop
 μ-loop text₀ n pairs at₀ k i₀ t9 text at i = k - i
 
-size-requires : tie.Need-size-requires Inv-loop μ-loop
-size-requires c κs = search needs
-
 loop-holds : tie.Need-loop-holds Inv-loop μ-loop
 loop-holds c = tt
-
-mul-pair : tie.Need-mul-pair Inv-loop μ-loop
-mul-pair c = search needs
-
-element-copy-out-pair : tie.Need-element-copy-out-pair Inv-loop μ-loop
-element-copy-out-pair c = search needs
-
-slice-aggregate-pair-line : tie.Need-slice-aggregate-pair-line Inv-loop μ-loop
-slice-aggregate-pair-line c = search needs
-
-pair-line-requires : tie.Need-pair-line-requires Inv-loop μ-loop
-pair-line-requires c κs = search needs
-
-put-line-requires : tie.Need-put-line-requires Inv-loop μ-loop
-put-line-requires c κs = search needs
-
-add-i : tie.Need-add-i Inv-loop μ-loop
-add-i c = search needs
-
-loop-less : tie.Need-loop-less Inv-loop μ-loop
-loop-less c = search needs
 
 loop-again : tie.Need-loop-again Inv-loop μ-loop
 loop-again c = tt
@@ -49,14 +25,14 @@ put-pairs-spec =
     (tie.spec
     Inv-loop
     μ-loop
-    size-requires
+    (λ c κs. search needs)
     loop-holds
-    mul-pair
-    element-copy-out-pair
-    slice-aggregate-pair-line
-    pair-line-requires
-    put-line-requires
-    add-i
-    loop-less
+    (λ c. search needs)
+    (λ c. search needs)
+    (λ c. search needs)
+    (λ c κs. search needs)
+    (λ c κs. search needs)
+    (λ c. search needs)
+    (λ c. search needs)
     loop-again
     returns)

@@ -79,7 +79,7 @@ place-requires c κs =
     let place = c .before .before .before in
     let asked = place .before .before in
     let t = test asked in (
-      place-within compareFuncApp funcAppIn _ _ _ (few t .1 .1) _ (sym (asked .position .ensures) ∙ place .at .given .1),
+      place-within compareFuncApp funcAppIn _ _ _ (few t .1 .1) (asked .position .ensures) (place .at .given .1),
       few t .1 .1,
     )
 

@@ -7,9 +7,9 @@ use lib.ListN.{length}
 use borrow.Author.Tests.{not-true, not-false}
 use Rattle.unification.specs.Roots.{maxEls}
 use Rattle.signature.specs.Model.{sigOf}
-use Rattle.semantics.specs.Calls.{Totals, settleRun}
+use Rattle.semantics.specs.Calls.{Totals, mergesOf, settleRun}
 use Rattle.structure.specs.View.{structureOf, totalsOf, answerOf}
-use Rattle.close.specs.View.{oneClose, reportedMerges}
+use Rattle.rounds.specs.View.{oneClose}
 use Rattle.structure.specs.declared.Answer.{Answer}
 use Rattle.structure.specs.declared.Closed.{Closed}
 use Rattle.settle.proofs.Laws.{Going, begins, takes, refused-told, report-told, ends, run-is, sums-fit}
@@ -54,7 +54,8 @@ module _ (c : tie.After-reached Inv-loop μ-loop) where
   report = c .before .before .answer .given .0 .0
 
   merges-few : report .merges ≤ oneClose
-  merges-few = subst (λ (a : Answer). reportedMerges a ≤ oneClose) (c .before .before .answer .given .1) (ran .close .ensures .1)
+  unfolding mergesOf
+  merges-few = subst (λ (a : Answer). mergesOf (answerOf [] a) ≤ oneClose) (c .before .before .answer .given .1) (ran .close .ensures .1)
 
 counted-requires : tie.Need-counted-requires Inv-loop μ-loop
 counted-requires c κs =

@@ -6,12 +6,6 @@ use borrow.Author.Needs.{needs}
 use Rattle.sheet.proofs.advance.Statement.{statement}
 use Rattle.sheet.proofs.advance.Tie as tie
 
-record-at-requires : tie.Need-record-at-requires
-record-at-requires c κs = search needs
-
-step-requires : tie.Need-step-requires
-step-requires c κs = search needs
-
 returns : tie.Need-returns
 returns c =
     let sheet = c .before .before in
@@ -19,4 +13,4 @@ returns c =
     reads (now (a .bytes)) (progressOf (a .progress)) (sheet .sheet .given .0) (c .before .record-at .ensures) (c .step .ensures)
 
 pub advance-spec : {M : Type 1} → statement M
-advance-spec = tie.close (tie.spec record-at-requires step-requires returns)
+advance-spec = tie.close (tie.spec (λ c κs. search needs) (λ c κs. search needs) returns)

@@ -6,54 +6,6 @@ use borrow.Author.Needs.{needs}
 use Rattle.sheet.proofs.after_record.Statement.{statement}
 use Rattle.sheet.proofs.after_record.Tie as tie
 
-enum-known-answer : tie.Need-enum-known-answer
-enum-known-answer c = search needs
-
-refuse-requires : tie.Need-refuse-requires
-refuse-requires c κs = search needs
-
-enum-known-answer-2 : tie.Need-enum-known-answer-2
-enum-known-answer-2 c = search needs
-
-close-line-requires : tie.Need-close-line-requires
-close-line-requires c κs = search needs
-
-follow-requires : tie.Need-follow-requires
-follow-requires c κs = search needs
-
-enum-told : tie.Need-enum-told
-enum-told c = search needs
-
-new-requires : tie.Need-new-requires
-new-requires c κs = search needs
-
-enum-known-answer-3 : tie.Need-enum-known-answer-3
-enum-known-answer-3 c = search needs
-
-settle-line-requires : tie.Need-settle-line-requires
-settle-line-requires c κs = search needs
-
-follow-requires-2 : tie.Need-follow-requires-2
-follow-requires-2 c κs = search needs
-
-enum-known-answer-4 : tie.Need-enum-known-answer-4
-enum-known-answer-4 c = search needs
-
-pass-requires : tie.Need-pass-requires
-pass-requires c κs = search needs
-
-enum-known-answer-5 : tie.Need-enum-known-answer-5
-enum-known-answer-5 c = search needs
-
-pass-requires-2 : tie.Need-pass-requires-2
-pass-requires-2 c κs = search needs
-
-enum-told-2 : tie.Need-enum-told-2
-enum-told-2 c = search needs
-
-pass-requires-3 : tie.Need-pass-requires-3
-pass-requires-3 c κs = search needs
-
 returns : tie.Need-returns
 unfolding answerPiece
 returns c =
@@ -100,22 +52,22 @@ pub after-record-spec : {M : Type 1} → statement M
 after-record-spec =
     tie.close
     (tie.spec
-    enum-known-answer
-    refuse-requires
-    enum-known-answer-2
-    close-line-requires
-    follow-requires
-    enum-told
-    new-requires
-    enum-known-answer-3
-    settle-line-requires
-    follow-requires-2
-    enum-known-answer-4
-    pass-requires
-    enum-known-answer-5
-    pass-requires-2
-    enum-told-2
-    pass-requires-3
+    (λ c. search needs)
+    (λ c κs. search needs)
+    (λ c. search needs)
+    (λ c κs. search needs)
+    (λ c κs. search needs)
+    (λ c. search needs)
+    (λ c κs. search needs)
+    (λ c. search needs)
+    (λ c κs. search needs)
+    (λ c κs. search needs)
+    (λ c. search needs)
+    (λ c κs. search needs)
+    (λ c. search needs)
+    (λ c κs. search needs)
+    (λ c. search needs)
+    (λ c κs. search needs)
     returns
     returns-2
     returns-3

@@ -6,12 +6,9 @@ use borrow.Author.Needs.{needs}
 use Rattle.sheet.proofs.at_stage.Statement.{statement}
 use Rattle.sheet.proofs.at_stage.Tie as tie
 
-new-requires : tie.Need-new-requires
-new-requires c κs = search needs
-
 returns : tie.Need-returns
 returns c =
     let a = c .before .args in unlisted (a .stage) (machineOf (a .machine)) (a .count) (a .index) (a .done) (as-held (c .new .ensures))
 
 pub at-stage-spec : {M : Type 1} → statement M
-at-stage-spec = tie.close (tie.spec new-requires returns)
+at-stage-spec = tie.close (tie.spec (λ c κs. search needs) returns)

@@ -5,19 +5,13 @@ use borrow.Author.Needs.{needs}
 use Rattle.sheet.proofs.follow.Statement.{statement}
 use Rattle.sheet.proofs.follow.Tie as tie
 
-at-stage-requires : tie.Need-at-stage-requires
-at-stage-requires c κs = search needs
-
 returns : tie.Need-returns
 returns c =
     let a = c .before .before .args in follows-end (machineOf (a .machine)) (a .count) (a .next) (a .done) (c .before .if1 .taken) (c .at-stage .ensures)
-
-at-stage-requires-2 : tie.Need-at-stage-requires-2
-at-stage-requires-2 c κs = search needs
 
 returns-2 : tie.Need-returns-2
 returns-2 c =
     let a = c .before .before .args in follows-on (machineOf (a .machine)) (a .count) (a .next) (a .done) (c .before .if1 .left) (c .at-stage2 .ensures)
 
 pub follow-spec : {M : Type 1} → statement M
-follow-spec = tie.close (tie.spec at-stage-requires returns at-stage-requires-2 returns-2)
+follow-spec = tie.close (tie.spec (λ c κs. search needs) returns (λ c κs. search needs) returns-2)

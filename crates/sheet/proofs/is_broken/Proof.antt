@@ -8,9 +8,6 @@ returns : tie.Need-returns
 returns c =
     let a = c .before .args in broken-past (a .count) (a .done) (a .next) (c .if1 .taken)
 
-sub-if2 : tie.Need-sub-if2
-sub-if2 c = search needs
-
 returns-2 : tie.Need-returns-2
 returns-2 c =
     let a = c .before .before .args in broken-last (a .count) (a .done) (a .next) (c .before .if1 .left) (c .if2 .taken)
@@ -20,4 +17,4 @@ returns-3 c =
     let a = c .before .before .args in broken-not (a .count) (a .done) (a .next) (c .before .if1 .left) (c .if2 .left)
 
 pub is-broken-spec : {M : Type 1} → statement M
-is-broken-spec = tie.close (tie.spec returns sub-if2 returns-2 returns-3)
+is-broken-spec = tie.close (tie.spec returns (λ c. search needs) returns-2 returns-3)

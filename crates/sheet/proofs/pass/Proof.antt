@@ -4,15 +4,9 @@ use borrow.Author.Needs.{needs}
 use Rattle.sheet.proofs.pass.Statement.{statement}
 use Rattle.sheet.proofs.pass.Tie as tie
 
-new-requires : tie.Need-new-requires
-new-requires c κs = search needs
-
-follow-requires : tie.Need-follow-requires
-follow-requires c κs = search needs
-
 returns : tie.Need-returns
 returns c =
     both (c .before .new .ensures) (c .follow .ensures)
 
 pub pass-spec : {M : Type 1} → statement M
-pass-spec = tie.close (tie.spec new-requires follow-requires returns)
+pass-spec = tie.close (tie.spec (λ c κs. search needs) (λ c κs. search needs) returns)

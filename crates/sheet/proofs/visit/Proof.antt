@@ -8,30 +8,12 @@ use borrow.Author.Needs.{needs}
 use Rattle.sheet.proofs.visit.Statement.{statement}
 use Rattle.sheet.proofs.visit.Tie as tie
 
-done-before-requires : tie.Need-done-before-requires
-done-before-requires c κs = search needs
-
-is-broken-requires : tie.Need-is-broken-requires
-is-broken-requires c κs = search needs
-
-refuse-requires : tie.Need-refuse-requires
-refuse-requires c κs = search needs
-
 returns : tie.Need-returns
 returns c =
     let found = c .before .before in
     let d = found .before .done-before in
     let a = found .before .before .before .args in
     visited-broken (recordView (a .given)) (progressOf (a .progress)) (d .ensures .0) (told (found .is-broken .ensures) (c .before .if1 .taken)) (c .refuse .ensures)
-
-carry-out-requires : tie.Need-carry-out-requires
-carry-out-requires c κs = search needs
-
-add-after-record : tie.Need-add-after-record
-add-after-record c = search needs
-
-after-record-requires : tie.Need-after-record-requires
-after-record-requires c κs = search needs
 
 returns-2 : tie.Need-returns-2
 returns-2 c =
@@ -47,11 +29,11 @@ pub visit-spec : {M : Type 1} → statement M
 visit-spec =
     tie.close
     (tie.spec
-    done-before-requires
-    is-broken-requires
-    refuse-requires
+    (λ c κs. search needs)
+    (λ c κs. search needs)
+    (λ c κs. search needs)
     returns
-    carry-out-requires
-    add-after-record
-    after-record-requires
+    (λ c κs. search needs)
+    (λ c. search needs)
+    (λ c κs. search needs)
     returns-2)

@@ -13,15 +13,6 @@ use borrow.Author.Needs.{needs}
 use Rattle.apps.proofs.FuncApps.get.Statement.{statement}
 use Rattle.apps.proofs.FuncApps.get.Tie as tie
 
-position-requires : tie.Need-position-requires
-position-requires c κs = search needs
-
-enum-known-place : tie.Need-enum-known-place
-enum-known-place c = search needs
-
-enum-told : tie.Need-enum-told
-enum-told c = search needs
-
 -- the entry that was found
 entry : (c : tie.After-known-told) →
     let a = c .before .before .before .before .args in
@@ -56,9 +47,9 @@ pub get-spec : {M : Type 1} → statement M
 get-spec =
     tie.close
     (tie.spec
-    position-requires
-    enum-known-place
-    enum-told
+    (λ c κs. search needs)
+    (λ c. search needs)
+    (λ c. search needs)
     returns
     mul-here
     element-copy-out-here

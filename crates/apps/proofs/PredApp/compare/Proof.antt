@@ -8,33 +8,6 @@ use borrow.Author.Needs.{needs}
 use Rattle.apps.proofs.PredApp.compare.Statement.{statement}
 use Rattle.apps.proofs.PredApp.compare.Tie as tie
 
-compare-numbers-requires : tie.Need-compare-numbers-requires
-compare-numbers-requires c κs = search needs
-
-enum-told : tie.Need-enum-told
-enum-told c = search needs
-
-enum-told-2 : tie.Need-enum-told-2
-enum-told-2 c = search needs
-
-enum-told-3 : tie.Need-enum-told-3
-enum-told-3 c = search needs
-
-compare-requires : tie.Need-compare-requires
-compare-requires c κs = search needs
-
-enum-told-4 : tie.Need-enum-told-4
-enum-told-4 c = search needs
-
-enum-told-5 : tie.Need-enum-told-5
-enum-told-5 c = search needs
-
-enum-told-6 : tie.Need-enum-told-6
-enum-told-6 c = search needs
-
-compare-requires-2 : tie.Need-compare-requires-2
-compare-requires-2 c κs = search needs
-
 returns : tie.Need-returns
 unfolding comparePredApp
 returns c = sym (then-less _ _ (sym (c .before .before .compare-numbers .ensures) ∙ c .enum-told .given .1))
@@ -72,15 +45,15 @@ pub compare-spec : {M : Type 1} → statement M
 compare-spec =
     tie.close
     (tie.spec
-    compare-numbers-requires
-    enum-told
-    enum-told-2
-    enum-told-3
-    compare-requires
-    enum-told-4
-    enum-told-5
-    enum-told-6
-    compare-requires-2
+    (λ c κs. search needs)
+    (λ c. search needs)
+    (λ c. search needs)
+    (λ c. search needs)
+    (λ c κs. search needs)
+    (λ c. search needs)
+    (λ c. search needs)
+    (λ c. search needs)
+    (λ c κs. search needs)
     returns
     returns-2
     returns-3

@@ -10,20 +10,11 @@ use borrow.Author.Needs.{needs}
 use Rattle.bindings.proofs.AmbientEls.get.Statement.{statement}
 use Rattle.bindings.proofs.AmbientEls.get.Tie as tie
 
-cast-at : tie.Need-cast-at
-cast-at c = search needs
-
 returns : tie.Need-returns
 unfolding calls.ambientOf
 returns c =
     let a = c .before .before .args in
     sym (ap ambientElOf (found-past ambients (ambient (a .typ .0) 0) maxTypes (a .t1 .slots) (search (needs, long)) (c .if1 .taken)))
-
-mul-slot : tie.Need-mul-slot
-mul-slot c = search needs
-
-element-copy-out-slot : tie.Need-element-copy-out-slot
-element-copy-out-slot c = search needs
 
 returns-2 : tie.Need-returns-2
 unfolding calls.ambientOf
@@ -42,4 +33,4 @@ returns-3 c =
     (c .if2 .left)))
 
 pub get-spec : {M : Type 1} → statement M
-get-spec = tie.close (tie.spec cast-at returns mul-slot element-copy-out-slot returns-2 returns-3)
+get-spec = tie.close (tie.spec (λ c. search needs) returns (λ c. search needs) (λ c. search needs) returns-2 returns-3)

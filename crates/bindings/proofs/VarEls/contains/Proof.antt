@@ -7,19 +7,10 @@ use borrow.Author.Needs.{needs}
 use Rattle.bindings.proofs.VarEls.contains.Statement.{statement}
 use Rattle.bindings.proofs.VarEls.contains.Tie as tie
 
-cast-at : tie.Need-cast-at
-cast-at c = search needs
-
 returns : tie.Need-returns
 returns c =
     let a = c .before .before .args in
     past-absent vars (varOf (a .v)) maxVars (a .t1 .slots) (search (needs, long)) (c .if1 .taken)
-
-mul-slot : tie.Need-mul-slot
-mul-slot c = search needs
-
-element-copy-out-slot : tie.Need-element-copy-out-slot
-element-copy-out-slot c = search needs
 
 returns-2 : tie.Need-returns-2
 returns-2 c =
@@ -27,4 +18,4 @@ returns-2 c =
     given-present vars (varOf (a .v)) maxVars (a .t1 .slots) (search (needs, long)) none-slot (c .before .if1 .left)
 
 pub contains-spec : {M : Type 1} → statement M
-contains-spec = tie.close (tie.spec cast-at returns mul-slot element-copy-out-slot returns-2)
+contains-spec = tie.close (tie.spec (λ c. search needs) returns (λ c. search needs) (λ c. search needs) returns-2)

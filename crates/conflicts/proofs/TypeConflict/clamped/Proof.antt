@@ -4,12 +4,6 @@ use borrow.Author.Needs.{needs}
 use Rattle.conflicts.proofs.TypeConflict.clamped.Statement.{statement}
 use Rattle.conflicts.proofs.TypeConflict.clamped.Tie as tie
 
-clamped-requires : tie.Need-clamped-requires
-clamped-requires c κs = search needs
-
-clamped-requires-2 : tie.Need-clamped-requires-2
-clamped-requires-2 c κs = search needs
-
 returns : tie.Need-returns
 returns c =
     let t = c .before .before .before .before .before .args .self in
@@ -21,4 +15,4 @@ returns c =
     }
 
 pub clamped-spec : {M : Type 1} → statement M
-clamped-spec = tie.close (tie.spec clamped-requires clamped-requires-2 returns)
+clamped-spec = tie.close (tie.spec (λ c κs. search needs) (λ c κs. search needs) returns)

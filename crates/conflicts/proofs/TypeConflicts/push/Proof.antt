@@ -6,28 +6,10 @@ use borrow.Author.Needs.{needs}
 use Rattle.conflicts.proofs.TypeConflicts.push.Statement.{statement}
 use Rattle.conflicts.proofs.TypeConflicts.push.Tie as tie
 
-size-requires : tie.Need-size-requires
-size-requires c κs = search needs
-
 returns : tie.Need-returns
 returns c =
     let start = c .before .before in
     push-none (start .args .self) (start .pre) (c .before .size .ensures) (conflictOf (start .args .conflict)) (c .if1 .taken)
-
-clamped-requires : tie.Need-clamped-requires
-clamped-requires c κs = search needs
-
-mul-entry : tie.Need-mul-entry
-mul-entry c = search needs
-
-element-set-from-entry : tie.Need-element-set-from-entry
-element-set-from-entry c = search needs
-
-add-next : tie.Need-add-next
-add-next c = search needs
-
-cast-next : tie.Need-cast-next
-cast-next c = search needs
 
 returns-2 : tie.Need-returns-2
 returns-2 c =
@@ -39,11 +21,11 @@ pub push-spec : {M : Type 1} → statement M
 push-spec =
     tie.close
     (tie.spec
-    size-requires
+    (λ c κs. search needs)
     returns
-    clamped-requires
-    mul-entry
-    element-set-from-entry
-    add-next
-    cast-next
+    (λ c κs. search needs)
+    (λ c. search needs)
+    (λ c. search needs)
+    (λ c. search needs)
+    (λ c. search needs)
     returns-2)

@@ -8,9 +8,6 @@ use borrow.Author.Needs.{needs}
 use Rattle.equalities.proofs.Pairs.size.Statement.{statement}
 use Rattle.equalities.proofs.Pairs.size.Tie as tie
 
-cast-n : tie.Need-cast-n
-cast-n c = search needs
-
 returns : tie.Need-returns
 returns c = size-reversed (size-below pairOf _ _ maxPairs (search (needs, long)) (c .if1 .taken))
 
@@ -18,4 +15,4 @@ returns-2 : tie.Need-returns-2
 returns-2 c = size-reversed (size-over pairOf _ _ maxPairs (search (needs, long)) (c .if1 .left))
 
 pub size-spec : {M : Type 1} → statement M
-size-spec = tie.close (tie.spec cast-n returns returns-2)
+size-spec = tie.close (tie.spec (λ c. search needs) returns returns-2)

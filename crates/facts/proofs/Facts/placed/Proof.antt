@@ -19,27 +19,6 @@ abbrev μ-loop : tie.MeasureT-loop
 loop-holds : tie.Need-loop-holds Inv-loop μ-loop
 loop-holds c = (c .pre .0, (omega arith, shift-start _ _))
 
-sub-moved : tie.Need-sub-moved Inv-loop μ-loop
-sub-moved c = search needs
-
-mul-moved : tie.Need-mul-moved Inv-loop μ-loop
-mul-moved c = search needs
-
-element-copy-out-moved : tie.Need-element-copy-out-moved Inv-loop μ-loop
-element-copy-out-moved c = search needs
-
-mul-moved-2 : tie.Need-mul-moved-2 Inv-loop μ-loop
-mul-moved-2 c = search needs
-
-element-set-from-moved : tie.Need-element-set-from-moved Inv-loop μ-loop
-element-set-from-moved c = search needs
-
-sub-i : tie.Need-sub-i Inv-loop μ-loop
-sub-i c = search needs
-
-loop-less : tie.Need-loop-less Inv-loop μ-loop
-loop-less c = search needs
-
 loop-again : tie.Need-loop-again Inv-loop μ-loop
 loop-again c =
     let at-loop = c .before .before in
@@ -47,18 +26,6 @@ loop-again c =
     let full : length (t .items) ≡ maxFacts = search (needs, long) in
     let shifted = at-loop .loop .inv .1 .1 in
     (omega arith, (omega arith, shift-turn _ _ _ _ _ shifted (omega arith) (at-loop .loop .inv .1 .0) (omega arith)))
-
-mul-entry : tie.Need-mul-entry Inv-loop μ-loop
-mul-entry c = search needs
-
-element-set-from-entry : tie.Need-element-set-from-entry Inv-loop μ-loop
-element-set-from-entry c = search needs
-
-add-next : tie.Need-add-next Inv-loop μ-loop
-add-next c = search needs
-
-cast-next : tie.Need-cast-next Inv-loop μ-loop
-cast-next c = search needs
 
 returns : tie.Need-returns Inv-loop μ-loop
 returns c =
@@ -74,16 +41,16 @@ placed-spec =
     Inv-loop
     μ-loop
     loop-holds
-    sub-moved
-    mul-moved
-    element-copy-out-moved
-    mul-moved-2
-    element-set-from-moved
-    sub-i
-    loop-less
+    (λ c. search needs)
+    (λ c. search needs)
+    (λ c. search needs)
+    (λ c. search needs)
+    (λ c. search needs)
+    (λ c. search needs)
+    (λ c. search needs)
     loop-again
-    mul-entry
-    element-set-from-entry
-    add-next
-    cast-next
+    (λ c. search needs)
+    (λ c. search needs)
+    (λ c. search needs)
+    (λ c. search needs)
     returns)

@@ -17,17 +17,8 @@ Inv-loop n self size i₀ i = allBelow n (drop i (elsOf self)) ≡ allBelow n (e
 abbrev μ-loop : tie.MeasureT-loop
 μ-loop n self size i₀ i = size - i
 
-size-requires : tie.Need-size-requires Inv-loop μ-loop
-size-requires c κs = search needs
-
 loop-holds : tie.Need-loop-holds Inv-loop μ-loop
 loop-holds c = refl
-
-mul-x : tie.Need-mul-x Inv-loop μ-loop
-mul-x c = search needs
-
-element-copy-out-x : tie.Need-element-copy-out-x Inv-loop μ-loop
-element-copy-out-x c = search needs
 
 -- in a turn: the definition at the entry i
 turn : (c : tie.In-loop Inv-loop μ-loop) →
@@ -41,12 +32,6 @@ turn c =
 
 returns : tie.Need-returns Inv-loop μ-loop
 returns c = below-off _ _ _ (turn (c .before)) (c .if1 .taken)
-
-add-i : tie.Need-add-i Inv-loop μ-loop
-add-i c = search needs
-
-loop-less : tie.Need-loop-less Inv-loop μ-loop
-loop-less c = search needs
 
 loop-again : tie.Need-loop-again Inv-loop μ-loop
 loop-again c = below-on _ _ _ (turn (c .before)) (c .if1 .left)
@@ -64,12 +49,12 @@ all-below-spec =
     (tie.spec
     Inv-loop
     μ-loop
-    size-requires
+    (λ c κs. search needs)
     loop-holds
-    mul-x
-    element-copy-out-x
+    (λ c. search needs)
+    (λ c. search needs)
     returns
-    add-i
-    loop-less
+    (λ c. search needs)
+    (λ c. search needs)
     loop-again
     returns-2)

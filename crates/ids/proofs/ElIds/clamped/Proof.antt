@@ -10,12 +10,6 @@ use borrow.Author.Needs.{needs}
 use Rattle.ids.proofs.ElIds.clamped.Statement.{statement}
 use Rattle.ids.proofs.ElIds.clamped.Tie as tie
 
-size-requires : tie.Need-size-requires
-size-requires c κs = search needs
-
-cast-list : tie.Need-cast-list
-cast-list c = search needs
-
 returns : tie.Need-returns
 returns c =
     let l = c .before .args .self in
@@ -24,4 +18,4 @@ returns c =
     handed 0 elOf (c .size .result) (l .ids) (omega (arith, n .most)) (view-clamped elOf (l .len) (c .size .result) (l .ids) (n .is))
 
 pub clamped-spec : {M : Type 1} → statement M
-clamped-spec = tie.close (tie.spec size-requires cast-list returns)
+clamped-spec = tie.close (tie.spec (λ c κs. search needs) (λ c. search needs) returns)

@@ -19,12 +19,6 @@ Inv-loop self other n m i₀ i = lexOf (drop i (elsOf self)) (drop i (elsOf othe
 abbrev μ-loop : tie.MeasureT-loop
 μ-loop self other n m i₀ i = n - i
 
-size-requires : tie.Need-size-requires Inv-loop μ-loop
-size-requires c κs = search needs
-
-size-requires-2 : tie.Need-size-requires-2 Inv-loop μ-loop
-size-requires-2 c κs = search needs
-
 loop-holds : tie.Need-loop-holds Inv-loop μ-loop
 loop-holds c = refl
 
@@ -60,29 +54,11 @@ returns c =
     let done : length (elsOf b) ≤ c .before .before .loop .i = omega (arith, c .before .before .before .size2 .ensures .is) in
     rw (view-done elOf _ _ _ done) at (turn (c .before))
 
-mul-x : tie.Need-mul-x Inv-loop μ-loop
-mul-x c = search needs
-
-element-copy-out-x : tie.Need-element-copy-out-x Inv-loop μ-loop
-element-copy-out-x c = search needs
-
-mul-y : tie.Need-mul-y Inv-loop μ-loop
-mul-y c = search needs
-
-element-copy-out-y : tie.Need-element-copy-out-y Inv-loop μ-loop
-element-copy-out-y c = search needs
-
 returns-2 : tie.Need-returns-2 Inv-loop μ-loop
 returns-2 c = rw (less _ _ (c .if2 .taken)) at (both (c .before))
 
 returns-3 : tie.Need-returns-3 Inv-loop μ-loop
 returns-3 c = rw (greater _ _ (c .if3 .taken)) at (both (c .before .before))
-
-add-i : tie.Need-add-i Inv-loop μ-loop
-add-i c = search needs
-
-loop-less : tie.Need-loop-less Inv-loop μ-loop
-loop-less c = search needs
 
 loop-again : tie.Need-loop-again Inv-loop μ-loop
 loop-again c = rw (equal _ _ (c .before .if2 .left) (c .if3 .left)) at (both (c .before .before))
@@ -111,18 +87,18 @@ compare-spec =
     (tie.spec
     Inv-loop
     μ-loop
-    size-requires
-    size-requires-2
+    (λ c κs. search needs)
+    (λ c κs. search needs)
     loop-holds
     returns
-    mul-x
-    element-copy-out-x
-    mul-y
-    element-copy-out-y
+    (λ c. search needs)
+    (λ c. search needs)
+    (λ c. search needs)
+    (λ c. search needs)
     returns-2
     returns-3
-    add-i
-    loop-less
+    (λ c. search needs)
+    (λ c. search needs)
     loop-again
     returns-4
     returns-5)

@@ -7,11 +7,8 @@ use borrow.Author.Needs.{needs}
 use Rattle.ids.proofs.ElIds.is_too_long.Statement.{statement}
 use Rattle.ids.proofs.ElIds.is_too_long.Tie as tie
 
-cast-n : tie.Need-cast-n
-cast-n c = search needs
-
 returns : tie.Need-returns
 returns c = ap (ltb maxList) (sym (given-length _ _))
 
 pub is-too-long-spec : {M : Type 1} → statement M
-is-too-long-spec = tie.close (tie.spec cast-n returns)
+is-too-long-spec = tie.close (tie.spec (λ c. search needs) returns)

@@ -9,9 +9,6 @@ use borrow.Author.Needs.{needs}
 use Rattle.ids.proofs.TypeIds.size.Statement.{statement}
 use Rattle.ids.proofs.TypeIds.size.Tie as tie
 
-cast-n : tie.Need-cast-n
-cast-n c = search needs
-
 returns : tie.Need-returns
 returns c =
     let l = c .before .before .args .self in
@@ -25,4 +22,4 @@ returns-2 c =
     record { is = omega (arith, length-view typeOf (l .len) (l .ids)); most = omega arith }
 
 pub size-spec : {M : Type 1} → statement M
-size-spec = tie.close (tie.spec cast-n returns returns-2)
+size-spec = tie.close (tie.spec (λ c. search needs) returns returns-2)

@@ -6,12 +6,6 @@ use borrow.Author.Needs.{needs}
 use Rattle.ids.proofs.Verdict.refuse_if.Statement.{statement}
 use Rattle.ids.proofs.Verdict.refuse_if.Tie as tie
 
-enum-told : tie.Need-enum-told
-enum-told c = search needs
-
-enum-told-2 : tie.Need-enum-told-2
-enum-told-2 c = search needs
-
 returns : tie.Need-returns
 returns c = is-refused _ _ _ (ap verdictOf (c .before .enum-told2 .given .1)) (c .if1 .taken)
 
@@ -22,4 +16,4 @@ returns-3 : tie.Need-returns-3
 returns-3 c = stays-accepted _ _ _ (ap verdictOf (c .before .enum-told2 .given .1)) (c .if1 .left)
 
 pub refuse-if-spec : {M : Type 1} → statement M
-refuse-if-spec = tie.close (tie.spec enum-told enum-told-2 returns returns-2 returns-3)
+refuse-if-spec = tie.close (tie.spec (λ c. search needs) (λ c. search needs) returns returns-2 returns-3)

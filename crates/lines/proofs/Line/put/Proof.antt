@@ -4,22 +4,10 @@ use borrow.Author.Needs.{needs}
 use Rattle.lines.proofs.Line.put.Statement.{statement}
 use Rattle.lines.proofs.Line.put.Tie as tie
 
-size-requires : tie.Need-size-requires
-size-requires c κs = search needs
-
 returns : tie.Need-returns
 returns c =
     let a = c .before .before .args in
     put-past (a .self .len) (a .self .bytes) (search needs) (c .before .size .ensures) (a .b) (c .if1 .taken)
-
-element-write-next : tie.Need-element-write-next
-element-write-next c = search needs
-
-add-next : tie.Need-add-next
-add-next c = search needs
-
-cast-next : tie.Need-cast-next
-cast-next c = search needs
 
 returns-2 : tie.Need-returns-2
 returns-2 c =
@@ -28,4 +16,4 @@ returns-2 c =
 
 pub put-spec : {M : Type 1} → statement M
 put-spec =
-    tie.close (tie.spec size-requires returns element-write-next add-next cast-next returns-2)
+    tie.close (tie.spec (λ c κs. search needs) returns (λ c. search needs) (λ c. search needs) (λ c. search needs) returns-2)

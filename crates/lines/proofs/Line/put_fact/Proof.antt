@@ -5,16 +5,10 @@ use borrow.Author.Needs.{needs}
 use Rattle.lines.proofs.Line.put_fact.Statement.{statement}
 use Rattle.lines.proofs.Line.put_fact.Tie as tie
 
-put-number-requires : tie.Need-put-number-requires
-put-number-requires c κs = search needs
-
-put-els-requires : tie.Need-put-els-requires
-put-els-requires c κs = search needs
-
 returns : tie.Need-returns
 returns c =
     let f = factOf (c .before .before .before .args .fact) in
     add-more (f .typ) (f .parents) (c .before .before .put-number .ensures) (c .put-els .ensures)
 
 pub put-fact-spec : {M : Type 1} → statement M
-put-fact-spec = tie.close (tie.spec put-number-requires put-els-requires returns)
+put-fact-spec = tie.close (tie.spec (λ c κs. search needs) (λ c κs. search needs) returns)

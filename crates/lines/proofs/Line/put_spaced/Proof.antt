@@ -4,14 +4,8 @@ use borrow.Author.Needs.{needs}
 use Rattle.lines.proofs.Line.put_spaced.Statement.{statement}
 use Rattle.lines.proofs.Line.put_spaced.Tie as tie
 
-put-requires : tie.Need-put-requires
-put-requires c κs = search needs
-
-put-decimal-requires : tie.Need-put-decimal-requires
-put-decimal-requires c κs = search needs
-
 returns : tie.Need-returns
 returns c = add-wide _ (c .before .before .args .x) (search needs) (c .before .put .ensures) (c .put-decimal .ensures)
 
 pub put-spaced-spec : {M : Type 1} → statement M
-put-spaced-spec = tie.close (tie.spec put-requires put-decimal-requires returns)
+put-spaced-spec = tie.close (tie.spec (λ c κs. search needs) (λ c κs. search needs) returns)

@@ -4,9 +4,6 @@ use borrow.Author.Needs.{needs}
 use Rattle.lines.proofs.Line.size.Statement.{statement}
 use Rattle.lines.proofs.Line.size.Tie as tie
 
-cast-n : tie.Need-cast-n
-cast-n c = search needs
-
 returns : tie.Need-returns
 returns c = size-below _ _ (search needs) (c .if1 .taken)
 
@@ -14,4 +11,4 @@ returns-2 : tie.Need-returns-2
 returns-2 c = size-over _ _ (search needs) (c .if1 .left)
 
 pub size-spec : {M : Type 1} → statement M
-size-spec = tie.close (tie.spec cast-n returns returns-2)
+size-spec = tie.close (tie.spec (λ c. search needs) returns returns-2)

@@ -14,46 +14,10 @@ word-a c = search needs
 word-b : (c : tie.Start) → c .args .self .b ≤ most-word
 word-b c = search needs
 
-is-within-requires : tie.Need-is-within-requires
-is-within-requires c κs = search needs
-
 returns : tie.Need-returns
 returns c =
     let s = c .before .before .before .before in
     as-mor _ (word-a s) (word-b s) (c .before .before .before .match .keys1) (c .before .if1 .taken) (c .is-within .ensures)
-
-is-within-requires-2 : tie.Need-is-within-requires-2
-is-within-requires-2 c κs = search needs
-
-is-within-requires-3 : tie.Need-is-within-requires-3
-is-within-requires-3 c κs = search needs
-
-is-within-requires-4 : tie.Need-is-within-requires-4
-is-within-requires-4 c κs = search needs
-
-is-within-requires-5 : tie.Need-is-within-requires-5
-is-within-requires-5 c κs = search needs
-
-is-within-requires-6 : tie.Need-is-within-requires-6
-is-within-requires-6 c κs = search needs
-
-is-within-requires-7 : tie.Need-is-within-requires-7
-is-within-requires-7 c κs = search needs
-
-is-within-requires-8 : tie.Need-is-within-requires-8
-is-within-requires-8 c κs = search needs
-
-is-within-requires-9 : tie.Need-is-within-requires-9
-is-within-requires-9 c κs = search needs
-
-is-within-requires-10 : tie.Need-is-within-requires-10
-is-within-requires-10 c κs = search needs
-
-is-within-requires-11 : tie.Need-is-within-requires-11
-is-within-requires-11 c κs = search needs
-
-is-within-requires-12 : tie.Need-is-within-requires-12
-is-within-requires-12 c κs = search needs
 
 returns-2 : tie.Need-returns-2
 returns-2 c = as-type _ (c .before .before .before .match .keys1) (c .before .if1 .left) (c .is-within2 .ensures)
@@ -120,19 +84,19 @@ pub fits-spec : {M : Type 1} → statement M
 fits-spec =
     tie.close
     (tie.spec
-    is-within-requires
+    (λ c κs. search needs)
     returns
-    is-within-requires-2
-    is-within-requires-3
-    is-within-requires-4
-    is-within-requires-5
-    is-within-requires-6
-    is-within-requires-7
-    is-within-requires-8
-    is-within-requires-9
-    is-within-requires-10
-    is-within-requires-11
-    is-within-requires-12
+    (λ c κs. search needs)
+    (λ c κs. search needs)
+    (λ c κs. search needs)
+    (λ c κs. search needs)
+    (λ c κs. search needs)
+    (λ c κs. search needs)
+    (λ c κs. search needs)
+    (λ c κs. search needs)
+    (λ c κs. search needs)
+    (λ c κs. search needs)
+    (λ c κs. search needs)
     returns-2
     returns-3
     returns-4

@@ -13,16 +13,10 @@ returns c = stop-a _ _ _ _ _ _ (c .if1 .taken)
 returns-2 : tie.Need-returns-2
 returns-2 c = stop-b _ _ _ _ _ _ (c .before .if1 .left) (c .if2 .taken)
 
-list-fits-requires : tie.Need-list-fits-requires
-list-fits-requires c κs = search needs
-
 returns-3 : tie.Need-returns-3
 returns-3 c =
     let e = c .before .before .before .before in
     stop-parents _ _ _ _ _ _ (e .before .if1 .left) (e .if2 .left) (fails (c .before .list-fits .ensures) (c .if3 .taken))
-
-list-fits-requires-2 : tie.Need-list-fits-requires-2
-list-fits-requires-2 c κs = search needs
 
 returns-4 : tie.Need-returns-4
 returns-4 c =
@@ -30,9 +24,6 @@ returns-4 c =
     stop-args _ _ _ _ _ _ (e .before .if1 .left) (e .if2 .left)
     (holds (c .before .before .before .list-fits .ensures) (c .before .before .if3 .left))
     (fails (c .before .list-fits2 .ensures) (c .if4 .taken))
-
-element-copy-out-if5 : tie.Need-element-copy-out-if5
-element-copy-out-if5 c = search needs
 
 returns-5 : tie.Need-returns-5
 returns-5 c =
@@ -42,9 +33,6 @@ returns-5 c =
     (holds (c .before .before .before .before .before .list-fits .ensures) (c .before .before .before .before .if3 .left))
     (holds (c .before .before .before .list-fits2 .ensures) (c .before .before .if4 .left))
     (pair-off _ two (c .if5 .taken))
-
-element-copy-out-result : tie.Need-element-copy-out-result
-element-copy-out-result c = search needs
 
 returns-6 : tie.Need-returns-6
 returns-6 c =
@@ -61,11 +49,11 @@ is-within-spec =
     (tie.spec
     returns
     returns-2
-    list-fits-requires
+    (λ c κs. search needs)
     returns-3
-    list-fits-requires-2
+    (λ c κs. search needs)
     returns-4
-    element-copy-out-if5
+    (λ c. search needs)
     returns-5
-    element-copy-out-result
+    (λ c. search needs)
     returns-6)

@@ -17,20 +17,8 @@ Inv-loop func self n i₀ i = inMorApps (func .0) (drop i (viewMorApps self)) �
 abbrev μ-loop : tie.MeasureT-loop
 μ-loop func self n i₀ i = n - i
 
-size-requires : tie.Need-size-requires Inv-loop μ-loop
-size-requires c κs = search needs
-
 loop-holds : tie.Need-loop-holds Inv-loop μ-loop
 loop-holds c = refl
-
-cast-at : tie.Need-cast-at Inv-loop μ-loop
-cast-at c = search needs
-
-mul-given : tie.Need-mul-given Inv-loop μ-loop
-mul-given c = search needs
-
-element-copy-out-given : tie.Need-element-copy-out-given Inv-loop μ-loop
-element-copy-out-given c = search needs
 
 returns : tie.Need-returns Inv-loop μ-loop
 returns c =
@@ -39,12 +27,6 @@ returns c =
     let t = sized .before .args .t1 in
     let is = eq-eqb _ _ (c .if1 .taken) in
     found (by-func _) morAppOf (t .len) (t .items) (sized .size .ensures) _ (test .before .loop .inv) _ (test .loop-test .taken) is
-
-add-i : tie.Need-add-i Inv-loop μ-loop
-add-i c = search needs
-
-loop-less : tie.Need-loop-less Inv-loop μ-loop
-loop-less c = search needs
 
 loop-again : tie.Need-loop-again Inv-loop μ-loop
 loop-again c =
@@ -66,13 +48,13 @@ has-func-spec =
     (tie.spec
     Inv-loop
     μ-loop
-    size-requires
+    (λ c κs. search needs)
     loop-holds
-    cast-at
-    mul-given
-    element-copy-out-given
+    (λ c. search needs)
+    (λ c. search needs)
+    (λ c. search needs)
     returns
-    add-i
-    loop-less
+    (λ c. search needs)
+    (λ c. search needs)
     loop-again
     returns-2)

@@ -6,12 +6,6 @@ use borrow.Author.Needs.{needs}
 use Rattle.signature.proofs.MorAppFuncs.size.Statement.{statement}
 use Rattle.signature.proofs.MorAppFuncs.size.Tie as tie
 
-cast-if1 : tie.Need-cast-if1
-cast-if1 c = search needs
-
-cast-result : tie.Need-cast-result
-cast-result c = search needs
-
 returns : tie.Need-returns
 returns c =
     let t = c .before .args .self in
@@ -23,4 +17,4 @@ returns-2 c =
     size-over morAppOf (t .len) (t .items) maxMorApps (search (needs, long)) (c .if1 .left)
 
 pub size-spec : {M : Type 1} → statement M
-size-spec = tie.close (tie.spec cast-if1 cast-result returns returns-2)
+size-spec = tie.close (tie.spec (λ c. search needs) (λ c. search needs) returns returns-2)

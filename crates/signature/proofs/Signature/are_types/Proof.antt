@@ -5,14 +5,8 @@ use borrow.Author.Needs.{needs}
 use Rattle.signature.proofs.Signature.are_types.Statement.{statement}
 use Rattle.signature.proofs.Signature.are_types.Tie as tie
 
-size-requires : tie.Need-size-requires
-size-requires c κs = search needs
-
-all-below-requires : tie.Need-all-below-requires
-all-below-requires c κs = search needs
-
 returns : tie.Need-returns
 returns c = c .all-below .ensures ∙ (λ k. allBelow (c .before .size .ensures .is k) (typesOf (c .before .before .before .args .ts)))
 
 pub are-types-spec : {M : Type 1} → statement M
-are-types-spec = tie.close (tie.spec size-requires all-below-requires returns)
+are-types-spec = tie.close (tie.spec (λ c κs. search needs) (λ c κs. search needs) returns)

@@ -5,11 +5,8 @@ use borrow.Author.Needs.{needs}
 use Rattle.signature.proofs.Signature.is_func.Statement.{statement}
 use Rattle.signature.proofs.Signature.is_func.Tie as tie
 
-size-requires : tie.Need-size-requires
-size-requires c κs = search needs
-
 returns : tie.Need-returns
 returns c = ap (ltb (c .before .before .before .args .f .0)) (c .before .size .ensures .is)
 
 pub is-func-spec : {M : Type 1} → statement M
-is-func-spec = tie.close (tie.spec size-requires returns)
+is-func-spec = tie.close (tie.spec (λ c κs. search needs) returns)

@@ -6,21 +6,6 @@ use borrow.Author.Needs.{needs}
 use Rattle.signature.proofs.Signature.is_model.Statement.{statement}
 use Rattle.signature.proofs.Signature.is_model.Tie as tie
 
-get-requires : tie.Need-get-requires
-get-requires c κs = search needs
-
-enum-told : tie.Need-enum-told
-enum-told c = search needs
-
-enum-told-2 : tie.Need-enum-told-2
-enum-told-2 c = search needs
-
-enum-told-3 : tie.Need-enum-told-3
-enum-told-3 c = search needs
-
-enum-told-4 : tie.Need-enum-told-4
-enum-told-4 c = search needs
-
 returns : tie.Need-returns
 unfolding isModel
 returns c = ap kindIsModel (kind-told (c .before .before .get .result) _ _ (c .before .before .get .ensures) (c .enum-told .given .1))
@@ -41,11 +26,11 @@ pub is-model-spec : {M : Type 1} → statement M
 is-model-spec =
     tie.close
     (tie.spec
-    get-requires
-    enum-told
-    enum-told-2
-    enum-told-3
-    enum-told-4
+    (λ c κs. search needs)
+    (λ c. search needs)
+    (λ c. search needs)
+    (λ c. search needs)
+    (λ c. search needs)
     returns
     returns-2
     returns-3

@@ -6,21 +6,6 @@ use borrow.Author.Needs.{needs}
 use Rattle.signature.proofs.Signature.is_mor_of.Statement.{statement}
 use Rattle.signature.proofs.Signature.is_mor_of.Tie as tie
 
-get-requires : tie.Need-get-requires
-get-requires c κs = search needs
-
-enum-told : tie.Need-enum-told
-enum-told c = search needs
-
-enum-told-2 : tie.Need-enum-told-2
-enum-told-2 c = search needs
-
-enum-told-3 : tie.Need-enum-told-3
-enum-told-3 c = search needs
-
-enum-known-kind : tie.Need-enum-known-kind
-enum-known-kind c = search needs
-
 returns : tie.Need-returns
 unfolding isMorOf
 returns c =
@@ -50,11 +35,11 @@ pub is-mor-of-spec : {M : Type 1} → statement M
 is-mor-of-spec =
     tie.close
     (tie.spec
-    get-requires
-    enum-told
-    enum-told-2
-    enum-told-3
-    enum-known-kind
+    (λ c κs. search needs)
+    (λ c. search needs)
+    (λ c. search needs)
+    (λ c. search needs)
+    (λ c. search needs)
     returns
     returns-2
     returns-3

@@ -13,18 +13,6 @@ use borrow.Author.Needs.{needs}
 use Rattle.signature.proofs.Signature.lookup_type.Statement.{statement}
 use Rattle.signature.proofs.Signature.lookup_type.Tie as tie
 
-is-too-long-requires : tie.Need-is-too-long-requires
-is-too-long-requires c κs = search needs
-
-refuse-if-requires : tie.Need-refuse-if-requires
-refuse-if-requires c κs = search needs
-
-is-type-requires : tie.Need-is-type-requires
-is-type-requires c κs = search needs
-
-refuse-if-requires-2 : tie.Need-refuse-if-requires-2
-refuse-if-requires-2 c κs = search needs
-
 -- the verdict, as the causes decide it
 so-far : (c : tie.After-refuse-if2) → let a = c .before .before .before .before .args in
     SoFar (verdictOf (c .refuse-if2 .result)) (lookupTypeCauses (sigOf (a .self)) (a .typ .0) (givenEls (a .parents)))
@@ -34,18 +22,9 @@ so-far c =
     let s1 = judge malformed begin (long .refuse-if .ensures) (long .before .is-too-long .ensures) in
     judge undeclared s1 (c .refuse-if2 .ensures) (ap not (c .before .is-type .ensures))
 
-enum-known-verdict : tie.Need-enum-known-verdict
-enum-known-verdict c = search needs
-
 returns : tie.Need-returns
 unfolding lookupType
 returns c = let judged = c .before .before .before in refused-by _ _ (so-far judged) _ (ap verdictOf (c .before .verdict .given .1))
-
-enum-told : tie.Need-enum-told
-enum-told c = search needs
-
-concrete-type-at-requires : tie.Need-concrete-type-at-requires
-concrete-type-at-requires c κs = search needs
 
 returns-2 : tie.Need-returns-2
 unfolding lookupType
@@ -61,12 +40,12 @@ pub lookup-type-spec : {M : Type 1} → statement M
 lookup-type-spec =
     tie.close
     (tie.spec
-    is-too-long-requires
-    refuse-if-requires
-    is-type-requires
-    refuse-if-requires-2
-    enum-known-verdict
+    (λ c κs. search needs)
+    (λ c κs. search needs)
+    (λ c κs. search needs)
+    (λ c κs. search needs)
+    (λ c. search needs)
     returns
-    enum-told
-    concrete-type-at-requires
+    (λ c. search needs)
+    (λ c κs. search needs)
     returns-2)

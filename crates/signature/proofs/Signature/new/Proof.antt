@@ -4,21 +4,6 @@ use borrow.Author.Needs.{needs}
 use Rattle.signature.proofs.Signature.new.Statement.{statement}
 use Rattle.signature.proofs.Signature.new.Tie as tie
 
-new-requires : tie.Need-new-requires
-new-requires c κs = search needs
-
-new-requires-2 : tie.Need-new-requires-2
-new-requires-2 c κs = search needs
-
-new-requires-3 : tie.Need-new-requires-3
-new-requires-3 c κs = search needs
-
-new-requires-4 : tie.Need-new-requires-4
-new-requires-4 c κs = search needs
-
-new-requires-5 : tie.Need-new-requires-5
-new-requires-5 c κs = search needs
-
 returns : tie.Need-returns
 unfolding empty
 returns c =
@@ -33,4 +18,4 @@ returns c =
 pub new-spec : {M : Type 1} → statement M
 new-spec =
     tie.close
-    (tie.spec new-requires new-requires-2 new-requires-3 new-requires-4 new-requires-5 returns)
+    (tie.spec (λ c κs. search needs) (λ c κs. search needs) (λ c κs. search needs) (λ c κs. search needs) (λ c κs. search needs) returns)

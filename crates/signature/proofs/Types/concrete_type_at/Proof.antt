@@ -7,15 +7,6 @@ use borrow.Author.Needs.{needs}
 use Rattle.signature.proofs.Types.concrete_type_at.Statement.{statement}
 use Rattle.signature.proofs.Types.concrete_type_at.Tie as tie
 
-get-requires : tie.Need-get-requires
-get-requires c κs = search needs
-
-size-requires : tie.Need-size-requires
-size-requires c κs = search needs
-
-cast-n : tie.Need-cast-n
-cast-n c = search needs
-
 returns : tie.Need-returns
 returns c =
     let parents = c .before .size .ensures .is ∙ ap (λ (t : TypeM). length (t .parents)) (c .before .before .before .get .ensures) in
@@ -27,4 +18,4 @@ returns-2 c =
     enough _ _ _ _ parents (c .if1 .left)
 
 pub concrete-type-at-spec : {M : Type 1} → statement M
-concrete-type-at-spec = tie.close (tie.spec get-requires size-requires cast-n returns returns-2)
+concrete-type-at-spec = tie.close (tie.spec (λ c κs. search needs) (λ c κs. search needs) (λ c. search needs) returns returns-2)

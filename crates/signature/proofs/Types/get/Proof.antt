@@ -6,27 +6,12 @@ use borrow.Author.Needs.{needs}
 use Rattle.signature.proofs.Types.get.Statement.{statement}
 use Rattle.signature.proofs.Types.get.Tie as tie
 
-size-requires : tie.Need-size-requires
-size-requires c κs = search needs
-
-new-requires : tie.Need-new-requires
-new-requires c κs = search needs
-
 returns : tie.Need-returns
 returns c =
     let sized = c .before .before .before in
     let t = sized .before .args .t1 in
     (λ k. type-entry plain (c .new .ensures k))
     ∙ get-past typeOf (t .len) (t .items) (sized .size .ensures) (sized .before .args .id .0) noType (c .before .if1 .taken)
-
-cast-at : tie.Need-cast-at
-cast-at c = search needs
-
-mul-result : tie.Need-mul-result
-mul-result c = search needs
-
-element-copy-out-result : tie.Need-element-copy-out-result
-element-copy-out-result c = search needs
 
 returns-2 : tie.Need-returns-2
 returns-2 c =
@@ -38,10 +23,10 @@ pub get-spec : {M : Type 1} → statement M
 get-spec =
     tie.close
     (tie.spec
-    size-requires
-    new-requires
+    (λ c κs. search needs)
+    (λ c κs. search needs)
     returns
-    cast-at
-    mul-result
-    element-copy-out-result
+    (λ c. search needs)
+    (λ c. search needs)
+    (λ c. search needs)
     returns-2)

@@ -8,9 +8,6 @@ use borrow.Author.Needs.{needs}
 use Rattle.structure.proofs.Structure.accept.Statement.{statement}
 use Rattle.structure.proofs.Structure.accept.Tie as tie
 
-settled-by-requires : tie.Need-settled-by-requires
-settled-by-requires c κs = search needs
-
 returns : tie.Need-returns
 unfolding leaves
 returns c =
@@ -18,4 +15,4 @@ returns c =
     λ g i. answers (answerOf [] (a .answer)) (machine g (with-flags true (c .settled-by .ensures i) (structureOf (a .self))))
 
 pub accept-spec : {M : Type 1} → statement M
-accept-spec = tie.close (tie.spec settled-by-requires returns)
+accept-spec = tie.close (tie.spec (λ c κs. search needs) returns)

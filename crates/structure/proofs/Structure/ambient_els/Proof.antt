@@ -28,12 +28,6 @@ Inv-loop types els₀ table n i₀ els i =
 abbrev μ-loop : tie.MeasureT-loop
 μ-loop types els₀ table n i₀ els i = n - i
 
-new-requires : tie.Need-new-requires Inv-loop μ-loop
-new-requires c κs = search needs
-
-size-requires : tie.Need-size-requires Inv-loop μ-loop
-size-requires c κs = search needs
-
 abbrev start : tie.After-size Inv-loop μ-loop → tie.Start Inv-loop μ-loop
 start c = c .before .before .before
 
@@ -68,21 +62,6 @@ loop-holds c =
       omega arith,
     )
 
-mul-typ : tie.Need-mul-typ Inv-loop μ-loop
-mul-typ c = search needs
-
-element-copy-out-typ : tie.Need-element-copy-out-typ Inv-loop μ-loop
-element-copy-out-typ c = search needs
-
-get-requires : tie.Need-get-requires Inv-loop μ-loop
-get-requires c κs = search needs
-
-enum-known-el : tie.Need-enum-known-el Inv-loop μ-loop
-enum-known-el c = search needs
-
-enum-told : tie.Need-enum-told Inv-loop μ-loop
-enum-told c = search needs
-
 returns : tie.Need-returns Inv-loop μ-loop
 returns c =
     let got = c .before .before in
@@ -91,24 +70,6 @@ returns c =
     let nothing = sym (ap bindings.elOf (c .enum-told .given .1)) ∙ got .get .ensures in
     let lacks = sym (test .before .loop .inv .2) ∙ ap (λ (ts : List ℕ). haveAmbients ts (ambientsOf table)) (next test) ∙ have-none _ _ _ nothing in
     (sym lacks, λ e. absurd (no-test e refl))
-
-mul-el : tie.Need-mul-el Inv-loop μ-loop
-mul-el c = search needs
-
-element-set-from-el : tie.Need-element-set-from-el Inv-loop μ-loop
-element-set-from-el c = search needs
-
-add-els : tie.Need-add-els Inv-loop μ-loop
-add-els c = search needs
-
-cast-els : tie.Need-cast-els Inv-loop μ-loop
-cast-els c = search needs
-
-add-i : tie.Need-add-i Inv-loop μ-loop
-add-i c = search needs
-
-loop-less : tie.Need-loop-less Inv-loop μ-loop
-loop-less c = search needs
 
 loop-again : tie.Need-loop-again Inv-loop μ-loop
 loop-again c =
@@ -153,20 +114,20 @@ ambient-els-spec =
     (tie.spec
     Inv-loop
     μ-loop
-    new-requires
-    size-requires
+    (λ c κs. search needs)
+    (λ c κs. search needs)
     loop-holds
-    mul-typ
-    element-copy-out-typ
-    get-requires
-    enum-known-el
-    enum-told
+    (λ c. search needs)
+    (λ c. search needs)
+    (λ c κs. search needs)
+    (λ c. search needs)
+    (λ c. search needs)
     returns
-    mul-el
-    element-set-from-el
-    add-els
-    cast-els
-    add-i
-    loop-less
+    (λ c. search needs)
+    (λ c. search needs)
+    (λ c. search needs)
+    (λ c. search needs)
+    (λ c. search needs)
+    (λ c. search needs)
     loop-again
     returns-2)

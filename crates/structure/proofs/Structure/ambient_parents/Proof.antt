@@ -23,30 +23,6 @@ use borrow.Author.Needs.{needs}
 use Rattle.structure.proofs.Structure.ambient_parents.Statement.{statement}
 use Rattle.structure.proofs.Structure.ambient_parents.Tie as tie
 
-ambient-els-requires : tie.Need-ambient-els-requires
-ambient-els-requires c κs = search needs
-
-is-too-long-requires : tie.Need-is-too-long-requires
-is-too-long-requires c κs = search needs
-
-refuse-if-requires : tie.Need-refuse-if-requires
-refuse-if-requires c κs = search needs
-
-are-types-requires : tie.Need-are-types-requires
-are-types-requires c κs = search needs
-
-refuse-if-requires-2 : tie.Need-refuse-if-requires-2
-refuse-if-requires-2 c κs = search needs
-
-refuse-if-requires-3 : tie.Need-refuse-if-requires-3
-refuse-if-requires-3 c κs = search needs
-
-enum-known-verdict : tie.Need-enum-known-verdict
-enum-known-verdict c = search needs
-
-new-requires : tie.Need-new-requires
-new-requires c κs = search needs
-
 abbrev looked : tie.After-refuse-if3 → tie.After-ambient-els
 looked c = c .before .before .before .before .before .before .before
 
@@ -82,9 +58,6 @@ returns c =
     let none = none-given (c .new .result) (long _ (c .new .result .ids) _ (c .new .ok .1 .1 .0 .1 .0 .1)) (c .new .ensures) in
     ap (beside (refusal m _)) none ∙ ap looking (step-refuses _ m (so-far judged) _ (ap verdictOf (c .before .before .verdict .given .1)))
 
-enum-told : tie.Need-enum-told
-enum-told c = search needs
-
 returns-2 : tie.Need-returns-2
 unfolding rule ambientParentsCauses acceptance leaves settledBy
 returns-2 c =
@@ -102,14 +75,14 @@ pub ambient-parents-spec : {M : Type 1} → statement M
 ambient-parents-spec =
     tie.close
     (tie.spec
-    ambient-els-requires
-    is-too-long-requires
-    refuse-if-requires
-    are-types-requires
-    refuse-if-requires-2
-    refuse-if-requires-3
-    enum-known-verdict
-    new-requires
+    (λ c κs. search needs)
+    (λ c κs. search needs)
+    (λ c κs. search needs)
+    (λ c κs. search needs)
+    (λ c κs. search needs)
+    (λ c κs. search needs)
+    (λ c. search needs)
+    (λ c κs. search needs)
     returns
-    enum-told
+    (λ c. search needs)
     returns-2)

@@ -5,17 +5,8 @@ use borrow.Author.Needs.{needs}
 use Rattle.structure.proofs.Structure.are_els.Statement.{statement}
 use Rattle.structure.proofs.Structure.are_els.Tie as tie
 
-size-requires : tie.Need-size-requires
-size-requires c κs = search needs
-
-cast-all-below : tie.Need-cast-all-below
-cast-all-below c = search needs
-
-all-below-requires : tie.Need-all-below-requires
-all-below-requires c κs = search needs
-
 returns : tie.Need-returns
 returns c = c .all-below .ensures ∙ (λ k. allBelow (c .before .size .ensures .is k) (elsOf (c .before .before .before .args .els)))
 
 pub are-els-spec : {M : Type 1} → statement M
-are-els-spec = tie.close (tie.spec size-requires cast-all-below all-below-requires returns)
+are-els-spec = tie.close (tie.spec (λ c κs. search needs) (λ c. search needs) (λ c κs. search needs) returns)

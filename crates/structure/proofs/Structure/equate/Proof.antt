@@ -27,30 +27,6 @@ many-marks c = long _ (c .args .self .«inferred_parent_els») _ (c .good .0 .1 
 many-links : (c : tie.Start) → length (c .args .self .unification .links) ≡ maxEls
 many-links c = long _ (c .args .self .unification .links) _ (c .good .0 .1 .1 .1 .1 .1 .1 .1 .0 .1 .1 .0 .1 .0 .1)
 
-is-el-requires : tie.Need-is-el-requires
-is-el-requires c κs = search needs
-
-is-el-requires-2 : tie.Need-is-el-requires-2
-is-el-requires-2 c κs = search needs
-
-and-requires : tie.Need-and-requires
-and-requires c κs = search needs
-
-refuse-if-requires : tie.Need-refuse-if-requires
-refuse-if-requires c κs = search needs
-
-size-requires : tie.Need-size-requires
-size-requires c κs = search needs
-
-refuse-if-requires-2 : tie.Need-refuse-if-requires-2
-refuse-if-requires-2 c κs = search needs
-
-enum-known-verdict : tie.Need-enum-known-verdict
-enum-known-verdict c = search needs
-
-refuse-requires : tie.Need-refuse-requires
-refuse-requires c κs = search needs
-
 abbrev start : tie.After-refuse-if2 → tie.Start
 start c = c .before .before .before .before .before .before .before .before
 
@@ -69,15 +45,6 @@ returns : tie.Need-returns
 unfolding rule equalityRule
 returns c = λ g. c .refuse .ensures g ∙ step-refuses _ _ (so-far (c .before .before .before .before)) _ (ap verdictOf (c .before .before .verdict .given .1))
 
-enum-told : tie.Need-enum-told
-enum-told c = search needs
-
-equate-requires : tie.Need-equate-requires
-equate-requires c κs = search needs
-
-accept-requires : tie.Need-accept-requires
-accept-requires c κs = search needs
-
 returns-2 : tie.Need-returns-2
 unfolding rule equalityRule equalityCauses acceptance
 returns-2 c =
@@ -95,16 +62,16 @@ pub equate-spec : {M : Type 1} → statement M
 equate-spec =
     tie.close
     (tie.spec
-    is-el-requires
-    is-el-requires-2
-    and-requires
-    refuse-if-requires
-    size-requires
-    refuse-if-requires-2
-    enum-known-verdict
-    refuse-requires
+    (λ c κs. search needs)
+    (λ c κs. search needs)
+    (λ c κs. search needs)
+    (λ c κs. search needs)
+    (λ c κs. search needs)
+    (λ c κs. search needs)
+    (λ c. search needs)
+    (λ c κs. search needs)
     returns
-    enum-told
-    equate-requires
-    accept-requires
+    (λ c. search needs)
+    (λ c κs. search needs)
+    (λ c κs. search needs)
     returns-2)

@@ -22,36 +22,6 @@ use borrow.Author.Needs.{needs}
 use Rattle.structure.proofs.Structure.insert_ambient_model_el.Statement.{statement}
 use Rattle.structure.proofs.Structure.insert_ambient_model_el.Tie as tie
 
-is-type-requires : tie.Need-is-type-requires
-is-type-requires c κs = search needs
-
-is-el-requires : tie.Need-is-el-requires
-is-el-requires c κs = search needs
-
-and-requires : tie.Need-and-requires
-and-requires c κs = search needs
-
-refuse-if-requires : tie.Need-refuse-if-requires
-refuse-if-requires c κs = search needs
-
-is-model-requires : tie.Need-is-model-requires
-is-model-requires c κs = search needs
-
-refuse-if-requires-2 : tie.Need-refuse-if-requires-2
-refuse-if-requires-2 c κs = search needs
-
-contains-requires : tie.Need-contains-requires
-contains-requires c κs = search needs
-
-refuse-if-requires-3 : tie.Need-refuse-if-requires-3
-refuse-if-requires-3 c κs = search needs
-
-enum-known-verdict : tie.Need-enum-known-verdict
-enum-known-verdict c = search needs
-
-refuse-requires : tie.Need-refuse-requires
-refuse-requires c κs = search needs
-
 abbrev start : tie.After-refuse-if3 → tie.Start
 start c = c .before .before .before .before .before .before .before .before .before
 
@@ -71,15 +41,6 @@ so-far c =
 returns : tie.Need-returns
 unfolding rule
 returns c = c .refuse .ensures _ ∙ step-refuses _ _ (so-far (c .before .before .before .before)) _ (ap verdictOf (c .before .before .verdict .given .1))
-
-enum-told : tie.Need-enum-told
-enum-told c = search needs
-
-insert-requires : tie.Need-insert-requires
-insert-requires c κs = search needs
-
-accept-requires : tie.Need-accept-requires
-accept-requires c κs = search needs
 
 -- a type that is there has a slot
 in-range : (c : tie.Start) → isType (sigOf (c .args .signature)) (c .args .a .typ .0) ≡ true → c .args .a .typ .0 < maxTypes
@@ -103,18 +64,18 @@ pub insert-ambient-model-el-spec : {M : Type 1} → statement M
 insert-ambient-model-el-spec =
     tie.close
     (tie.spec
-    is-type-requires
-    is-el-requires
-    and-requires
-    refuse-if-requires
-    is-model-requires
-    refuse-if-requires-2
-    contains-requires
-    refuse-if-requires-3
-    enum-known-verdict
-    refuse-requires
+    (λ c κs. search needs)
+    (λ c κs. search needs)
+    (λ c κs. search needs)
+    (λ c κs. search needs)
+    (λ c κs. search needs)
+    (λ c κs. search needs)
+    (λ c κs. search needs)
+    (λ c κs. search needs)
+    (λ c. search needs)
+    (λ c κs. search needs)
     returns
-    enum-told
-    insert-requires
-    accept-requires
+    (λ c. search needs)
+    (λ c κs. search needs)
+    (λ c κs. search needs)
     returns-2)

@@ -15,30 +15,6 @@ use borrow.Author.Needs.{needs}
 use Rattle.structure.proofs.Structure.insert_var_el.Statement.{statement}
 use Rattle.structure.proofs.Structure.insert_var_el.Tie as tie
 
-cast-key : tie.Need-cast-key
-cast-key c = search needs
-
-refuse-if-requires : tie.Need-refuse-if-requires
-refuse-if-requires c κs = search needs
-
-is-el-requires : tie.Need-is-el-requires
-is-el-requires c κs = search needs
-
-refuse-if-requires-2 : tie.Need-refuse-if-requires-2
-refuse-if-requires-2 c κs = search needs
-
-contains-requires : tie.Need-contains-requires
-contains-requires c κs = search needs
-
-refuse-if-requires-3 : tie.Need-refuse-if-requires-3
-refuse-if-requires-3 c κs = search needs
-
-enum-known-verdict : tie.Need-enum-known-verdict
-enum-known-verdict c = search needs
-
-refuse-requires : tie.Need-refuse-requires
-refuse-requires c κs = search needs
-
 abbrev start : tie.After-refuse-if3 → tie.Start
 start c = c .before .before .before .before .before .before .before
 
@@ -57,15 +33,6 @@ returns : tie.Need-returns
 unfolding rule
 returns c = λ g. c .refuse .ensures g ∙ step-refuses _ _ (so-far (c .before .before .before .before)) _ (ap verdictOf (c .before .before .verdict .given .1))
 
-enum-told : tie.Need-enum-told
-enum-told c = search needs
-
-insert-requires : tie.Need-insert-requires
-insert-requires c κs = search needs
-
-accept-requires : tie.Need-accept-requires
-accept-requires c κs = search needs
-
 returns-2 : tie.Need-returns-2
 unfolding rule variableCauses acceptance withVar
 returns-2 c =
@@ -80,16 +47,16 @@ pub insert-var-el-spec : {M : Type 1} → statement M
 insert-var-el-spec =
     tie.close
     (tie.spec
-    cast-key
-    refuse-if-requires
-    is-el-requires
-    refuse-if-requires-2
-    contains-requires
-    refuse-if-requires-3
-    enum-known-verdict
-    refuse-requires
+    (λ c. search needs)
+    (λ c κs. search needs)
+    (λ c κs. search needs)
+    (λ c κs. search needs)
+    (λ c κs. search needs)
+    (λ c κs. search needs)
+    (λ c. search needs)
+    (λ c κs. search needs)
     returns
-    enum-told
-    insert-requires
-    accept-requires
+    (λ c. search needs)
+    (λ c κs. search needs)
+    (λ c κs. search needs)
     returns-2)

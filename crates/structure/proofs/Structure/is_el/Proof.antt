@@ -5,14 +5,8 @@ use borrow.Author.Needs.{needs}
 use Rattle.structure.proofs.Structure.is_el.Statement.{statement}
 use Rattle.structure.proofs.Structure.is_el.Tie as tie
 
-cast-at : tie.Need-cast-at
-cast-at c = search needs
-
-size-requires : tie.Need-size-requires
-size-requires c κs = search needs
-
 returns : tie.Need-returns
 returns c = ap (ltb (c .before .before .before .args .el .0)) (c .size .ensures .is)
 
 pub is-el-spec : {M : Type 1} → statement M
-is-el-spec = tie.close (tie.spec cast-at size-requires returns)
+is-el-spec = tie.close (tie.spec (λ c. search needs) (λ c κs. search needs) returns)

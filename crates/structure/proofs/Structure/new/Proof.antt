@@ -8,30 +8,6 @@ use borrow.Author.Needs.{needs}
 use Rattle.structure.proofs.Structure.new.Statement.{statement}
 use Rattle.structure.proofs.Structure.new.Tie as tie
 
-new-requires : tie.Need-new-requires
-new-requires c κs = search needs
-
-new-requires-2 : tie.Need-new-requires-2
-new-requires-2 c κs = search needs
-
-new-requires-3 : tie.Need-new-requires-3
-new-requires-3 c κs = search needs
-
-new-requires-4 : tie.Need-new-requires-4
-new-requires-4 c κs = search needs
-
-new-requires-5 : tie.Need-new-requires-5
-new-requires-5 c κs = search needs
-
-new-requires-6 : tie.Need-new-requires-6
-new-requires-6 c κs = search needs
-
-new-requires-7 : tie.Need-new-requires-7
-new-requires-7 c κs = search needs
-
-new-requires-8 : tie.Need-new-requires-8
-new-requires-8 c κs = search needs
-
 returns : tie.Need-returns
 unfolding empty
 returns c =
@@ -50,12 +26,12 @@ pub new-spec : {M : Type 1} → statement M
 new-spec =
     tie.close
     (tie.spec
-    new-requires
-    new-requires-2
-    new-requires-3
-    new-requires-4
-    new-requires-5
-    new-requires-6
-    new-requires-7
-    new-requires-8
+    (λ c κs. search needs)
+    (λ c κs. search needs)
+    (λ c κs. search needs)
+    (λ c κs. search needs)
+    (λ c κs. search needs)
+    (λ c κs. search needs)
+    (λ c κs. search needs)
+    (λ c κs. search needs)
     returns)

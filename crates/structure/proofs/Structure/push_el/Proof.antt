@@ -29,18 +29,6 @@ many-marks c = long _ (c .args .self .«inferred_parent_els») _ (c .good .0 .1 
 many-links : (c : tie.Start) → length (c .args .self .unification .links) ≡ maxEls
 many-links c = long _ (c .args .self .unification .links) _ (c .good .0 .1 .1 .1 .1 .1 .1 .1 .0 .1 .1 .0 .1 .0 .1)
 
-size-requires : tie.Need-size-requires
-size-requires c κs = search needs
-
-refuse-if-requires : tie.Need-refuse-if-requires
-refuse-if-requires c κs = search needs
-
-enum-known-verdict : tie.Need-enum-known-verdict
-enum-known-verdict c = search needs
-
-refuse-requires : tie.Need-refuse-requires
-refuse-requires c κs = search needs
-
 -- the verdict, as the causes decide it
 so-far : (c : tie.After-refuse-if) → SoFar (verdictOf (c .refuse-if .result)) (elCauses (structureOf (c .before .before .before .args .self)))
 unfolding elCauses
@@ -49,9 +37,6 @@ so-far c = judge noRoom begin (c .refuse-if .ensures) (ap (leb maxEls) (c .befor
 returns : tie.Need-returns
 unfolding rule
 returns c = λ g. c .refuse .ensures g ∙ step-refuses _ _ (so-far (c .before .before .before .before)) _ (ap verdictOf (c .before .before .verdict .given .1))
-
-enum-told : tie.Need-enum-told
-enum-told c = search needs
 
 room : (c : tie.After-enum-told) → c .before .before .before .size .result < maxEls
 unfolding elCauses
@@ -63,15 +48,6 @@ room c =
 
 element-write-next : tie.Need-element-write-next
 element-write-next c = room c
-
-increase-size-requires : tie.Need-increase-size-requires
-increase-size-requires c κs = search needs
-
-cast-t14 : tie.Need-cast-t14
-cast-t14 c = search needs
-
-accept-requires : tie.Need-accept-requires
-accept-requires c κs = search needs
 
 returns-2 : tie.Need-returns-2
 unfolding rule acceptance withEl
@@ -92,14 +68,14 @@ pub push-el-spec : {M : Type 1} → statement M
 push-el-spec =
     tie.close
     (tie.spec
-    size-requires
-    refuse-if-requires
-    enum-known-verdict
-    refuse-requires
+    (λ c κs. search needs)
+    (λ c κs. search needs)
+    (λ c. search needs)
+    (λ c κs. search needs)
     returns
-    enum-told
+    (λ c. search needs)
     element-write-next
-    increase-size-requires
-    cast-t14
-    accept-requires
+    (λ c κs. search needs)
+    (λ c. search needs)
+    (λ c κs. search needs)
     returns-2)

@@ -24,9 +24,6 @@ many-marks c = long _ (c .args .self .«inferred_parent_els») _ (c .good .0 .1 
 many-links : (c : tie.Start) → length (c .args .self .unification .links) ≡ maxEls
 many-links c = long _ (c .args .self .unification .links) _ (c .good .0 .1 .1 .1 .1 .1 .1 .1 .0 .1 .1 .0 .1 .0 .1)
 
-root-requires : tie.Need-root-requires
-root-requires c κs = search needs
-
 returns : tie.Need-returns
 unfolding rule roots.root
 returns c =
@@ -42,4 +39,4 @@ returns c =
     λ g. (λ i. answers (answer i) (machine g (with-links (found i .after) (with-marks (marked i) (structureOf s))))) ∙ find-steps g (structureOf s) (start .args .el .0) _ _ refl
 
 pub root-spec : {M : Type 1} → statement M
-root-spec = tie.close (tie.spec root-requires returns)
+root-spec = tie.close (tie.spec (λ c κs. search needs) returns)

@@ -12,9 +12,6 @@ use borrow.Author.Needs.{needs}
 use Rattle.structure.proofs.Structure.root_const.Statement.{statement}
 use Rattle.structure.proofs.Structure.root_const.Tie as tie
 
-root-const-requires : tie.Need-root-const-requires
-root-const-requires c κs = search needs
-
 returns : tie.Need-returns
 unfolding rule rootConst
 returns c =
@@ -24,4 +21,4 @@ returns c =
     λ g. (λ i. answers (answer i) (machine g (with-links (found i .after) (structureOf (a .self))))) ∙ find-steps g _ (a .el .0) _ _ refl
 
 pub root-const-spec : {M : Type 1} → statement M
-root-const-spec = tie.close (tie.spec root-const-requires returns)
+root-const-spec = tie.close (tie.spec (λ c κs. search needs) returns)

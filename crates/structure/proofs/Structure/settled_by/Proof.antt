@@ -13,15 +13,6 @@ use Rattle.structure.proofs.Answer.{the-type}
 use Rattle.structure.proofs.Structure.settled_by.Statement.{statement}
 use Rattle.structure.proofs.Structure.settled_by.Tie as tie
 
-enum-known-answer : tie.Need-enum-known-answer
-enum-known-answer c = search needs
-
-enum-known-answer-2 : tie.Need-enum-known-answer-2
-enum-known-answer-2 c = search needs
-
-and-requires : tie.Need-and-requires
-and-requires c κs = search needs
-
 returns : tie.Need-returns
 unfolding settledBy
 returns c =
@@ -49,4 +40,4 @@ returns-3 : tie.Need-returns-3
 returns-3 c = other (c .before .args .answer) (c .match .keys3)
 
 pub settled-by-spec : {M : Type 1} → statement M
-settled-by-spec = tie.close (tie.spec enum-known-answer enum-known-answer-2 and-requires returns returns-2 returns-3)
+settled-by-spec = tie.close (tie.spec (λ c. search needs) (λ c. search needs) (λ c κs. search needs) returns returns-2 returns-3)

@@ -18,17 +18,8 @@ Inv-loop self x₀ count₀ at to₀ x count to =
 abbrev μ-loop : tie.MeasureT-loop
 μ-loop self x₀ count₀ at to₀ x count to = x
 
-cast-at : tie.Need-cast-at Inv-loop μ-loop
-cast-at c = search needs
-
-size-requires : tie.Need-size-requires Inv-loop μ-loop
-size-requires c κs = search needs
-
 returns : tie.Need-returns Inv-loop μ-loop
 returns c = find-past _ _ (omega (arith, c .before .size .ensures .is))
-
-mul-to : tie.Need-mul-to Inv-loop μ-loop
-mul-to c = search needs
 
 element-copy-out-to : tie.Need-element-copy-out-to Inv-loop μ-loop
 element-copy-out-to c = omega (arith, c .before .size .ensures .most)
@@ -44,18 +35,6 @@ add-count : tie.Need-add-count Inv-loop μ-loop
 add-count c =
     let a = c .before .before .before .before .before .args in
     omega (arith, depth-le (linksOf (a .t1)) (a .el .0))
-
-cast-next : tie.Need-cast-next Inv-loop μ-loop
-cast-next c = search needs
-
-mul-to-2 : tie.Need-mul-to-2 Inv-loop μ-loop
-mul-to-2 c = search needs
-
-element-copy-out-to-2 : tie.Need-element-copy-out-to-2 Inv-loop μ-loop
-element-copy-out-to-2 c = search needs
-
-loop-less : tie.Need-loop-less Inv-loop μ-loop
-loop-less c = search needs
 
 loop-again : tie.Need-loop-again Inv-loop μ-loop
 loop-again c =
@@ -86,16 +65,16 @@ find-spec =
     (tie.spec
     Inv-loop
     μ-loop
-    cast-at
-    size-requires
+    (λ c. search needs)
+    (λ c κs. search needs)
     returns
-    mul-to
+    (λ c. search needs)
     element-copy-out-to
     loop-holds
     add-count
-    cast-next
-    mul-to-2
-    element-copy-out-to-2
-    loop-less
+    (λ c. search needs)
+    (λ c. search needs)
+    (λ c. search needs)
+    (λ c. search needs)
     loop-again
     returns-2)

@@ -12,12 +12,6 @@ use borrow.Author.Needs.{needs}
 use Rattle.unification.proofs.Unification.increase_size.Statement.{statement}
 use Rattle.unification.proofs.Unification.increase_size.Tie as tie
 
-size-requires : tie.Need-size-requires
-size-requires c κs = search needs
-
-cast-el : tie.Need-cast-el
-cast-el c = search needs
-
 -- the table's array, and the elements that it holds
 abbrev table : tie.After-size → Unification
 table c = c .before .args .self
@@ -34,15 +28,6 @@ returns c =
     handed-list 0 (n .result) (u .links) (omega (arith, n .ensures .most, full sized))
     (held ∙ sym (added-full _ (omega (arith, n .ensures .is))))
 
-mul-u : tie.Need-mul-u
-mul-u c = search needs
-
-element-write-u : tie.Need-element-write-u
-element-write-u c = search needs
-
-add-u : tie.Need-add-u
-add-u c = search needs
-
 returns-2 : tie.Need-returns-2
 returns-2 c =
     let sized = c .before in
@@ -53,4 +38,4 @@ returns-2 c =
 
 pub increase-size-spec : {M : Type 1} → statement M
 increase-size-spec =
-    tie.close (tie.spec size-requires cast-el returns mul-u element-write-u add-u returns-2)
+    tie.close (tie.spec (λ c κs. search needs) (λ c. search needs) returns (λ c. search needs) (λ c. search needs) (λ c. search needs) returns-2)

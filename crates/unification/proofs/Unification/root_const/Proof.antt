@@ -9,23 +9,11 @@ use borrow.Author.Needs.{needs}
 use Rattle.unification.proofs.Unification.root_const.Statement.{statement}
 use Rattle.unification.proofs.Unification.root_const.Tie as tie
 
-cast-at : tie.Need-cast-at
-cast-at c = search needs
-
-size-requires : tie.Need-size-requires
-size-requires c κs = search needs
-
-refuse-if-requires : tie.Need-refuse-if-requires
-refuse-if-requires c κs = search needs
-
 abbrev start : tie.After-refuse-if → tie.Start
 start c = c .before .before .before
 
 so-far : (c : tie.After-refuse-if) → let a = start c .args in SoFar (verdictOf (c .refuse-if .result)) (findCauses (linksOf (a .self)) (a .el .0))
 so-far c = find-judged _ _ (c .before .size .ensures .is) (c .refuse-if .ensures)
-
-enum-known-verdict : tie.Need-enum-known-verdict
-enum-known-verdict c = search needs
 
 returns : tie.Need-returns
 unfolding rootConst outcome
@@ -34,12 +22,6 @@ returns c =
     let a = start judged .args in
     let ls = linksOf (a .self) in
     refused-by (refusing ls) (accepting (findOf ls (a .el .0)) ls) (so-far judged) _ (ap verdictOf (c .before .verdict .given .1))
-
-enum-told : tie.Need-enum-told
-enum-told c = search needs
-
-find-requires : tie.Need-find-requires
-find-requires c κs = search needs
 
 returns-2 : tie.Need-returns-2
 unfolding rootConst outcome
@@ -55,11 +37,11 @@ pub root-const-spec : {M : Type 1} → statement M
 root-const-spec =
     tie.close
     (tie.spec
-    cast-at
-    size-requires
-    refuse-if-requires
-    enum-known-verdict
+    (λ c. search needs)
+    (λ c κs. search needs)
+    (λ c κs. search needs)
+    (λ c. search needs)
     returns
-    enum-told
-    find-requires
+    (λ c. search needs)
+    (λ c κs. search needs)
     returns-2)

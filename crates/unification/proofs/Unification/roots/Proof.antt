@@ -21,35 +21,8 @@ Inv-loop self list n out₀ i₀ out i =
 abbrev μ-loop : tie.MeasureT-loop
 μ-loop self list n out₀ i₀ out i = n - i
 
-clamped-requires : tie.Need-clamped-requires Inv-loop μ-loop
-clamped-requires c κs = search needs
-
-size-requires : tie.Need-size-requires Inv-loop μ-loop
-size-requires c κs = search needs
-
 loop-holds : tie.Need-loop-holds Inv-loop μ-loop
 loop-holds c = (omega arith, refl, refl, refl)
-
-mul-el : tie.Need-mul-el Inv-loop μ-loop
-mul-el c = search needs
-
-element-copy-out-el : tie.Need-element-copy-out-el Inv-loop μ-loop
-element-copy-out-el c = search needs
-
-find-requires : tie.Need-find-requires Inv-loop μ-loop
-find-requires c κs = search needs
-
-mul-root : tie.Need-mul-root Inv-loop μ-loop
-mul-root c = search needs
-
-element-set-from-root : tie.Need-element-set-from-root Inv-loop μ-loop
-element-set-from-root c = search needs
-
-add-i : tie.Need-add-i Inv-loop μ-loop
-add-i c = search needs
-
-loop-less : tie.Need-loop-less Inv-loop μ-loop
-loop-less c = search needs
 
 loop-again : tie.Need-loop-again Inv-loop μ-loop
 unfolding findOf
@@ -88,15 +61,15 @@ roots-spec =
     (tie.spec
     Inv-loop
     μ-loop
-    clamped-requires
-    size-requires
+    (λ c κs. search needs)
+    (λ c κs. search needs)
     loop-holds
-    mul-el
-    element-copy-out-el
-    find-requires
-    mul-root
-    element-set-from-root
-    add-i
-    loop-less
+    (λ c. search needs)
+    (λ c. search needs)
+    (λ c κs. search needs)
+    (λ c. search needs)
+    (λ c. search needs)
+    (λ c. search needs)
+    (λ c. search needs)
     loop-again
     returns)

@@ -18,17 +18,8 @@ Inv-loop u₀ x₀ passed₀ at parent₀ u x passed parent =
 abbrev μ-loop : tie.MeasureT-loop
 μ-loop u₀ x₀ passed₀ at parent₀ u x passed parent = x
 
-cast-at : tie.Need-cast-at Inv-loop μ-loop
-cast-at c = search needs
-
-size-requires : tie.Need-size-requires Inv-loop μ-loop
-size-requires c κs = search needs
-
 returns : tie.Need-returns Inv-loop μ-loop
 returns c = short-past _ _ (omega (arith, c .before .size .ensures .is))
-
-mul-parent : tie.Need-mul-parent Inv-loop μ-loop
-mul-parent c = search needs
 
 element-copy-out-parent : tie.Need-element-copy-out-parent Inv-loop μ-loop
 element-copy-out-parent c = omega (arith, c .before .size .ensures .most)
@@ -40,31 +31,10 @@ loop-holds c =
     let there : a .el .0 < length (linksOf (a .self)) = omega (arith, n .is) in
     (omega arith, there, omega (arith, n .most), sym (link-read (a .self) (a .el .0) there), refl, omega arith, refl)
 
-cast-here : tie.Need-cast-here Inv-loop μ-loop
-cast-here c = search needs
-
-cast-next : tie.Need-cast-next Inv-loop μ-loop
-cast-next c = search needs
-
-mul-after : tie.Need-mul-after Inv-loop μ-loop
-mul-after c = search needs
-
-element-copy-out-after : tie.Need-element-copy-out-after Inv-loop μ-loop
-element-copy-out-after c = search needs
-
-mul-u : tie.Need-mul-u Inv-loop μ-loop
-mul-u c = search needs
-
-element-write-u : tie.Need-element-write-u Inv-loop μ-loop
-element-write-u c = search needs
-
 add-passed : tie.Need-add-passed Inv-loop μ-loop
 add-passed c =
     let a = c .before .before .before .before .before .before .args in
     omega (arith, depth-le (linksOf (a .self)) (a .el .0))
-
-loop-less : tie.Need-loop-less Inv-loop μ-loop
-loop-less c = search needs
 
 loop-again : tie.Need-loop-again Inv-loop μ-loop
 loop-again c =
@@ -87,19 +57,19 @@ shorten-spec =
     (tie.spec
     Inv-loop
     μ-loop
-    cast-at
-    size-requires
+    (λ c. search needs)
+    (λ c κs. search needs)
     returns
-    mul-parent
+    (λ c. search needs)
     element-copy-out-parent
     loop-holds
-    cast-here
-    cast-next
-    mul-after
-    element-copy-out-after
-    mul-u
-    element-write-u
+    (λ c. search needs)
+    (λ c. search needs)
+    (λ c. search needs)
+    (λ c. search needs)
+    (λ c. search needs)
+    (λ c. search needs)
     add-passed
-    loop-less
+    (λ c. search needs)
     loop-again
     returns-2)

@@ -8,9 +8,6 @@ use borrow.Author.Needs.{needs}
 use Rattle.unification.proofs.Unification.size.Statement.{statement}
 use Rattle.unification.proofs.Unification.size.Tie as tie
 
-cast-n : tie.Need-cast-n
-cast-n c = search needs
-
 returns : tie.Need-returns
 returns c =
     let u = c .before .before .args .self in
@@ -24,4 +21,4 @@ returns-2 c =
     record { is = omega (arith, length-take (u .len) (u .links)); most = omega arith }
 
 pub size-spec : {M : Type 1} → statement M
-size-spec = tie.close (tie.spec cast-n returns returns-2)
+size-spec = tie.close (tie.spec (λ c. search needs) returns returns-2)
