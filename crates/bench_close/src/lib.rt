@@ -129,7 +129,8 @@ fn read_of(s: Structure, at: usize) -> u16 {
 
 // A number out of the structure and the answer, so that both are used.
 fn keep(stepped: Stepped, i: u64, out: &mut [u64; 4]) {
-    let at = (out[3] % 1024 + i % 1024) as usize;
+    let most = Structure::MAX_FACTS as u64;
+    let at = (out[3] % most + i % most) as usize;
     let read = read_of(stepped.structure, at);
     let answer = stepped.answer;
     report(answer, out);

@@ -1,6 +1,7 @@
 -- `build` is safe and ends.
 use Prim.Native.Nat.{_-_}
 use borrow.Author.Needs.{needs}
+use Rattle.semantics.specs.Sheet.{maxRecords}
 use Rattle.bench_close.proofs.build.Statement.{statement}
 use Rattle.bench_close.proofs.build.Tie as tie
 
@@ -8,7 +9,7 @@ abbrev Inv-loop : tie.InvT-loop
 Inv-loop bytes run₀ index₀ -visited₀ run index -visited = Unit {0}
 
 abbrev μ-loop : tie.MeasureT-loop
-μ-loop bytes run₀ index₀ -visited₀ run index -visited = 1024 - -visited
+μ-loop bytes run₀ index₀ -visited₀ run index -visited = maxRecords - -visited
 
 pub build-spec : {M : Type 1} → statement M
 build-spec =
