@@ -24,8 +24,10 @@ use Rattle.semantics.specs.Structure.{Fact, FuncApp, Pair, pair, Structure, com
 use Rattle.semantics.specs.Types.{Core, with-links, with-marks, with-pairs, anyMarked}
 use Rattle.semantics.specs.Valid.{Below}
 use Rattle.semantics.specs.Close.{Closed, CloseRun, closeRun, reportOf, afterClose, coreAtStart, fuel}
-use Rattle.semantics.specs.Calls.{isEl, areEls, elCauses, withEl, equate, equalityCauses, withEquality, withImposition, Applied, applied}
-use Rattle.semantics.specs.Calls.{appliedEqual, applyAt, insertFuncAppOrEquate, appliedTo, applicationCauses, withApplied, withPredApp}
+use Rattle.semantics.specs.Applying.{equate, Applied, applied}
+use Rattle.semantics.specs.Calls.{isEl, areEls, elCauses, withEl, equalityCauses, withEquality, withImposition}
+use Rattle.semantics.specs.Applying.{appliedEqual, applyAt, insertFuncAppOrEquate}
+use Rattle.semantics.specs.Calls.{appliedTo, applicationCauses, withApplied, withPredApp}
 use Rattle.semantics.specs.Calls.{withVar, withAmbient, Call, push-type, push-pred, push-func, push-model, push-mor-app, push-el, equate-els}
 use Rattle.semantics.specs.Calls.{impose-type, apply-func, apply-pred, bind-var, bind-ambient, close, type-conflicts, settle, root, root-const}
 use Rattle.semantics.specs.Calls.{lookup-type, ambient-parents, isAccepted, mergesOf, Machine, Step, equalityRule, impositionRule, applicationRule}

@@ -22,8 +22,10 @@ use Rattle.semantics.specs.Structure.{canonicalFact, canonicalFuncApp, fact, wi
 use Rattle.semantics.specs.Structure.{with-ambients}
 use Rattle.semantics.specs.Types.{marked}
 use Rattle.semantics.specs.Close.{Rewritten, funcArgs, predArgs, funcResults, demands, Closed, coreAtStart, closeRun, afterClose}
-use Rattle.semantics.specs.Calls.{isEl, elCauses, withEl, equate, equalityCauses, withEquality, withImposition, Applied, applied, appliedEqual}
-use Rattle.semantics.specs.Calls.{applyAt, insertFuncAppOrEquate, appliedTo, withApplied, withPredApp, withVar, withAmbient, Call, push-type, push-pred}
+use Rattle.semantics.specs.Applying.{equate, Applied, applied, appliedEqual}
+use Rattle.semantics.specs.Calls.{isEl, elCauses, withEl, equalityCauses, withEquality, withImposition}
+use Rattle.semantics.specs.Applying.{applyAt, insertFuncAppOrEquate}
+use Rattle.semantics.specs.Calls.{appliedTo, withApplied, withPredApp, withVar, withAmbient, Call, push-type, push-pred}
 use Rattle.semantics.specs.Calls.{push-func, push-model, push-mor-app, push-el, equate-els, impose-type, apply-func, apply-pred, bind-var, bind-ambient}
 use Rattle.semantics.specs.Calls.{close, type-conflicts, settle, root, root-const, lookup-type, ambient-parents, closed, Machine}
 use Rattle.semantics.specs.Calls.{leaves, equalityRule, impositionRule, applicationRule, closeRule, settleRule, rule, acceptance, step}

@@ -16,7 +16,8 @@ use Rattle.unification.specs.Roots.{maxEls, linksOf}
 use Rattle.signature.specs.Model.{Sig, ModelM}
 use Rattle.semantics.specs.Structure as model
 use Rattle.semantics.specs.Structure.{with-links, with-marks, with-pairs, with-func-apps}
-use Rattle.semantics.specs.Calls.{Call, Machine, Step, Applied, appliedTo, withApplied, isIdOrComp, says, answers, machine, leaves}
+use Rattle.semantics.specs.Applying.{Applied}
+use Rattle.semantics.specs.Calls.{Call, Machine, Step, appliedTo, withApplied, isIdOrComp, says, answers, machine, leaves}
 use Rattle.semantics.specs.Calls.{rule, acceptance, step}
 use Rattle.semantics.proofs.Cases.{or-first, or-second}
 use Rattle.semantics.proofs.Judged.{step-accepts}

@@ -13,7 +13,7 @@ use Rattle.unification.proofs.Numbers.{less-or}
 use Rattle.unification.proofs.Laws.{root-le, root-pass, short-stop}
 use Rattle.unification.proofs.Theorems.{short-root}
 use Rattle.semantics.specs.Structure.{Pair, pair}
-use Rattle.semantics.specs.Calls.{equating, equate}
+use Rattle.semantics.specs.Applying.{equating, equate}
 
 pub differ-says : (ls : List ℕ) (ps : List Pair) (a b : ℕ) → Formed ls → a < length ls
     → equate ls ps a b .differ ≡ not (eqb (rootOf ls a) (rootOf ls b))

@@ -21,6 +21,7 @@ use Rattle.semantics.specs.Structure.{Fact, FuncApp, PredApp, Pair, pair
 use Rattle.semantics.specs.Structure.{maxImpositions, maxFuncApps, maxPredApps, maxVars, compareFact, compareFuncApp, comparePredApp}
 use Rattle.semantics.specs.Structure.{compareVar, compareAmbient, canonicalFact, canonicalFuncApp, with-links, with-marks}
 use Rattle.semantics.specs.Structure.{with-func-apps, with-pred-apps, with-vars, with-ambients, with-pairs, with-impositions, with-flags}
+use Rattle.semantics.specs.Applying.{Equated, equate, Applied, insertFuncAppOrEquate}
 use Rattle.semantics.specs.Close as closing
 use Rattle.semantics.specs.Close.{Closed, CloseRun, closeRun, metCauses, closeCauses, reportOf, afterClose}
 use Rattle.semantics.specs.Conflicts.{Conflict, typeConflicts}
@@ -46,17 +47,6 @@ unfoldable pub withEl : Bool → Structure → Structure
 withEl mark s = with-links (addedOf (s .links)) (with-marks (s .marks ++ (mark ∷ [])) s)
 
 -- Kind 7, "equality (A, B)". "`equate` finds both roots by `root`, so paths shorten, queues the pair as given even where the roots are equal, and says whether they differ."
-
-pub record Equated : Type 0 where
-  pub links : List ℕ
-  pub pairs : List Pair
-  pub differ : Bool
-
-abbrev pub equating : List ℕ → List Pair → Bool → Equated
-equating ls ps differ = record { links = ls; pairs = ps; differ = differ }
-
-unfoldable pub equate : List ℕ → List Pair → ℕ → ℕ → Equated
-equate ls ps a b = equating (shortOf (shortOf ls a) b) (pair a b ∷ ps) (not (eqb (rootOf ls a) (rootOf (shortOf ls a) b)))
 
 unfoldable pub equalityCauses : Structure → ℕ → ℕ → List Cause
 equalityCauses s a b =
@@ -94,32 +84,6 @@ isIdOrComp f (m ∷ ms) = (eqb f (m .id) || eqb f (m .comp)) || isIdOrComp f ms
 
 unfoldable pub isReserved : Sig → ℕ → Bool
 isReserved g f = isIdOrComp f (g .models) || inMorApps f (g .mor-apps)
-
-pub record Applied : Type 0 where
-  pub links : List ℕ
-  pub pairs : List Pair
-  pub apps : List FuncApp
-  pub yes : Bool
-  -- "an entry needed, its table at its limit"
-  pub full : Bool
-
-abbrev pub applied : List ℕ → List Pair → List FuncApp → Bool → Bool → Applied
-applied ls ps apps y full = record { links = ls; pairs = ps; apps = apps; yes = y; full = full }
-
-unfoldable pub appliedEqual : Equated → List Pair → List FuncApp → Applied
-appliedEqual e ps apps = applied (e .links) (e .pairs) apps (e .differ) (leb maxPairs (length ps))
-
--- the application, already rewritten, meets the entry with its key
-unfoldable pub applyAt : Option FuncApp → FuncApp → List ℕ → List Pair → List FuncApp → Applied
-applyAt none x ls ps apps = applied ls ps (placed compareFuncApp x apps) true (leb maxFuncApps (length apps))
-applyAt (some y) x ls ps apps =
-    elim (eqb (y .result) (x .result)) [
-      | true ↦ applied ls ps apps false false
-      | false ↦ appliedEqual (equate ls ps (y .result) (x .result)) ps apps
-    ]
-
-unfoldable pub insertFuncAppOrEquate : FuncApp → List ℕ → List Pair → List FuncApp → Applied
-insertFuncAppOrEquate x ls ps apps = applyAt (lookupOf compareFuncApp (canonicalFuncApp ls x) apps) (canonicalFuncApp ls x) ls ps apps
 
 -- the application on the structure's own tables
 abbrev pub appliedTo : Structure → FuncApp → Applied

@@ -25,8 +25,10 @@ use Rattle.signature.specs.Calls.{isType, isFunc, isModel}
 use Rattle.semantics.specs.Structure.{Fact, FuncApp, PredApp, Pair, pair, Var, Ambient, Structure, empty, maxPairs, maxImpositions}
 use Rattle.semantics.specs.Structure.{maxFuncApps, maxPredApps, maxVars, compareFuncApp, comparePredApp, compareVar, compareAmbient}
 use Rattle.semantics.specs.Structure.{canonicalFact, canonicalFuncApp, with-links, with-pairs}
-use Rattle.semantics.specs.Calls.{isEl, areEls, isPred, elCauses, withEl, equate, equalityCauses, withEquality, isImposed}
-use Rattle.semantics.specs.Calls.{impositionCauses, withImposition, Applied, applied, appliedEqual, applyAt, insertFuncAppOrEquate, appliedTo}
+use Rattle.semantics.specs.Applying.{equate}
+use Rattle.semantics.specs.Calls.{isEl, areEls, isPred, elCauses, withEl, equalityCauses, withEquality, isImposed}
+use Rattle.semantics.specs.Applying.{Applied, applied, appliedEqual, applyAt, insertFuncAppOrEquate}
+use Rattle.semantics.specs.Calls.{impositionCauses, withImposition, appliedTo}
 use Rattle.semantics.specs.Calls.{applicationCauses, withApplied, predicationCauses, withPredApp, variableCauses, withVar, ambientCauses}
 use Rattle.semantics.specs.Calls.{withAmbient, Call, push-type, push-pred, push-func, push-model, push-mor-app, push-el, equate-els}
 use Rattle.semantics.specs.Calls.{impose-type, apply-func, apply-pred, bind-var, bind-ambient, close, type-conflicts, settle, root, root-const}
