@@ -9,6 +9,7 @@ pub mod Imposed
 pub mod Functionality
 pub mod Queues
 pub mod Stages
+pub mod Operations
 pub mod Pairs
 pub mod Computes
 pub mod ProvedCases

@@ -49,4 +49,3 @@ applyAt (some y) x ls ps apps =
 
 unfoldable pub insertFuncAppOrEquate : FuncApp → List ℕ → List Pair → List FuncApp → Applied
 insertFuncAppOrEquate x ls ps apps = applyAt (lookupOf compareFuncApp (canonicalFuncApp ls x) apps) (canonicalFuncApp ls x) ls ps apps
-

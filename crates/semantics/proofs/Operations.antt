@@ -1,0 +1,101 @@
+-- The pass of identities and composites: what an application inserted in a round leaves, and what holds along its laws.
+use mathlib.Core.Path.{_≡_, refl}
+use mathlib.Core.Logic.{_≢_}
+use mathlib.Core.Bool.{Bool, true, false}
+use mathlib.Core.List.{List, [], _∷_}
+use mathlib.Core.Option.{Option, none, some}
+use Prim.Native.Nat.{ℕ, _≤_, _<_}
+use lib.ListN.{length}
+use lib.Dec.{eqb, leb}
+use borrow.Author.Tests.{eqb-true, eqb-false, leb-false}
+use Rattle.ids.specs.Answers.{noRoom}
+use Rattle.ids.specs.Table.{placed, lookupOf}
+use Rattle.unification.specs.Roots.{rootOf}
+use Rattle.semantics.specs.Structure.{FuncApp, func-app, Pair, pair, compareFuncApp, canonicalFuncApp, maxPairs, maxFuncApps}
+use Rattle.semantics.specs.Types as types
+use Rattle.semantics.specs.Applying.{Equated, equate, Applied, appliedEqual, applyAt, insertFuncAppOrEquate}
+use Rattle.semantics.specs.Laws.{Law, holds, agree}
+use Rattle.semantics.specs.Close.{Turn, turn, reports, appliedTurn, applyTurn, giveTo, give, equalize, obey, obeyAll, keyOf}
+
+-- An application inserted in a round: its key is new, or it has the result that is there, or it queues a pair, or there is no room.
+
+-- what is left where its key is new
+abbrev pub insertedTurn : FuncApp → Turn → Turn
+insertedTurn y t = reports (t .core) (placed compareFuncApp y (t .apps)) true t
+
+-- where it has the result that is there
+abbrev pub keptTurn : Turn → Turn
+keptTurn t = reports (t .core) (t .apps) false t
+
+-- where it queues a pair: a stored result, and its own
+abbrev pub queuedTurn : ℕ → ℕ → Turn → Turn
+queuedTurn a b t =
+    let e = equate (t .core .links) (t .core .pairs) a b in
+    reports (types.with-links (e .links) (types.with-pairs (e .pairs) (t .core))) (t .apps) (e .differ) t
+
+-- where there is no room
+abbrev pub fullTurn : Turn → Turn
+fullTurn t = turn (types.with-met noRoom (t .core)) (t .apps) (t .worked)
+
+-- its key and its result, as roots
+abbrev pub rootedIn : Turn → FuncApp → FuncApp
+rootedIn t x = canonicalFuncApp (t .core .links) x
+
+abbrev pub foundIn : Turn → FuncApp → Option FuncApp
+foundIn t x = lookupOf compareFuncApp (rootedIn t x) (t .apps)
+
+-- the four ways, for a claim on what it leaves
+pub apply-cases {ℓ} : (P : Turn → Type ℓ) (x : FuncApp) (t : Turn)
+    → (foundIn t x ≡ none → length (t .apps) < maxFuncApps → P (insertedTurn (rootedIn t x) t))
+    → ((y : FuncApp) → foundIn t x ≡ some y → y .result ≡ rootedIn t x .result → P (keptTurn t))
+    → ((y : FuncApp) → foundIn t x ≡ some y → y .result ≢ rootedIn t x .result → length (t .core .pairs) < maxPairs
+    → P (queuedTurn (y .result) (rootedIn t x .result) t))
+    → P (fullTurn t)
+    → P (applyTurn x t)
+unfolding applyTurn insertFuncAppOrEquate applyAt appliedTurn appliedEqual
+apply-cases P x t new same other full = go (foundIn t x) refl
+  where
+    inserted : foundIn t x ≡ none → (b : Bool) → leb maxFuncApps (length (t .apps)) ≡ b
+        → P (elim b [ true ↦ fullTurn t | false ↦ insertedTurn (rootedIn t x) t ])
+    inserted e true h = full
+    inserted e false h = new e (leb-false maxFuncApps (length (t .apps)) h)
+
+    queued : (y : FuncApp) → foundIn t x ≡ some y → y .result ≢ rootedIn t x .result → (b : Bool) → leb maxPairs (length (t .core .pairs)) ≡ b
+        → P (elim b [ true ↦ fullTurn t | false ↦ queuedTurn (y .result) (rootedIn t x .result) t ])
+    queued y e n true h = full
+    queued y e n false h = other y e n (leb-false maxPairs (length (t .core .pairs)) h)
+
+    by : (y : FuncApp) → foundIn t x ≡ some y → (b : Bool) → eqb (y .result) (rootedIn t x .result) ≡ b
+        → P (appliedTurn (elim b [
+          | true ↦ record { links = t .core .links; pairs = t .core .pairs; apps = t .apps; yes = false; full = false }
+          | false ↦ appliedEqual (equate (t .core .links) (t .core .pairs) (y .result) (rootedIn t x .result)) (t .core .pairs) (t .apps)
+        ]) t)
+    by y e true h = same y e (eqb-true (y .result) (rootedIn t x .result) h)
+    by y e false h = queued y e (eqb-false (y .result) (rootedIn t x .result) h) (leb maxPairs (length (t .core .pairs))) refl
+
+    go : (o : Option FuncApp) → foundIn t x ≡ o → P (appliedTurn (applyAt o (rootedIn t x) (t .core .links) (t .core .pairs) (t .apps)) t)
+    go none e = inserted e (leb maxFuncApps (length (t .apps))) refl
+    go (some y) e = by y e (eqb (y .result) (rootedIn t x .result)) refl
+
+-- What every insertion keeps, a list of laws keeps.
+module _ {ℓ} (P : Turn → Type ℓ) (keeps : (x : FuncApp) (t : Turn) → P t → P (applyTurn x t)) where
+  give-keeps : (x y : FuncApp) (t : Turn) → P t → P (give x y t)
+  unfolding give giveTo
+  give-keeps x y t h = go (lookupOf compareFuncApp x (t .apps))
+    where
+      go : (o : Option FuncApp) → P (giveTo y o t)
+      go none = h
+      go (some z) = keeps (func-app (y .func) (y .parents) (y .args) (z .result)) t h
+
+  obey-keeps : (l : Law) (t : Turn) → P t → P (obey l t)
+  unfolding obey equalize
+  obey-keeps (holds x) t h = keeps x t h
+  obey-keeps (agree ps l r) t h =
+      let x = keyOf (t .core .links) ps l in
+      let y = keyOf (t .core .links) ps r in
+      give-keeps y x (give x y t) (give-keeps x y t h)
+
+  pub obeyAll-keeps : (ls : List Law) (t : Turn) → P t → P (obeyAll ls t)
+  unfolding obeyAll
+  obeyAll-keeps [] t h = h
+  obeyAll-keeps (l ∷ ls) t h = obeyAll-keeps ls (obey l t) (obey-keeps l t h)
