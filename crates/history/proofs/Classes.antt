@@ -19,7 +19,8 @@ use Rattle.history.proofs.Relation.{Equivalence, OneRoot, one-root, one
 use Rattle.history.proofs.Elements.{Named, restricted, shared-among-all}
 use Rattle.semantics.proofs.Counts.{roots, isRoot, count-alike}
 use Rattle.history.proofs.Drain.{HoldsOfPair}
-use Rattle.history.proofs.Functionality.{Canon, canonical-agree, meet-images}
+use Rattle.semantics.proofs.Canonical.{Canon}
+use Rattle.history.proofs.Functionality.{canonical-agree, meet-images}
 use Rattle.history.proofs.Passes.{HoldsOfCore}
 use Rattle.history.proofs.Calls.{HoldsOfBook, Tied}
 

@@ -17,7 +17,7 @@ use Rattle.semantics.specs.Calls as calls
 use Rattle.semantics.specs.Calls.{closed, Machine, machine, Step, closeRule, acceptance, leaves}
 use Rattle.semantics.proofs.Counts.{roots}
 use Rattle.semantics.proofs.Judged.{step-by}
-use Rattle.history.proofs.Functionality.{Canon}
+use Rattle.semantics.proofs.Canonical.{Canon}
 use Rattle.history.proofs.Imposing.{OnlyFactsGrew}
 use Rattle.history.proofs.Passes.{Ready, Sound, sound-then, Passed, passed-then, grown-passed, unmarked-grown}
 use Rattle.history.proofs.Rounds.{RoundsLeave, rounds-law}

@@ -22,7 +22,7 @@ use Rattle.semantics.proofs.Judged.{step-by}
 use Rattle.semantics.proofs.Settling.{Closes, settle-closes}
 use Rattle.validity.proofs.Calls.{ValidMachine, start-valid, step-valid}
 use Rattle.history.proofs.Elements.{Named, SharedAmongAll, shared-among-all}
-use Rattle.history.proofs.Functionality.{Canon}
+use Rattle.semantics.proofs.Canonical.{Canon}
 use Rattle.history.proofs.Closing.{closed-step}
 use Rattle.history.proofs.Settling.{last-some, settle-ends}
 use Rattle.history.proofs.Calls.{TiedTo, AgreesWith, close-soundly, fed-agrees}

@@ -41,7 +41,7 @@ use Rattle.validity.proofs.Calls.{ValidMachine, step-valid}
 use Rattle.history.specs.Settled.{asserts, isYes, saidYes}
 use Rattle.history.proofs.Counts.{added-root}
 use Rattle.history.proofs.Drain.{WithinClass}
-use Rattle.history.proofs.Functionality.{entered, enterAll-alike}
+use Rattle.semantics.proofs.Canonical.{entered, enterAll-alike}
 use Rattle.history.proofs.Unjoined.{Fixed, Unjoined, Safe}
 use Rattle.history.proofs.Passes.{canonical-no-work}
 use Rattle.history.proofs.SecondClose.{noChange, Idle, idle-met, idle-report, idle-flags, NextUnchanged, idle-next, next-idle, after-idle}

@@ -10,7 +10,7 @@ use native.Mathlib.Nat.{le-refl, le-trans}
 use lib.ListN.{length}
 use lib.Dec.{ltb}
 use borrow.Author.Tests.{le-ltb, ltb-false}
-use Rattle.ids.proofs.Sorted.{All, all-map, Sorted}
+use Rattle.ids.proofs.Sorted.{All, all-of, all-map, Sorted}
 use Rattle.unification.specs.Roots.{rootOf, Formed}
 use Rattle.unification.proofs.Laws.{root-le, root-root}
 use Rattle.signature.specs.Model.{Sig}
@@ -25,11 +25,11 @@ use Rattle.semantics.proofs.Functionality.{enterAll-all, enterAll-sorted, enter
 use Rattle.semantics.proofs.Queues.{drain-pairs, fresh}
 use Rattle.semantics.proofs.Stages.{Stage, Along}
 use Rattle.validity.proofs.Drain.{TwoRoots, drain-merges}
-use Rattle.history.proofs.Tables.{all-of}
 use Rattle.history.proofs.Relation.{Equivalence, Rooted, Respects}
 use Rattle.history.proofs.Drain.{RootsAndMerges, HoldsOfPair, Inside, Unmarked, Joined, drain-law, drain-counted, WithinClass, drain-same}
 use Rattle.history.proofs.Drain.{drain-within}
-use Rattle.history.proofs.Functionality.{Canon, canon-image, enterAll-on, enterAll-back, entered, entered-same, entered-again}
+use Rattle.semantics.proofs.Canonical.{Canon, canon-image, entered, entered-same, entered-again}
+use Rattle.history.proofs.Functionality.{enterAll-on, enterAll-back}
 use Rattle.history.proofs.Imposing.{OnlyFactsGrew, plain-grown, unmarked-inserts, impose-inserts, imposeAll-counts, imposeAll-still, imposeAll-same}
 use Rattle.history.proofs.Unjoined.{Safe, OnRoots, imposed-safe, safe-idle, safe-moved, insertAll-roots}
 

@@ -12,7 +12,7 @@ use Rattle.semantics.specs.Types.{Core}
 use Rattle.semantics.specs.Close.{Turn, round, Rounds, isNone, lastRound, oneMore, goesOn, roundsFrom, rounds, fuel}
 use Rattle.semantics.proofs.Cases.{and-second}
 use Rattle.validity.proofs.Drain.{TwoRoots}
-use Rattle.history.proofs.Functionality.{Canon}
+use Rattle.semantics.proofs.Canonical.{Canon}
 use Rattle.history.proofs.Passes.{Ready, Passed, RoundDone, passed-none, passed-then, round-passed, round-done, done-idle}
 
 -- what rounds leave that began with w and its applications: so many merges were made before

@@ -31,7 +31,7 @@ use Rattle.semantics.proofs.Settling.{settle-by}
 use Rattle.semantics.proofs.Cases.{and-second, or-first, or-second, none-some}
 use Rattle.validity.proofs.Drain.{TwoRoots}
 use Rattle.history.proofs.Drain.{WithinClass}
-use Rattle.history.proofs.Functionality.{Canon}
+use Rattle.semantics.proofs.Canonical.{Canon}
 use Rattle.history.proofs.Imposing.{impose-inserts, imposeAll-counts, imposeAll-same, plain-grown}
 use Rattle.history.proofs.Passes.{NoWork, canonical-no-work, RoundDone, OnlyTidied, round-idle, done-idle, round-more, still-done, still-rooted, round-was-idle}
 use Rattle.history.proofs.Rounds.{stop, isNone-none, last-unworked}

@@ -8,6 +8,7 @@ pub mod Settling
 pub mod Imposed
 pub mod Functionality
 pub mod Queues
+pub mod Canonical
 pub mod Stages
 pub mod Operations
 pub mod Pairs
