@@ -6,14 +6,15 @@ use ids::FuncId;
 use ids::PredId;
 use ids::Refusal;
 use ids::Verdict;
+use signature::ModelIds;
 use signature::Models;
 use signature::Signature;
 use structure::Answer;
 use structure::Stepped;
 use structure::Structure;
 ghost use mathlib.Core.Path.{_≡_};
-ghost use Rattle.signature.specs.Model.{sigOf, viewModels};
-ghost use Rattle.semantics.specs.Calls.{isPred, isIdOrComp, isReserved, impose-type, apply-func, apply-pred, machine, step};
+ghost use Rattle.signature.specs.Model.{sigOf, modelOf, viewModels};
+ghost use Rattle.semantics.specs.Calls.{isPred, isIdOrComp, isReserved, misapplies, isMisapplied, impose-type, apply-func, apply-pred, machine, step};
 ghost use Rattle.apps.specs.View.{funcAppOf, predAppOf};
 ghost use Rattle.structure.specs.View.{structureOf, stepOf};
 ghost use Rattle.facts.specs.View.{factOf, givenFact};
@@ -54,6 +55,7 @@ pub fn insert_func_app_or_equate(
 {
     let parents = app.parents;
     let args = app.args;
+    let models = signature.models;
     let u = structure.unification;
     let pairs = structure.pending_equalities;
     let table = structure.func_apps;
@@ -64,6 +66,7 @@ pub fn insert_func_app_or_equate(
     let verdict = verdict.refuse_if(Refusal::MALFORMED, long);
     let verdict = verdict.refuse_if(Refusal::UNDECLARED, !declared);
     let verdict = verdict.refuse_if(Refusal::RESERVED, is_reserved(signature, app.func));
+    let verdict = verdict.refuse_if(Refusal::WRONG_ARITY, is_misapplied(models, app));
     let verdict = verdict.refuse_if(Refusal::NO_ROOM, applied.full);
     if let Verdict::Refused(number) = verdict {
         return structure.refuse(number);
@@ -156,14 +159,41 @@ fn is_id_or_comp(models: Models, func: FuncId) -> bool
     false
 }
 
-// Whether a function may not be applied: id, comp or a morphism application function.
+// Whether a function may not be applied: a morphism application function, or id or comp where there is one.
 fn is_reserved(signature: Signature, func: FuncId) -> bool
     ensures { λ r. ⌜ r ≡ isReserved (sigOf signature) (func .0) ⌝ }
 {
-    let models = signature.models;
-    if is_id_or_comp(models, func) {
+    let mor_app_funcs = signature.mor_app_funcs;
+    if mor_app_funcs.has_func(func) {
         return true;
     }
-    let mor_app_funcs = signature.mor_app_funcs;
-    mor_app_funcs.has_func(func)
+    let models = signature.models;
+    let named = is_id_or_comp(models, func);
+    ids::and(named, 0 < mor_app_funcs.size())
+}
+
+// Whether an application of a model's id has not one argument, or one of its comp not two.
+fn misapplies(model: ModelIds, app: FuncApp) -> bool
+    ensures { λ r. ⌜ r ≡ misapplies (modelOf model) (funcAppOf app) ⌝ }
+{
+    let args = app.args;
+    let n = args.size();
+    let id = ids::and(app.func.0 == model.id.0, n != 1);
+    let comp = ids::and(app.func.0 == model.comp.0, n != 2);
+    ids::or(id, comp)
+}
+
+// Whether it is so in some model.
+fn is_misapplied(models: Models, app: FuncApp) -> bool
+    ensures { λ r. ⌜ r ≡ isMisapplied (funcAppOf app) (viewModels models) ⌝ }
+{
+    let n = models.size();
+    for i in 0..n {
+        let at = i as usize;
+        let model = models.items[at];
+        if misapplies(model, app) {
+            return true;
+        }
+    }
+    false
 }
