@@ -273,6 +273,98 @@ settleWith i = record {
   claims = machine is whole start ∷ [];
 }
 
+-- Identities and composites (02, M-102).
+
+-- a Model type 0 with its Mor type 1, and the model's dom 0, cod 1, id 2 and comp 3; function 4 has no arguments
+abbrev pub signature102 : List Call
+signature102 =
+    typ model [] ∷ typ (mor 0) [] ∷ func [] (1 ∷ []) 0 ∷ func [] (1 ∷ []) 0 ∷ func [] (0 ∷ []) 1 ∷ func [] (1 ∷ 1 ∷ []) 1 ∷ func [] [] 0
+    ∷ modelOf 0 1 (0 ∷ 1 ∷ 2 ∷ 3 ∷ []) ∷ []
+
+abbrev pub dom : ℕ → ℕ → Call
+dom f a = app 0 [] (f ∷ []) a
+
+abbrev pub cod : ℕ → ℕ → Call
+cod f a = app 1 [] (f ∷ []) a
+
+abbrev pub identity : ℕ → ℕ → Call
+identity a r = app 2 [] (a ∷ []) r
+
+abbrev pub composite : ℕ → ℕ → ℕ → Call
+composite f g h = app 3 [] (f ∷ g ∷ []) h
+
+-- one law alone: the composite of 0 and 1 is 2, the function f has the value 3 at x, and so g has it at y
+abbrev pub lawRow : ℕ → ℕ → ℕ → ℕ → Row
+lawRow f x g y = record {
+  source = calls (signature102 ++ (downFrom 4 (λ n. plainEl) ++ (composite 0 1 2 ∷ app f [] (x ∷ []) 3 ∷ close ∷ [])));
+  output = tells (closes 1 0 2 ∷ []);
+  claims = key g [] (y ∷ []) is result (some 3) ∷ [];
+}
+
+-- 02's numbers in the order of a record 9, where the application of id or comp has one argument too few
+abbrev pub arityRows : List Row
+arityRows =
+    -- 12 for id without exactly one argument, and comp without exactly two; the machine is as it was
+    record {
+      source = calls
+          (signature102
+          ++ (plainEl ∷ app 2 [] [] 0 ∷ app 2 [] (0 ∷ 0 ∷ []) 0 ∷ app 3 [] [] 0 ∷ app 3 [] (0 ∷ []) 0 ∷ app 3 [] (0 ∷ 0 ∷ 0 ∷ []) 0 ∷ []));
+      output = tells (refuses 12 ∷ refuses 12 ∷ refuses 12 ∷ refuses 12 ∷ refuses 12 ∷ []);
+      claims = machine is whole (afterCalls (signature102 ++ (plainEl ∷ [])) start) ∷ [];
+    }
+    -- any other count is accepted of dom, which is neither; 3 and 5 come before 12
+    ∷ record {
+      source = calls (signature102 ++ (plainEl ∷ app 0 [] [] 0 ∷ app 2 [] (0 ∷ 0 ∷ 0 ∷ 0 ∷ 0 ∷ []) 0 ∷ app 2 [] [] 1 ∷ app 3 [] (1 ∷ []) 0 ∷ []));
+      output = tells (refuses 3 ∷ refuses 5 ∷ refuses 5 ∷ []);
+      claims = key 0 [] [] is result (some 0) ∷ [];
+    }
+    -- with a record 5, 7 comes before 12
+    ∷ record {
+      source = calls (signature7 ++ (plainEl ∷ app 2 [] [] 0 ∷ app 2 [] (0 ∷ []) 0 ∷ app 3 [] (0 ∷ 0 ∷ []) 0 ∷ []));
+      output = tells (refuses 7 ∷ refuses 7 ∷ refuses 7 ∷ []);
+      claims = [];
+    }
+    ∷ []
+
+abbrev pub mapRows : List Row
+mapRows =
+    -- the identity's law: of its result dom and cod are its argument
+    record {
+      source = calls (signature102 ++ (plainEl ∷ plainEl ∷ identity 0 1 ∷ close ∷ close ∷ []));
+      output = tells (closes 1 0 2 ∷ closes 0 0 1 ∷ []);
+      claims = key 0 [] (1 ∷ []) is result (some 0) ∷ key 1 [] (1 ∷ []) is result (some 0) ∷ settled is flag true ∷ [];
+    }
+    -- the composite's laws, each from either side
+    ∷ lawRow 0 0 0 2
+    ∷ lawRow 0 2 0 0
+    ∷ lawRow 1 1 1 2
+    ∷ lawRow 1 2 1 1
+    ∷ lawRow 1 0 0 1
+    ∷ lawRow 0 1 1 0
+    -- two values of one map are one: of two identities with one result the arguments are
+    ∷ record {
+      source = calls (signature102 ++ (plainEl ∷ plainEl ∷ plainEl ∷ identity 0 2 ∷ identity 1 2 ∷ close ∷ []));
+      output = tells (closes 1 1 3 ∷ []);
+      claims = link 1 is el 0 ∷ key 0 [] (2 ∷ []) is result (some 0) ∷ [];
+    }
+    -- the premises are read up to equality: the composite is of 0, dom is declared of 3, and 0 and 3 are one
+    ∷ record {
+      source = calls
+          (signature102 ++ (downFrom 6 (λ n. plainEl) ++ (composite 0 1 2 ∷ dom 3 4 ∷ dom 2 5 ∷ equate-els 0 3 ∷ close ∷ [])));
+      output = tells (closes 1 2 3 ∷ []);
+      claims = link 3 is el 0 ∷ link 5 is el 4 ∷ [];
+    }
+    -- a chain of composites against the order of the table: each round carries dom one composite further, so that there are more rounds than
+    -- merges and two
+    ∷ record {
+      source = calls
+          (signature102
+          ++ (downFrom 6 (λ n. plainEl) ++ (composite 0 4 3 ∷ composite 1 4 0 ∷ composite 2 4 1 ∷ dom 2 5 ∷ close ∷ [])));
+      output = tells (closes 1 0 4 ∷ []);
+      claims = key 0 [] (3 ∷ []) is result (some 5) ∷ [];
+    }
+    ∷ arityRows
+
 -- The table.
 
 unfoldable pub table : List Row
@@ -610,7 +702,7 @@ table =
       output = tells (refuses 6 ∷ refuses 6 ∷ refuses 6 ∷ refuses 6 ∷ refuses 6 ∷ refuses 6 ∷ []);
       claims = [];
     }
-    -- number 7: "application of id, comp or a morphism application function"; dom may be applied
+    -- number 7: "application of id, comp or a morphism application function", where a record 5 stands; dom may be applied
     ∷ record {
       source = calls (signature7 ++ (plainEl ∷ app 2 [] [] 0 ∷ app 3 [] [] 0 ∷ app 4 [] [] 0 ∷ []));
       output = tells (refuses 7 ∷ refuses 7 ∷ refuses 7 ∷ []);
@@ -691,7 +783,7 @@ table =
       claims = [];
     }
     -- number 3: ".. or an unused word outside the above": of a settle these are all but the first two
-    ∷ map settleWith (2 ∷ 3 ∷ 4 ∷ 5 ∷ 6 ∷ 7 ∷ 8 ∷ 9 ∷ 10 ∷ 11 ∷ 12 ∷ 13 ∷ 14 ∷ 15 ∷ [])
+    ∷ map settleWith (2 ∷ 3 ∷ 4 ∷ 5 ∷ 6 ∷ 7 ∷ 8 ∷ 9 ∷ 10 ∷ 11 ∷ 12 ∷ 13 ∷ 14 ∷ 15 ∷ []) ++ mapRows
 
 -- The theorem.
 
