@@ -14,5 +14,6 @@ pub mod Operations
 pub mod Pairs
 pub mod Computes
 pub mod ProvedCases
+pub mod FullTables
 pub mod RefusedSettle
 pub mod WrongSettles
