@@ -50,18 +50,6 @@ use Rattle.validity.proofs.Replacing.{flags-valid, links-valid, pairs-v
 use Rattle.validity.proofs.Replacing.{vars-valid, ambients-valid}
 use Rattle.validity.proofs.Signatures.{empty-sig, empty-valid, type-valid, pred-valid, func-valid, model-valid, mor-app-valid}
 
--- one entry placed in a table that has room for it, or has it
-table-place : {A : Type 0} {P : A → Type 0} {cmp : A → A → Ordering} {limit : ℕ} → Ordered cmp → (x : A) (l : List A) → P x → Table P cmp limit l
-    → (present cmp x l ≡ false → length l < limit) → Table P cmp limit (placed cmp x l)
-table-place {A} {P} {cmp} {limit} o x l p t room = record {
-  each = placed-all cmp x P l p (t .each);
-  sorted = placed-sorted o x l (t .sorted);
-  most = elim (test (present cmp x l)) [
-    | inl e ↦ rw (placed-present cmp x l e) (t .most)
-    | inr e ↦ omega (arith, placed-absent cmp x l e, room e)
-  ];
-}
-
 -- one entry placed in a table whose keys bound the number of its entries
 table-key : {A : Type 0} {P : A → Type 0} {cmp : A → A → Ordering} {limit : ℕ} → Ordered cmp → (key : A → ℕ)
     → ((x y : A) → cmp x y ≡ Less → key x < key y) → ((x : A) → P x → key x < limit) → (x : A) (l : List A) → P x → Table P cmp limit l

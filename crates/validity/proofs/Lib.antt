@@ -2,6 +2,7 @@ pub mod Drain
 pub mod Imposing
 pub mod Entering
 pub mod Demands
+pub mod Operating
 pub mod Turns
 pub mod Fuel
 pub mod Closing
