@@ -17,21 +17,20 @@ use Rattle.semantics.specs.Structure.{FuncApp, func-app}
 use Rattle.semantics.specs.Laws.{Law, identityLaws, compositionLaws, lawsIn, lawsOf, laws}
 use Rattle.semantics.specs.Calls.{isIdOrComp, isReserved, misapplies, isMisapplied}
 use Rattle.semantics.specs.Valid.{Counts, countsAt, FuncAppValid, Listed, ModelValid, ValidSig, Unreserved, WellApplied}
-use Rattle.semantics.proofs.Cases.{or-first, or-second}
+use Rattle.semantics.proofs.Cases.{and-fails, or-first, or-second}
 use Rattle.semantics.proofs.ModelFunctions.{dom-cod-none}
 use Rattle.semantics.proofs.Operations.{MaySay}
 
 -- Models that have operations.
 
 -- the id and the comp of a model
-is-operation : (ms : List ModelM) (m : ModelM) → List·Memᴰ m ms → (isIdOrComp (m .id) ms ≡ true) × (isIdOrComp (m .comp) ms ≡ true)
+pub is-operation : (ms : List ModelM) (m : ModelM) → List·Memᴰ m ms → (isIdOrComp (m .id) ms ≡ true) × (isIdOrComp (m .comp) ms ≡ true)
 unfolding isIdOrComp
 is-operation [] m k = absurd (List·Memᴰ·not-nil k)
 is-operation (n ∷ ns) m k = elim (List·Memᴰ·cases-cons k) [
   | inl q ↦ rw q (rw (eq-eqb (n .id) (n .id) refl), rw (eq-eqb (n .comp) (n .comp) refl) (own (eqb (n .comp) (n .id)) (isIdOrComp (n .comp) ns)))
   | inr j ↦
-      let r = is-operation ns m j in
-      (
+      let r = is-operation ns m j in (
         rw (r .0) (later (eqb (m .id) (n .id) || eqb (m .id) (n .comp))),
         rw (r .1) (later (eqb (m .comp) (n .id) || eqb (m .comp) (n .comp))),
       )
@@ -50,14 +49,11 @@ pub no-mor-apps : (g : Sig) (f : ℕ) → isIdOrComp f (g .models) ≡ true → 
 unfolding isReserved
 no-mor-apps g f op free = go (g .mor-apps) refl
   where
-    many : (b t : Bool) → b ≡ true → (b && t) ≡ false → t ≡ false
-    many b t e h = rw e at h
-
     go : (l : List MorAppM) → g .mor-apps ≡ l → g .mor-apps ≡ []
     go [] e = e
     go (m ∷ ms) e =
         let few = ltb 0 (length (g .mor-apps)) in
-        let none = many (isIdOrComp f (g .models)) few op (or-second (inMorApps f (g .mor-apps)) (isIdOrComp f (g .models) && few) free) in
+        let none = and-fails (isIdOrComp f (g .models)) few op (or-second (inMorApps f (g .mor-apps)) (isIdOrComp f (g .models) && few) free) in
         absurd (omega (arith, ltb-false 0 (length (g .mor-apps)) none, ap length e))
 
 -- and there nothing is reserved
