@@ -17,7 +17,7 @@ use Rattle.signature.specs.Model.{Sig}
 use Rattle.semantics.specs.Structure.{Fact, PredApp, Var, Structure, compareFact, comparePredApp, compareVar, compareFuncApp, maxFuncApps, maxPairs}
 use Rattle.semantics.specs.Structure.{canonicalFact, canonicalPredApp, canonicalVar, empty}
 use Rattle.semantics.specs.Types.{Core}
-use Rattle.semantics.specs.Close.{Turn, CloseRun, Closed, round, rounds, roundsFrom, isNone, fuel, coreAtStart, canonicaliseRefs, withCore, imposedAfter, goesOn}
+use Rattle.semantics.specs.Close.{Turn, CloseRun, Closed, round, rounds, roundsFrom, isNone, fuel, coreAtStart, canonicaliseRefs, withCore, imposedAfter}
 use Rattle.semantics.specs.Close.{closeRun, closeCauses, reportOf, afterClose, closeBy, close}
 use Rattle.semantics.specs.Valid.{Counts, countsOf, FactValid, PredAppValid, VarValid, FuncAppValid, OnRoot, Queue, Table, ValidStructure, Unreserved}
 use Rattle.semantics.specs.Valid.{WellApplied, Valid}
@@ -29,10 +29,10 @@ use Rattle.semantics.specs.Calls.{Machine, Step, closed, refusal, step}
 use Rattle.semantics.proofs.Judged.{close-first, closedAnswer, close-steps}
 use Rattle.semantics.proofs.Pairs.{Imposes, imposes, RoundFits, rounds-fit}
 use Rattle.validity.specs.Numbers.{closeNumbers, MayMeet}
-use Rattle.validity.proofs.Drain.{ValidCore}
+use Rattle.validity.proofs.Drain.{ValidCore, Advances}
 use Rattle.validity.proofs.Imposing.{Imposed, imposeAll-advances, roots-listed, canonical-valid, canonical-rooted}
 use Rattle.validity.proofs.Turns.{Begins, AfterRound, Within, round-within}
-use Rattle.validity.proofs.Fuel.{LastRoundOf, Reached, more-fuel, rounds-end, rounds-begin, rounds-after}
+use Rattle.validity.proofs.Fuel.{LastRoundOf, more-fuel, rounds-end, rounds-begin, rounds-advance}
 use Rattle.validity.proofs.Growing.{counted}
 
 pub core-valid : (c : Counts) (s : Structure) → ValidStructure c s → ValidCore c (coreAtStart s)
@@ -138,20 +138,28 @@ module _ (g : Sig) (s : Structure) (v : Valid g s) where
   close-ends =
       rounds-end g (v .sig) (c .els) (s .pred-apps) (vs .pred-apps .each) (vs .els-most) (coreAtStart s) (s .func-apps) begins
 
+  -- what the last round began with is valid, and so is what it left
+  pub close-begins : Begins g c (close-ends .before .1) (close-ends .before .0)
+  unfolding close-ends
+  close-begins =
+      rounds-begin g (v .sig) (c .els) (s .pred-apps) (vs .pred-apps .each) (vs .els-most) (coreAtStart s) (s .func-apps) begins
+
+  pub close-within : Within g c (close-ends .before .1) (close-ends .before .0) (close-ends .turn)
+  close-within =
+      subst (Within g c (close-ends .before .1) (close-ends .before .0)) (sym (close-ends .is))
+      (round-within g (v .sig) (c .els) (s .pred-apps) (vs .pred-apps .each) (close-ends .before .1) (close-ends .before .0) close-begins)
+
   last : Turn
   last = close-ends .turn
 
-  last-reached : Reached g c (coreAtStart s) last
+  last-advances : Advances c (coreAtStart s) (last .core)
   unfolding last close-ends
-  last-reached =
-      rounds-after g (v .sig) (c .els) (s .pred-apps) (vs .pred-apps .each) (vs .els-most) (coreAtStart s) (s .func-apps) begins
+  last-advances =
+      rounds-advance g (v .sig) (c .els) (s .pred-apps) (vs .pred-apps .each) (vs .els-most) (coreAtStart s) (s .func-apps) begins
 
   last-after : AfterRound g c last
-  last-after = last-reached .after
-
-  last-ends : goesOn last ≡ false
   unfolding last
-  last-ends = close-ends .ends
+  last-after = close-within .after
 
   -- the whole run: the rounds, and what the impositions leave
   ran : CloseRun
@@ -170,12 +178,19 @@ module _ (g : Sig) (s : Structure) (v : Valid g s) where
   to-end =
       imposeAll-advances c (s .impositions) (ran .rounds .core) (vs .impositions .each) (subst (ValidCore c) (sym ran-core) (last-after .begins .valid))
 
+  -- a number that the rounds met is met to the end
+  pub rounds-met : closeRun g s .core .met ≡ none → closeRun g s .rounds .core .met ≡ none
+  unfolding ran
+  rounds-met q = to-end .advances .met q
+
   -- no number met in the rounds: the last one did not work, so that no pair waits
-  last-idle : ran .rounds .core .met ≡ none → last .worked ≡ false
-  last-idle q = idle-if (last .worked) (last .core .met) (sym (ap (λ (w : Core). w .met) ran-core) ∙ q) last-ends
+  pub close-idle : closeRun g s .rounds .core .met ≡ none → close-ends .turn .worked ≡ false
+  unfolding ran last
+  close-idle q = idle-if (last .worked) (last .core .met) (sym (ap (λ (w : Core). w .met) ran-core) ∙ q) (close-ends .ends)
 
   rounds-empty : ran .rounds .core .met ≡ none → ran .rounds .core .pairs ≡ []
-  rounds-empty q = ap (λ (w : Core). w .pairs) ran-core ∙ last-after .idle (last-idle q)
+  unfolding ran last
+  rounds-empty q = ap (λ (w : Core). w .pairs) ran-core ∙ last-after .idle (close-idle q)
 
   end-empty : ran .core .met ≡ none → ran .core .pairs ≡ []
   end-empty q =
@@ -234,7 +249,7 @@ module _ (g : Sig) (s : Structure) (v : Valid g s) where
   pub close-roots : roots (afterClose (closeRun g s) s .links) + reportOf (closeRun g s) .merges ≡ roots (s .links)
   unfolding ran afterClose canonicaliseRefs withCore reportOf coreAtStart
   close-roots =
-      let rounds-roots = ap (λ (w : Core). roots (w .links) + w .merges) ran-core ∙ last-reached .advances .sum in
+      let rounds-roots = ap (λ (w : Core). roots (w .links) + w .merges) ran-core ∙ last-advances .sum in
       omega (arith, to-end .advances .sum, rounds-roots)
 
   -- one of the numbers that refuse a close, "structure before the close"
@@ -288,26 +303,6 @@ module _ (g : Sig) (s : Structure) (v : Valid g s) where
 
   pub close-valid : Valid g (close g s .after)
   close-valid = by-close (Valid g) v after-close
-
-  -- the last round of a close whose rounds met no number: it reported no work, what it began with is valid, and so is what it left
-  pub record LastRound : Type 0 where
-    pub last : LastRoundOf g (s .pred-apps) (rounds g (s .pred-apps) (s .func-apps) (coreAtStart s))
-    pub begins : Begins g c (last .before .1) (last .before .0)
-    pub within : Within g c (last .before .1) (last .before .0) (last .turn)
-    pub idle : last .turn .worked ≡ false
-
-  pub last-round : closeRun g s .rounds .core .met ≡ none → LastRound
-  unfolding ran last
-  last-round q = record { last = close-ends; begins = first; within = whole; idle = last-idle q }
-    where
-      first : Begins g c (close-ends .before .1) (close-ends .before .0)
-      first = (unfold close-ends in
-          rounds-begin g (v .sig) (c .els) (s .pred-apps) (vs .pred-apps .each) (vs .els-most) (coreAtStart s) (s .func-apps) begins)
-
-      whole : Within g c (close-ends .before .1) (close-ends .before .0) (close-ends .turn)
-      whole =
-          subst (Within g c (close-ends .before .1) (close-ends .before .0)) (sym (close-ends .is))
-          (round-within g (v .sig) (c .els) (s .pred-apps) (vs .pred-apps .each) (close-ends .before .1) (close-ends .before .0) first)
 
   -- at every moment of the close at most `maxPairs` pairs wait: in each round, and, where the rounds met no number, while the impositions are imposed,
   -- also those of a close that 11 refuses then

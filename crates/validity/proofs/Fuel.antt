@@ -14,7 +14,8 @@ use Rattle.semantics.specs.Close.{Turn, Rounds, rounds, round, isNone, lastRoun
 use Rattle.semantics.specs.Valid.{Counts, countsAt, PredAppValid, ValidSig}
 use Rattle.semantics.proofs.Cases.{test, and-first}
 use Rattle.validity.proofs.Drain.{Advances, advances-then}
-use Rattle.validity.proofs.Turns.{Begins, AfterRound, Within, measure, measure-fuel, measure-falls, round-within}
+use Rattle.validity.proofs.Turns.{Begins, AfterRound, Within, round-within}
+use Rattle.validity.proofs.Lowering.{measure, measure-fuel, measure-falls}
 
 -- the last of the rounds of `roundsFrom`, with its report
 unfoldable pub lastFrom : ℕ → Sig → List PredApp → Turn → Turn
@@ -180,6 +181,7 @@ module _ (g : Sig) (v : ValidSig g) (n : ℕ) (preds : List PredApp) (pv : All (
     unfolding rounds-end
     rounds-begin = last .2
 
-    pub rounds-after : Reached g (countsAt g n) w (rounds-end .turn)
+    -- how far it is from where the first began
+    pub rounds-advance : Advances (countsAt g n) w (rounds-end .turn .core)
     unfolding rounds-end
-    rounds-after = last-after w fuel (round g preds xs w) (record { after = begin; advances = first .advances })
+    rounds-advance = last-after w fuel (round g preds xs w) (record { after = begin; advances = first .advances }) .advances

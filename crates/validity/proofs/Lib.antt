@@ -4,6 +4,7 @@ pub mod Entering
 pub mod Demands
 pub mod Operating
 pub mod Turns
+pub mod Lowering
 pub mod Fuel
 pub mod Closing
 pub mod Growing

@@ -1,17 +1,17 @@
--- A round of a valid structure: what it leaves is valid, and if it works there is less to do. Each pass has one law, and `all-within` lists them.
+-- A round of a valid structure: what it leaves is valid, and what it does where it reports work. Each pass has one law, and `all-within` lists them.
 use mathlib.Core.Path.{_≡_, refl, sym, ap, subst, subst₂, _∙_}
 use mathlib.Core.Logic.{_≢_, _⊎_, inl, inr}
 use mathlib.Core.Bool.{Bool, true, false, not, _||_}
 use mathlib.Core.List.{List, [], _∷_, List·Memᴰ·head}
 use mathlib.Core.Option.{none, some}
-use Prim.Native.Nat.{ℕ, _+_, _-_, _*_, _≤_, _<_}
+use Prim.Native.Nat.{ℕ, _+_, _≤_, _<_}
 use native.Mathlib.Omega.{arith}
 use lib.ListN.{length}
 use lib.Dec.{eqb, ltb}
 use borrow.Author.Tests.{ltb-true, ltb-false, eqb-false, ne-eqb, not-true}
 use Rattle.ids.specs.Answers.{noRoom}
 use Rattle.ids.proofs.Sorted.{All, all-of, all-map, all-at, no-test, lookup-sound, lookup-none, placed-all, placed-absent}
-use Rattle.unification.specs.Roots.{maxEls, rootOf}
+use Rattle.unification.specs.Roots.{rootOf}
 use Rattle.unification.proofs.Numbers.{less-or}
 use Rattle.signature.specs.Model.{Sig}
 use Rattle.semantics.specs.Structure.{FuncApp, PredApp, Pair, pair, compareFuncApp, maxFuncApps, maxPairs}
@@ -19,19 +19,18 @@ use Rattle.semantics.specs.Types.{Core, drain, imposeAll, grew}
 use Rattle.semantics.specs.Applying.{equate}
 use Rattle.semantics.specs.Laws.{laws}
 use Rattle.semantics.specs.Close.{Rewritten, rewriting, enterAll, demands, Turn, turn, drained, drainPass, rewrote, functionalityPass, typed}
-use Rattle.semantics.specs.Close.{typingPass, applyTurn, operationPass, Pass, passes, round, fuel}
+use Rattle.semantics.specs.Close.{typingPass, applyTurn, operationPass, Pass, passes, round}
 use Rattle.semantics.specs.Valid.{Counts, countsAt, FuncAppValid, PredAppValid, Table, ValidSig, Unreserved, WellApplied}
-use Rattle.semantics.proofs.Cases.{test, or-first, or-second, or-either}
-use Rattle.semantics.proofs.Counts.{roots-most}
+use Rattle.semantics.proofs.Cases.{or-first, or-second, or-either}
 use Rattle.semantics.proofs.Equating.{differ-says, equate-relinked}
 use Rattle.semantics.proofs.Functionality.{enterAll-all}
-use Rattle.semantics.proofs.Canonical.{Canon, canon-image, canon-result, canonical-alike, entered, entered-same}
+use Rattle.semantics.proofs.Canonical.{Canon, canon-image, canon-result, canonical-alike, entered}
 use Rattle.semantics.proofs.Queues.{drain-pairs, imposeAll-queue}
 use Rattle.semantics.proofs.Stages.{Stage, Along, run-along}
 use Rattle.semantics.proofs.Operations.{insertedTurn, keptTurn, queuedTurn, fullTurn, rootedIn, foundIn, apply-cases, obeyAll-keeps-if}
 use Rattle.semantics.proofs.Pairs.{functionality-queue}
 use Rattle.semantics.proofs.Orders.{func-app-ordered}
-use Rattle.validity.proofs.Drain.{ValidCore, Advances, remaining, advances-then, requeued-advances, relinked-advances, met-advances}
+use Rattle.validity.proofs.Drain.{ValidCore, Advances, advances-then, requeued-advances, relinked-advances, met-advances}
 use Rattle.validity.proofs.Drain.{someApart, apart-first, apart-more, apart-alike, drain-advances, drain-apart, drain-place}
 use Rattle.validity.proofs.Imposing.{Imposed, imposeAll-advances}
 use Rattle.validity.proofs.Entering.{waits, Clash, EnteredValid, canonical-entry, fresh-entered, canonical-unreserved, canonical-well-applied}
@@ -324,15 +323,22 @@ module _ (g : Sig) (v : ValidSig g) (n : ℕ) (preds : List PredApp) (pv : All (
         own : entry .result < c .els
         own = canonical-entry c ls x (new .valid) .valid .result
 
-        says : equate ls (t .core .pairs) (y .result) (entry .result) .differ ≡ not (eqb (rootOf ls (y .result)) (rootOf ls (entry .result)))
+        -- the two roots
+        abbrev one : ℕ
+        one = rootOf ls (y .result)
+
+        abbrev two : ℕ
+        two = rootOf ls (entry .result)
+
+        says : equate ls (t .core .pairs) (y .result) (entry .result) .differ ≡ not (eqb one two)
         says = differ-says ls (t .core .pairs) (y .result) (entry .result) (b .valid .links) (omega (arith, stored, b .valid .els))
 
         -- where the applications are rewritten, two results that differ have different roots
         canon-differs : All (Canon ls) (t .apps) → equate ls (t .core .pairs) (y .result) (entry .result) .differ ≡ true
         canon-differs k =
-            let apart : rootOf ls (y .result) ≢ rootOf ls (entry .result) =
+            let apart : one ≢ two =
             (λ z. other (sym (canon-result ls y (old (Canon ls) k)) ∙ z ∙ canonical-entry c ls x (new .valid) .root)) in
-            says ∙ ap not (ne-eqb (rootOf ls (y .result)) (rootOf ls (entry .result)) apart)
+            says ∙ ap not (ne-eqb one two apart)
 
         queued-within : Within g c w xs (queuedTurn (y .result) (entry .result) t)
         unfolding equate
@@ -361,8 +367,8 @@ module _ (g : Sig) (v : ValidSig g) (n : ℕ) (preds : List PredApp) (pv : All (
                   ]
                 ]
                 | inr z ↦
-                    let two = eqb-false (rootOf ls (y .result)) (rootOf ls (entry .result)) (not-true (eqb (rootOf ls (y .result)) (rootOf ls (entry .result))) (sym says ∙ z)) in
-                    inr (inr (apart-first ks p ps (λ q. two (sym (r .roots (y .result)) ∙ q ∙ r .roots (entry .result)))))
+                    let apart = eqb-false one two (not-true (eqb one two) (sym says ∙ z)) in
+                    inr (inr (apart-first ks p ps (λ q. apart (sym (r .roots (y .result)) ∙ q ∙ r .roots (entry .result)))))
               ];
               quiet = λ q. h .quiet (or-first (t .worked) differ q);
               drains = h .drains;
@@ -400,67 +406,3 @@ module _ (g : Sig) (v : ValidSig g) (n : ℕ) (preds : List PredApp) (pv : All (
   round-within w xs b =
       run-along RoundLaw g preds (λ p A B l. l .leads) passes (Begun g c w xs) (Within g c w xs) (all-within w xs) (turn w xs false)
       (record { begins = b; is = refl })
-
--- Fewer steps remain after each round that works: less to do, or a pair waits that the next round merges.
-
--- what a round can still do: merge, add a fact, or add an application
-unfoldable pub todo : Turn → ℕ
-todo t = remaining (t .core) + (maxFuncApps - keys (t .core .links) (t .apps))
-
--- no pair of two roots waits
-abbrev pub flag : Turn → ℕ
-flag t = elim (someApart (t .core .links) (t .core .pairs)) [ true ↦ 0 | false ↦ 1 ]
-
-unfoldable pub measure : Turn → ℕ
-measure t = 2 * todo t + flag t
-
-flag-most : (t : Turn) → flag t ≤ 1
-flag-most t = go (someApart (t .core .links) (t .core .pairs))
-  where
-    go : (b : Bool) → (elim b [ true ↦ 0 | false ↦ 1 ]) ≤ 1
-    go true = omega arith
-    go false = omega arith
-
--- the fuel is more than all that a close can do
-pub measure-fuel : (g : Sig) (c : Counts) (t : Turn) → c .els ≤ maxEls → AfterRound g c t → measure t < fuel
-unfolding measure todo fuel remaining
-measure-fuel g c t few h = omega (arith, roots-most (t .core .links), h .begins .valid .els, flag-most t)
-
--- the next round has less, if it works
-module _ (g : Sig) (c : Counts) (t u : Turn) (r : Within g c (t .core) (t .apps) u) where
-  -- where it merges, that is more than all applications
-  merged-falls : t .core .merges < u .core .merges → measure u < measure t
-  unfolding measure todo
-  merged-falls l = omega (arith, l, r .advances .lowered, r .advances .added, flag-most u)
-
-  module _ (same : u .core .merges ≡ t .core .merges) where
-    less : remaining (u .core) ≤ remaining (t .core)
-    less = omega (arith, same, r .advances .lowered, r .advances .added)
-
-    -- its applications are rewritten, so that each has its key
-    own-keys : keys (u .core .links) (u .apps) ≡ length (u .apps)
-    unfolding keys
-    own-keys =
-        ap (λ (z : Rewritten). length (z .apps))
-        (entered-same (u .core .links) (u .apps) (r .after .begins .apps .sorted) (r .still same .canon))
-
-    still-falls : Progress (t .core) (t .apps) u → measure u < measure t
-    unfolding measure todo
-    still-falls (inl l) = omega (arith, l, same, r .advances .lowered, own-keys, r .still same .keys, flag-most u)
-    still-falls (inr (inl l)) = omega (arith, l, less, own-keys, r .after .begins .apps .most, flag-most u)
-    still-falls (inr (inr s)) = elim (test (someApart (t .core .links) (t .core .pairs))) [
-      | inl q ↦ absurd (omega (arith, r .drains q, same))
-      | inr q ↦ omega (arith, waiting u s, none-waiting t q, less, own-keys, r .still same .keys)
-    ]
-      where
-        waiting : (z : Turn) → someApart (z .core .links) (z .core .pairs) ≡ true → flag z ≡ 0
-        waiting z e = rw (e, flag)
-
-        none-waiting : (z : Turn) → someApart (z .core .links) (z .core .pairs) ≡ false → flag z ≡ 1
-        none-waiting z e = rw (e, flag)
-
-  pub measure-falls : u .worked ≡ true → measure u < measure t
-  measure-falls q = elim (less-or (t .core .merges) (u .core .merges)) [
-    | inl l ↦ merged-falls l
-    | inr l ↦ still-falls (omega (arith, l, r .advances .merges)) (r .works q)
-  ]
