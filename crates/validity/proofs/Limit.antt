@@ -13,7 +13,7 @@ use borrow.Author.Tests.{ltb-true, ltb-false, lt-ltb, le-ltb, leb-true, leb-fals
 use Rattle.ids.specs.Answers.{Outcome, outcome, decided, refused, refusing, accepting, noRoom, tooManyFacts}
 use Rattle.ids.specs.Table.{present, placed, lookupOf}
 use Rattle.ids.proofs.Judging.{decided-refuses, decided-accepts}
-use Rattle.ids.proofs.Sorted.{placed-absent, placed-length, lookup-none, rewrite-length, no-test}
+use Rattle.ids.proofs.Sorted.{placed-absent, lookup-none, rewrite-length, no-test}
 use Rattle.unification.specs.Roots.{rootOf}
 use Rattle.signature.specs.Model.{Sig}
 use Rattle.semantics.specs.Structure.{Fact, FuncApp, func-app, PredApp, Pair, pair, Structure, compareFact, compareFuncApp, canonicalFact, canonicalFuncApp}
@@ -34,7 +34,7 @@ use Rattle.semantics.proofs.Operations.{apply-cases}
 use Rattle.validity.specs.Numbers.{closeNumbers, MayMeet}
 use Rattle.validity.specs.Unlimited.{Insertions, imposeBy, imposeAllBy, imposedBy, typingBy, giveToBy, giveBy, equalizeBy, obeyBy, obeyAllBy}
 use Rattle.validity.specs.Unlimited.{operationBy, PassBy, passesBy, runPassesBy, roundBy, roundsFromBy, roundsBy, ranBy, withLimits, limited, notedIf}
-use Rattle.validity.specs.Unlimited.{insertAlways, grewOver, applyAlways, withoutLimits, works, ranFree, unlimited, noted, closeOrNumber}
+use Rattle.validity.specs.Unlimited.{insertAlways, grewOver, appliedIn, overLimits, applyAlways, withoutLimits, works, ranFree, unlimited, noted, closeOrNumber}
 use Rattle.validity.proofs.Closing.{close-fuel}
 
 -- What merges and refinements keep: the number that is met, and no more facts than there were.
@@ -187,17 +187,9 @@ metRan r = r .core .met
 abbrev Met : ℕ → Core → Type 0
 Met n w = w .met ≡ some n
 
-met-through : (n : ℕ) → Through (Met n)
-met-through n w v k h = k .met ∙ h
-
 -- what is met once k is: the number that was met before, if one was
-met-after : (k : ℕ) (w : Core) {o : Option ℕ} → w .met ≡ o → with-met k w .met ≡ firstMet k o
-met-after k w e = ap (λ (o : Option ℕ). firstMet k o) e
-
-noted-stays : (n k : ℕ) (over : Bool) (w : Core) → Met n w → Met n (notedIf over k w)
-unfolding notedIf
-noted-stays n k true w h = met-after k w h
-noted-stays n k false w h = h
+met-after : (k : ℕ) {o p : Option ℕ} → o ≡ p → firstMet k o ≡ firstMet k p
+met-after k e = ap (λ (o : Option ℕ). firstMet k o) e
 
 -- The insertion of a fact.
 
@@ -225,7 +217,7 @@ insert-agrees f w m =
         ))
     go false p true q false r = inl (refl, m)
     go false p false q true r =
-        inr (tooManyFacts, met-after tooManyFacts w m, met-after tooManyFacts (with-added (placed compareFact f (w .facts)) w) m)
+        inr (tooManyFacts, met-after tooManyFacts m, met-after tooManyFacts m)
     go false p false q false r =
         absurd (omega (
           arith,
@@ -233,23 +225,6 @@ insert-agrees f w m =
           ltb-false (length (w .facts)) maxFacts q,
           ltb-false maxFacts (length (placed compareFact f (w .facts))) r,
         ))
-
-insert-met : (n : ℕ) (f : Fact) (w : Core) → Met n w → Met n (insertFact f w)
-unfolding insertFact
-insert-met n f w h = go (present compareFact f (w .facts)) (ltb (length (w .facts)) maxFacts)
-  where
-    go : (t u : Bool) → Met n (limited-by t u f w)
-    go true u = h
-    go false true = h
-    go false false = met-after tooManyFacts w h
-
-always-met : (n : ℕ) (f : Fact) (w : Core) → Met n w → Met n (insertAlways f w)
-unfolding insertAlways
-always-met n f w h = go (present compareFact f (w .facts)) (ltb maxFacts (length (placed compareFact f (w .facts))))
-  where
-    go : (t u : Bool) → Met n (always-by t u f w)
-    go true u = h
-    go false u = noted-stays n tooManyFacts u (with-added (placed compareFact f (w .facts)) w) h
 
 -- the first insertion that leaves more than `maxFacts` leaves exactly one more
 pub first-over : (f : Fact) (w : Core) → length (w .facts) ≤ maxFacts → ltb maxFacts (length (insertAlways f w .facts)) ≡ true
@@ -279,63 +254,56 @@ grew-not : (limit n : ℕ) → grewOver limit n n ≡ false
 unfolding grewOver
 grew-not limit n = ap (λ (b : Bool). b && ltb limit n) (le-ltb n n (omega arith))
 
-module _ (x : FuncApp) (ls : List ℕ) (ps : List Pair) (apps : List FuncApp) where
-  -- some table is over its limit
-  abbrev over : Applied → Bool
-  over a = grewOver maxFuncApps (length apps) (length (a .apps)) || grewOver maxPairs (length ps) (length (a .pairs))
-
-  -- a table holds one entry more at the most
-  abbrev OneMore : Applied → Type 0
-  OneMore a = (length (a .apps) ≤ suc (length apps)) × (length (a .pairs) ≤ suc (length ps))
-
-  key : FuncApp
-  key = canonicalFuncApp ls x
-
-  -- "an entry needed, its table at its limit": exactly where one entry more is over the limit
-  pub full-exactly : insertFuncAppOrEquate x ls ps apps .full ≡ over (insertFuncAppOrEquate x ls ps apps)
-  unfolding insertFuncAppOrEquate applyAt appliedEqual equate key
-  full-exactly = go (lookupOf compareFuncApp key apps) refl
-    where
-      or : {a b c d : Bool} → a ≡ c → b ≡ d → (c || d) ≡ (a || b)
-      or {a} {b} {c} {d} p q = sym (λ i. p i || q i)
-
-      or-false : (b : Bool) → b ≡ (b || false)
-      or-false true = refl
-      or-false false = refl
-
-      by : (y : FuncApp) (b : Bool)
-          → (elim b as (λ _. Applied) [ true ↦ applied ls ps apps false false | false ↦ appliedEqual (equate ls ps (y .result) (key .result)) ps apps ]) .full
-          ≡ over (elim b as (λ _. Applied) [
-            | true ↦ applied ls ps apps false false
-            | false ↦ appliedEqual (equate ls ps (y .result) (key .result)) ps apps
-          ])
-      by y true = or (grew-not maxFuncApps (length apps)) (grew-not maxPairs (length ps))
-      by y false = or (grew-not maxFuncApps (length apps)) (grew-by-one maxPairs (length ps) (suc (length ps)) refl)
-
-      go : (o : Option FuncApp) → lookupOf compareFuncApp key apps ≡ o → applyAt o key ls ps apps .full ≡ over (applyAt o key ls ps apps)
-      go none e =
-          or-false (leb maxFuncApps (length apps))
-          ∙ or (grew-by-one maxFuncApps (length apps) (length (placed compareFuncApp key apps))
-          (placed-absent compareFuncApp key apps (lookup-none compareFuncApp key apps e))) (grew-not maxPairs (length ps))
-      go (some y) e = by y (eqb (y .result) (key .result))
-
+-- what an application leaves of the tables
+pub record Grown (a : Applied) (t : Turn) : Type 0 where
+  -- "an entry needed, its table at its limit": exactly where it is over the limit with that entry
+  pub full : a .full ≡ overLimits maxFuncApps maxPairs a t
   -- at most one entry more
-  grew-one : OneMore (insertFuncAppOrEquate x ls ps apps)
-  unfolding insertFuncAppOrEquate applyAt appliedEqual equate key
-  grew-one = go (lookupOf compareFuncApp key apps)
-    where
-      by : (y : FuncApp) (b : Bool)
-          → OneMore (elim b [ true ↦ applied ls ps apps false false | false ↦ appliedEqual (equate ls ps (y .result) (key .result)) ps apps ])
-      by y true = (omega arith, omega arith)
-      by y false = (omega arith, omega arith)
+  pub apps : length (a .apps) ≤ suc (length (t .apps))
+  pub pairs : length (a .pairs) ≤ suc (length (t .core .pairs))
 
-      go : (o : Option FuncApp) → OneMore (applyAt o key ls ps apps)
-      go none = (placed-length compareFuncApp key apps, omega arith)
-      go (some y) = by y (eqb (y .result) (key .result))
+pub applied-grown : (x : FuncApp) (t : Turn) → Grown (appliedIn t x) t
+unfolding insertFuncAppOrEquate applyAt appliedEqual equate overLimits
+applied-grown x t = go (lookupOf compareFuncApp key (t .apps)) refl
+  where
+    ls : List ℕ
+    ls = t .core .links
 
--- an application inserted in a round
-abbrev appliedIn : Turn → FuncApp → Applied
-appliedIn t x = insertFuncAppOrEquate x (t .core .links) (t .core .pairs) (t .apps)
+    ps : List Pair
+    ps = t .core .pairs
+
+    key : FuncApp
+    key = canonicalFuncApp ls x
+
+    or : {a b c d : Bool} → a ≡ c → b ≡ d → (c || d) ≡ (a || b)
+    or p q = sym (λ i. p i || q i)
+
+    or-false : (b : Bool) → b ≡ (b || false)
+    or-false true = refl
+    or-false false = refl
+
+    no-app : grewOver maxFuncApps (length (t .apps)) (length (t .apps)) ≡ false
+    no-app = grew-not maxFuncApps (length (t .apps))
+
+    no-pair : grewOver maxPairs (length ps) (length ps) ≡ false
+    no-pair = grew-not maxPairs (length ps)
+
+    by : (y : FuncApp) (b : Bool) → Grown
+        (elim b [ true ↦ applied ls ps (t .apps) false false | false ↦ appliedEqual (equate ls ps (y .result) (key .result)) ps (t .apps) ]) t
+    by y true = record { full = or no-app no-pair; apps = omega arith; pairs = omega arith }
+    by y false = record { full = or no-app (grew-by-one maxPairs (length ps) (suc (length ps)) refl); apps = omega arith; pairs = omega arith }
+
+    go : (o : Option FuncApp) → lookupOf compareFuncApp key (t .apps) ≡ o → Grown (applyAt o key ls ps (t .apps)) t
+    go none e =
+        let one : length (placed compareFuncApp key (t .apps)) ≡ suc (length (t .apps)) =
+        placed-absent compareFuncApp key (t .apps) (lookup-none compareFuncApp key (t .apps) e) in
+        record {
+          full = or-false (leb maxFuncApps (length (t .apps)))
+              ∙ or (grew-by-one maxFuncApps (length (t .apps)) (length (placed compareFuncApp key (t .apps))) one) no-pair;
+          apps = omega (arith, one);
+          pairs = omega arith;
+        }
+    go (some y) e = by y (eqb (y .result) (key .result))
 
 -- the core that it leaves
 abbrev coreOf : Applied → Turn → Core
@@ -344,8 +312,7 @@ coreOf a t = with-links (a .links) (with-pairs (a .pairs) (t .core))
 apply-agrees : (x : FuncApp) (t : Turn) → t .core .met ≡ none → Agree metTurn (applyTurn x t) (applyAlways x t)
 unfolding applyTurn appliedTurn applyAlways notedIf
 apply-agrees x t m =
-    subst (λ (o : Bool). Agree metTurn (applyTurn x t) (reports (notedIf o noRoom (coreOf a t)) (a .apps) (a .yes) t))
-    (full-exactly x (t .core .links) (t .core .pairs) (t .apps)) (go (a .full))
+    subst (λ (o : Bool). Agree metTurn (applyTurn x t) (reports (notedIf o noRoom (coreOf a t)) (a .apps) (a .yes) t)) (applied-grown x t .full) (go (a .full))
   where
     a : Applied
     a = appliedIn t x
@@ -353,77 +320,93 @@ apply-agrees x t m =
     go : (b : Bool) → Agree metTurn
         (elim b [ true ↦ turn (with-met noRoom (t .core)) (t .apps) (t .worked) | false ↦ reports (coreOf a t) (a .apps) (a .yes) t ])
         (reports (notedIf b noRoom (coreOf a t)) (a .apps) (a .yes) t)
-    go true = inr (noRoom, met-after noRoom (t .core) m, met-after noRoom (coreOf a t) m)
+    go true = inr (noRoom, met-after noRoom m, met-after noRoom m)
     go false = inl (refl, m)
-
-apply-met : (n : ℕ) (x : FuncApp) (t : Turn) → Met n (t .core) → Met n (applyTurn x t .core)
-apply-met n x t h =
-    apply-cases (λ u. Met n (u .core)) x t (λ e room. h) (λ y e r. h) (λ y e d room. h) (met-after noRoom (t .core) h)
-
-applied-met : (n : ℕ) (x : FuncApp) (t : Turn) → Met n (t .core) → Met n (applyAlways x t .core)
-unfolding applyAlways
-applied-met n x t h =
-    let a = appliedIn t x in
-    noted-stays n noRoom (over x (t .core .links) (t .core .pairs) (t .apps) a) (coreOf a t) h
 
 -- the first insertion that leaves more than `maxFuncApps` applications leaves exactly one more
 pub first-app-over : (x : FuncApp) (t : Turn) → length (t .apps) ≤ maxFuncApps → ltb maxFuncApps (length (applyAlways x t .apps)) ≡ true
     → length (applyAlways x t .apps) ≡ suc maxFuncApps
 unfolding applyAlways
-first-app-over x t h o =
-    let a = appliedIn t x in
-    omega (arith, h, grew-one x (t .core .links) (t .core .pairs) (t .apps) .0, ltb-true maxFuncApps (length (a .apps)) o)
+first-app-over x t h o = omega (arith, h, applied-grown x t .apps, ltb-true maxFuncApps (length (appliedIn t x .apps)) o)
 
--- and so with the pairs
+-- and so with the pairs, of which other passes leave at most `maxPairs` until a number is met (`close-fits`)
 pub first-pair-over : (x : FuncApp) (t : Turn) → length (t .core .pairs) ≤ maxPairs → ltb maxPairs (length (applyAlways x t .core .pairs)) ≡ true
     → length (applyAlways x t .core .pairs) ≡ suc maxPairs
 unfolding applyAlways notedIf
-first-pair-over x t h = go (over x (t .core .links) (t .core .pairs) (t .apps) a)
+first-pair-over x t h = go (overLimits maxFuncApps maxPairs a t)
   where
     a : Applied
     a = appliedIn t x
 
     go : (b : Bool) → ltb maxPairs (length (notedIf b noRoom (coreOf a t) .pairs)) ≡ true → length (notedIf b noRoom (coreOf a t) .pairs) ≡ suc maxPairs
-    go true o = omega (arith, h, grew-one x (t .core .links) (t .core .pairs) (t .apps) .1, ltb-true maxPairs (length (a .pairs)) o)
-    go false o = omega (arith, h, grew-one x (t .core .links) (t .core .pairs) (t .apps) .1, ltb-true maxPairs (length (a .pairs)) o)
+    go true o = omega (arith, h, applied-grown x t .pairs, ltb-true maxPairs (length (a .pairs)) o)
+    go false o = omega (arith, h, applied-grown x t .pairs, ltb-true maxPairs (length (a .pairs)) o)
 
--- The two insertions drop no number.
+-- What is said of the number met alone merges keep and, where it stays when 9 or 11 is met, the insertions too.
 
-limits-keep : (n : ℕ) → Inserts (Met n) withLimits
-limits-keep n = record { facts = insert-met n; apps = apply-met n }
+number-through : (Q : Option ℕ → Type 0) → Through (λ w. Q (w .met))
+number-through Q w v k h = subst Q (sym (k .met)) h
 
-free-keep : (n : ℕ) → Inserts (Met n) withoutLimits
-free-keep n = record { facts = always-met n; apps = applied-met n }
+module _ (Q : Option ℕ → Type 0) (nine : (o : Option ℕ) → Q o → Q (firstMet noRoom o)) (eleven : (o : Option ℕ) → Q o → Q (firstMet tooManyFacts o)) where
+  abbrev OfNumber : Core → Type 0
+  OfNumber w = Q (w .met)
 
--- They meet no other number than those of the list.
+  limits-keep : Inserts OfNumber withLimits
+  unfolding insertFact
+  limits-keep = record {
+    facts = λ f w h. go f w h (present compareFact f (w .facts)) (ltb (length (w .facts)) maxFacts);
+    apps = λ x t h. apply-cases (λ u. OfNumber (u .core)) x t (λ e room. h) (λ y e r. h) (λ y e d room. h) (nine (t .core .met) h);
+  }
+    where
+      go : (f : Fact) (w : Core) → OfNumber w → (t u : Bool) → OfNumber (limited-by t u f w)
+      go f w h true u = h
+      go f w h false true = h
+      go f w h false false = eleven (w .met) h
+
+  free-keep : Inserts OfNumber withoutLimits
+  unfolding insertAlways applyAlways notedIf
+  free-keep = record {
+    facts = λ f w h. fact-keeps f w h (present compareFact f (w .facts)) (ltb maxFacts (length (placed compareFact f (w .facts))));
+    apps = λ x t h. app-keeps (coreOf (appliedIn t x) t) h (overLimits maxFuncApps maxPairs (appliedIn t x) t);
+  }
+    where
+      fact-keeps : (f : Fact) (w : Core) → OfNumber w → (t u : Bool) → OfNumber (always-by t u f w)
+      fact-keeps f w h true u = h
+      fact-keeps f w h false true = eleven (w .met) h
+      fact-keeps f w h false false = h
+
+      app-keeps : (w : Core) → OfNumber w → (b : Bool) → OfNumber (notedIf b noRoom w)
+      app-keeps w h true = nine (w .met) h
+      app-keeps w h false = h
+
+-- a number that is met stays
+module _ (n : ℕ) where
+  abbrev IsNumber : Option ℕ → Type 0
+  IsNumber o = o ≡ some n
+
+  met-through : Through (Met n)
+  met-through = number-through IsNumber
+
+  limits-met : Inserts (Met n) withLimits
+  limits-met = limits-keep IsNumber (λ o. met-after noRoom) (λ o. met-after tooManyFacts)
+
+  free-met : Inserts (Met n) withoutLimits
+  free-met = free-keep IsNumber (λ o. met-after noRoom) (λ o. met-after tooManyFacts)
+
+-- no other number is met
 
 abbrev Listed : Core → Type 0
 Listed w = MayMeet (w .met)
 
-listed-through : Through Listed
-listed-through w v k h = subst MayMeet (sym (k .met)) h
+may-meet : (k : ℕ) → List·Memᴰ k closeNumbers → (o : Option ℕ) → MayMeet o → MayMeet (firstMet k o)
+may-meet k m none h = m
+may-meet k m (some n) h = h
 
-noted-may : (k : ℕ) → List·Memᴰ k closeNumbers → (over : Bool) (w : Core) → Listed w → Listed (notedIf over k w)
-unfolding notedIf
-noted-may k m false w h = h
-noted-may k m true w h = go (w .met) h
-  where
-    go : (o : Option ℕ) → MayMeet o → MayMeet (firstMet k o)
-    go none j = m
-    go (some n) j = j
+listed-through : Through Listed
+listed-through = number-through MayMeet
 
 free-listed : Inserts Listed withoutLimits
-unfolding insertAlways applyAlways
-free-listed = record {
-  facts = λ f w h. go f w h (present compareFact f (w .facts)) (ltb maxFacts (length (placed compareFact f (w .facts))));
-  apps = λ x t h.
-      let a = appliedIn t x in
-      noted-may noRoom (List·Memᴰ·head refl) (over x (t .core .links) (t .core .pairs) (t .apps) a) (coreOf a t) h;
-}
-  where
-    go : (f : Fact) (w : Core) → Listed w → (t u : Bool) → Listed (always-by t u f w)
-    go f w h true u = h
-    go f w h false u = noted-may tooManyFacts (List·Memᴰ·tail (List·Memᴰ·head refl)) u (with-added (placed compareFact f (w .facts)) w) h
+free-listed = free-keep MayMeet (may-meet noRoom (List·Memᴰ·head refl)) (may-meet tooManyFacts (List·Memᴰ·tail (List·Memᴰ·head refl)))
 
 -- The layers. Each law holds for every list and every number of rounds, so it speaks of the moment after each entry and each round.
 
@@ -432,8 +415,8 @@ unfolding imposeAllBy
 imposeAll-agree [] w m = inl (refl, m)
 imposeAll-agree (f ∷ fs) w m =
     agree-then metCore metCore (imposeAllBy withLimits fs) (imposeAllBy withoutLimits fs) (imposeAll-agree fs)
-    (λ n. imposeAll-holds withLimits (Met n) (met-through n) (limits-keep n) fs)
-    (λ n. imposeAll-holds withoutLimits (Met n) (met-through n) (free-keep n) fs) (imposeBy withLimits f w) (imposeBy withoutLimits f w) one
+    (λ n. imposeAll-holds withLimits (Met n) (met-through n) (limits-met n) fs)
+    (λ n. imposeAll-holds withoutLimits (Met n) (met-through n) (free-met n) fs) (imposeBy withLimits f w) (imposeBy withoutLimits f w) one
   where
     one : Agree metCore (imposeBy withLimits f w) (imposeBy withoutLimits f w)
     one = (unfold imposeBy in
@@ -456,7 +439,7 @@ obey-agrees (agree ps l r) t m =
     let x = keyOf (t .core .links) ps l in
     let y = keyOf (t .core .links) ps r in
     agree-then metTurn metTurn (giveBy withLimits y x) (giveBy withoutLimits y x) (give-agrees y x)
-    (λ n. give-holds withLimits (Met n) (limits-keep n) y x) (λ n. give-holds withoutLimits (Met n) (free-keep n) y x) (giveBy withLimits x y t)
+    (λ n. give-holds withLimits (Met n) (limits-met n) y x) (λ n. give-holds withoutLimits (Met n) (free-met n) y x) (giveBy withLimits x y t)
     (giveBy withoutLimits x y t) (give-agrees x y t m)
 
 pub obeyAll-agree : (ls : List Law) (t : Turn) → t .core .met ≡ none → Agree metTurn (obeyAllBy withLimits ls t) (obeyAllBy withoutLimits ls t)
@@ -464,7 +447,7 @@ unfolding obeyAllBy
 obeyAll-agree [] t m = inl (refl, m)
 obeyAll-agree (l ∷ ls) t m =
     agree-then metTurn metTurn (obeyAllBy withLimits ls) (obeyAllBy withoutLimits ls) (obeyAll-agree ls)
-    (λ n. obeyAll-holds withLimits (Met n) (limits-keep n) ls) (λ n. obeyAll-holds withoutLimits (Met n) (free-keep n) ls) (obeyBy withLimits l t)
+    (λ n. obeyAll-holds withLimits (Met n) (limits-met n) ls) (λ n. obeyAll-holds withoutLimits (Met n) (free-met n) ls) (obeyBy withLimits l t)
     (obeyBy withoutLimits l t) (obey-agrees l t m)
 
 -- With the insertions of the close they are the layers of the close.
@@ -571,8 +554,8 @@ unfolding runPassesBy
 run-agrees bs ps nil g preds t m = inl (refl, m)
 run-agrees cs qs (cons {b} {p} {bs} {ps} l ls) g preds t m =
     agree-then metTurn metTurn (runPassesBy bs withLimits g preds) (runPassesBy bs withoutLimits g preds) (run-agrees bs ps ls g preds)
-    (λ n. run-holds withLimits (Met n) (met-through n) (limits-keep n) bs ps ls g preds)
-    (λ n. run-holds withoutLimits (Met n) (met-through n) (free-keep n) bs ps ls g preds) (b withLimits g preds t) (b withoutLimits g preds t)
+    (λ n. run-holds withLimits (Met n) (met-through n) (limits-met n) bs ps ls g preds)
+    (λ n. run-holds withoutLimits (Met n) (met-through n) (free-met n) bs ps ls g preds) (b withLimits g preds t) (b withoutLimits g preds t)
     (l .agrees g preds t m)
 
 -- The rounds.
@@ -607,6 +590,13 @@ module _ (insert : Insertions) (P : Core → Type 0) (through : Through P) (inse
       go true k = k
       go false k = h
 
+  pub ran-holds : (more : Turn → Bool) (n : ℕ) (g : Sig) (s : Structure) → P (coreAtStart s) → P (ranBy insert more n g s .core)
+  unfolding ranBy roundsBy imposedBy
+  ran-holds more n g s h =
+      let t = roundBy insert g (s .pred-apps) (s .func-apps) (coreAtStart s) in
+      imposeAll-holds insert P through inserts (s .impositions) (roundsFromBy insert more n g (s .pred-apps) t .core)
+      (rounds-hold more n g (s .pred-apps) t (round-holds g (s .pred-apps) (s .func-apps) (coreAtStart s) h))
+
 pub round-agrees : (g : Sig) (preds : List PredApp) (apps : List FuncApp) (w : Core) → w .met ≡ none
     → Agree metTurn (roundBy withLimits g preds apps w) (roundBy withoutLimits g preds apps w)
 unfolding roundBy
@@ -619,10 +609,10 @@ more-agree r q (inr h) = inr h
 
 -- a number that is met stays to the last round
 limited-stays : (g : Sig) (preds : List PredApp) (k : ℕ) → Stays metTurn metRounds (roundsFromBy withLimits goesOn k g preds)
-limited-stays g preds k n = rounds-hold withLimits (Met n) (met-through n) (limits-keep n) goesOn k g preds
+limited-stays g preds k n = rounds-hold withLimits (Met n) (met-through n) (limits-met n) goesOn k g preds
 
 free-stays : (g : Sig) (preds : List PredApp) (k : ℕ) → Stays metTurn metRounds (roundsFromBy withoutLimits works k g preds)
-free-stays g preds k n = rounds-hold withoutLimits (Met n) (met-through n) (free-keep n) works k g preds
+free-stays g preds k n = rounds-hold withoutLimits (Met n) (met-through n) (free-met n) works k g preds
 
 -- and so a number that is met after some of the rounds
 rounds-stay : (g : Sig) (preds : List PredApp) (j k : ℕ) → j ≤ k → (n : ℕ) (t : Turn) → metRounds (roundsFromBy withoutLimits works j g preds t) ≡ some n
@@ -687,11 +677,11 @@ module _ (g : Sig) (s : Structure) where
 -- a number that is met in the rounds stays while facts are imposed
 limited-imposes : (s : Structure) → Stays metRounds metRan (λ r. imposedBy withLimits r s)
 unfolding imposedBy
-limited-imposes s n r = imposeAll-holds withLimits (Met n) (met-through n) (limits-keep n) (s .impositions) (r .core)
+limited-imposes s n r = imposeAll-holds withLimits (Met n) (met-through n) (limits-met n) (s .impositions) (r .core)
 
 free-imposes : (s : Structure) → Stays metRounds metRan (λ r. imposedBy withoutLimits r s)
 unfolding imposedBy
-free-imposes s n r = imposeAll-holds withoutLimits (Met n) (met-through n) (free-keep n) (s .impositions) (r .core)
+free-imposes s n r = imposeAll-holds withoutLimits (Met n) (met-through n) (free-met n) (s .impositions) (r .core)
 
 module _ (g : Sig) (s : Structure) where
   -- the whole run, of at most so many rounds after the first
@@ -766,7 +756,7 @@ module _ (g : Sig) (s : Structure) where
   nine-exactly = number-exactly noRoom
 
   -- "Of 9 and 11 in one close, the one met first is given": what is noted after some of the rounds is given, whatever the later ones do. No insertion
-  -- drops a number (`free-keep`), so it is the same inside a round.
+  -- drops a number (`free-met`), so it is the same inside a round.
   pub first-given : (j : ℕ) → j ≤ fuel → (n : ℕ) → roundsBy withoutLimits works j g s .core .met ≡ some n → close g s ≡ refusing s n
   unfolding noted ranBy roundsBy
   first-given j h n e =
@@ -776,12 +766,8 @@ module _ (g : Sig) (s : Structure) where
 
   -- no other number is noted
   pub noted-listed : (n : ℕ) → MayMeet (noted n g s)
-  unfolding noted ranBy roundsBy imposedBy
-  noted-listed n =
-      let t = roundBy withoutLimits g (s .pred-apps) (s .func-apps) (coreAtStart s) in
-      imposeAll-holds withoutLimits Listed listed-through free-listed (s .impositions) (roundsFromBy withoutLimits works n g (s .pred-apps) t .core)
-      (rounds-hold withoutLimits Listed listed-through free-listed works n g (s .pred-apps) t
-      (round-holds withoutLimits Listed listed-through free-listed g (s .pred-apps) (s .func-apps) (coreAtStart s) (unfold coreAtStart in tt)))
+  unfolding noted coreAtStart
+  noted-listed n = ran-holds withoutLimits Listed listed-through free-listed works n g s tt
 
 -- and so the call
 pub numbers-step : (m : Machine) → step calls.close m ≡ closedBy m (closeOrNumber fuel (m .sig) (m .structure))

@@ -1,7 +1,7 @@
 -- With a limit of one less than `maxFacts`, `maxFuncApps` or `maxPairs` the close refuses where nothing is noted, and with one more it accepts where
 -- something is: each breaks the equation of `numbers-exactly`. The structures that show it are given directly and made by no calls.
 use mathlib.Core.Path.{_≡_, refl, sym, ap, _∙_}
-use mathlib.Core.Bool.{true, false, _||_}
+use mathlib.Core.Bool.{true, false}
 use mathlib.Core.List.{List, [], _∷_}
 use Prim.Native.Nat.{ℕ, zero, suc, _+_, _-_}
 use native.Mathlib.Omega.{arith}
@@ -13,13 +13,13 @@ use Rattle.signature.specs.Model.{Sig, empty as noTypes, plain, type-entry, wit
 use Rattle.semantics.specs.Structure.{Fact, fact, FuncApp, func-app, Structure, compareFact, maxFacts, maxFuncApps, maxPairs, empty, with-links, with-facts}
 use Rattle.semantics.specs.Structure.{with-func-apps, with-impositions}
 use Rattle.semantics.specs.Types.{Core, with-added, with-met, insertFact}
-use Rattle.semantics.specs.Applying.{applied, insertFuncAppOrEquate}
+use Rattle.semantics.specs.Applying.{applied}
 use Rattle.semantics.specs.Close.{Turn, appliedTurn, applyTurn, fuel, Closed, report, close}
 use Rattle.semantics.proofs.Computes.{everything}
 use Rattle.validity.specs.Unlimited.{inserting, imposeBy, imposeAllBy, imposedBy, typingBy, giveToBy, giveBy, equalizeBy, obeyBy, obeyAllBy}
 use Rattle.validity.specs.Unlimited.{operationBy, passesBy, runPassesBy, roundBy, roundsFromBy, roundsBy, ranBy, limited, notedIf, insertAlways}
-use Rattle.validity.specs.Unlimited.{grewOver, applyAlways, unlimited, noted, closeOrNumber}
-use Rattle.validity.proofs.Limit.{full-exactly, is-close}
+use Rattle.validity.specs.Unlimited.{grewOver, appliedIn, overLimits, applyAlways, unlimited, noted, closeOrNumber}
+use Rattle.validity.proofs.Limit.{applied-grown, is-close}
 
 -- `insertFact` with the limit n
 unfoldable pub insertWithin : ℕ → Fact → Core → Core
@@ -32,9 +32,7 @@ insertWithin n f w =
 -- `applyTurn` with the limits n of applications and p of pairs
 unfoldable pub applyWithin : ℕ → ℕ → FuncApp → Turn → Turn
 applyWithin n p x t =
-    let a = insertFuncAppOrEquate x (t .core .links) (t .core .pairs) (t .apps) in
-    let over = grewOver n (length (t .apps)) (length (a .apps)) || grewOver p (length (t .core .pairs)) (length (a .pairs)) in
-    appliedTurn (applied (a .links) (a .pairs) (a .apps) (a .yes) over) t
+    let a = appliedIn t x in appliedTurn (applied (a .links) (a .pairs) (a .apps) (a .yes) (overLimits n p a t)) t
 
 -- the close with these limits
 abbrev pub closeWithin : ℕ → ℕ → ℕ → Sig → Structure → Outcome Closed Structure
@@ -49,8 +47,7 @@ right-limits g s = is-close g s ∙ (λ i. limited (inserting (facts-alike i) (a
 
     apps-alike : applyTurn ≡ applyWithin maxFuncApps maxPairs
     apps-alike = (unfold applyTurn applyWithin appliedTurn in λ i x t.
-        let a = insertFuncAppOrEquate x (t .core .links) (t .core .pairs) (t .apps) in
-        appliedTurn (applied (a .links) (a .pairs) (a .apps) (a .yes) (full-exactly x (t .core .links) (t .core .pairs) (t .apps) i)) t)
+        let a = appliedIn t x in appliedTurn (applied (a .links) (a .pairs) (a .apps) (a .yes) (applied-grown x t .full i)) t)
 
 -- The structures.
 
@@ -88,7 +85,7 @@ manyPairs n =
 -- what the proofs below compute with
 unfoldable all : ℕ
 unfolding everything imposeBy imposeAllBy imposedBy typingBy giveToBy giveBy equalizeBy obeyBy obeyAllBy operationBy passesBy runPassesBy roundBy roundsFromBy
-    roundsBy ranBy limited notedIf insertAlways grewOver applyAlways unlimited noted insertWithin applyWithin copies manyFacts oneModel constants manyApps
+    roundsBy ranBy limited notedIf insertAlways grewOver overLimits applyAlways unlimited noted insertWithin applyWithin copies manyFacts oneModel constants manyApps
     manyPairs
 all = 0
 

@@ -14,7 +14,7 @@ use Rattle.ids.specs.Table.{present, placed, lookupOf}
 use Rattle.signature.specs.Model.{Sig}
 use Rattle.semantics.specs.Structure.{Fact, FuncApp, func-app, PredApp, Structure, compareFact, compareFuncApp, canonicalFact, maxFacts, maxFuncApps, maxPairs}
 use Rattle.semantics.specs.Types.{Core, with-links, with-pairs, with-added, with-met, concreteTypesOf, refineAll, insertFact}
-use Rattle.semantics.specs.Applying.{insertFuncAppOrEquate}
+use Rattle.semantics.specs.Applying.{Applied, insertFuncAppOrEquate}
 use Rattle.semantics.specs.Laws.{Law, holds, agree, laws}
 use Rattle.semantics.specs.Close.{Turn, turn, reports, Pass, drainPass, functionalityPass, typed, demands, applyTurn, keyOf, Rounds, lastRound, oneMore}
 use Rattle.semantics.specs.Close.{goesOn, Closed, coreAtStart, CloseRun, close-run, closeBy, reportOf, afterClose}
@@ -133,13 +133,22 @@ insertAlways f w =
 unfoldable pub grewOver : ℕ → ℕ → ℕ → Bool
 grewOver limit before after = ltb before after && ltb limit after
 
--- "an entry needed, its table at its limit": an application, or a pair of two results; the first one over is exactly one over too (`first-app-over`,
--- `first-pair-over`)
+-- an application on the tables of a round
+abbrev pub appliedIn : Turn → FuncApp → Applied
+appliedIn t x = insertFuncAppOrEquate x (t .core .links) (t .core .pairs) (t .apps)
+
+-- it leaves more applications, or more pairs, than these limits
+unfoldable pub overLimits : ℕ → ℕ → Applied → Turn → Bool
+overLimits apps pairs a t =
+    grewOver apps (length (t .apps)) (length (a .apps)) || grewOver pairs (length (t .core .pairs)) (length (a .pairs))
+
+-- "an entry needed, its table at its limit": an application, or a pair of two results. The first of them past its limit is exactly one more too
+-- (`first-app-over`, `first-pair-over`).
 unfoldable pub applyAlways : FuncApp → Turn → Turn
 applyAlways x t =
-    let a = insertFuncAppOrEquate x (t .core .links) (t .core .pairs) (t .apps) in
-    let over = grewOver maxFuncApps (length (t .apps)) (length (a .apps)) || grewOver maxPairs (length (t .core .pairs)) (length (a .pairs)) in
-    reports (notedIf over noRoom (with-links (a .links) (with-pairs (a .pairs) (t .core)))) (a .apps) (a .yes) t
+    let a = appliedIn t x in
+    let w = with-links (a .links) (with-pairs (a .pairs) (t .core)) in
+    reports (notedIf (overLimits maxFuncApps maxPairs a t) noRoom w) (a .apps) (a .yes) t
 
 abbrev pub withoutLimits : Insertions
 withoutLimits = inserting insertAlways applyAlways
