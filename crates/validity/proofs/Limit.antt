@@ -774,7 +774,7 @@ pub numbers-step : (m : Machine) → step calls.close m ≡ closedBy m (closeOrN
 numbers-step m = sym (close-steps m) ∙ ap (closedBy m) (numbers-exactly (m .sig) (m .structure))
 
 -- At no moment of a close are more than `maxFacts` facts held, where that many are held at its start: after each round, and after each fact that
--- is imposed.
+-- is imposed. Of applications and pairs it is `round-waiting` (semantics/proofs/Pairs).
 
 abbrev WithinLimit : Core → Type 0
 WithinLimit w = length (w .facts) ≤ maxFacts
