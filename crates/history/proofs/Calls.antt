@@ -45,7 +45,7 @@ use Rattle.history.proofs.Elements.{Named, pair-more, app-more}
 use Rattle.history.proofs.Counts.{roots-added, added-length, added-root}
 use Rattle.history.proofs.Drain.{HoldsOfPair, Unmarked}
 use Rattle.history.proofs.Functionality.{found-agrees, found-says}
-use Rattle.history.proofs.Passes.{HoldsOfCore, Ready, Sound}
+use Rattle.history.proofs.Passes.{HoldsOfCore, roots-below, Ready, Sound}
 use Rattle.history.proofs.Closing.{ClosedSoundly, unmet, closed-step, run-soundly}
 
 -- a partition and a claim on applications hold of a book: the elements of each equality are together, and each application has the claim
@@ -67,9 +67,9 @@ TiedTo b s = Tied b (coreAtStart s) (s .func-apps)
 
 -- other links and marks, with the same roots: no partition tells them apart
 alike-sound : (w : Core) (xs : List FuncApp) (ks : List ℕ) (ms : List Bool) → ((x : ℕ) → rootOf ks x ≡ rootOf (w .links) x)
-    → Sound w xs (with-links ks (with-marks ms w)) xs
+    → Sound [] w xs (with-links ks (with-marks ms w)) xs
 alike-sound w xs ks ms same = record {
-  on = λ R S q law a. record { rooted = λ x. subst (λ z. R z x) (sym (same x)) (a .rooted x); pairs = a .pairs; apps = a .apps };
+  on = λ R S q law obeys a. record { rooted = λ x. subst (λ z. R z x) (sym (same x)) (a .rooted x); pairs = a .pairs; apps = a .apps };
   back = λ R S q law a. record { rooted = λ x. subst (λ z. R z x) (same x) (a .rooted x); pairs = a .pairs; apps = a .apps };
 }
 
@@ -87,12 +87,13 @@ relinked b w xs e g h =
       ready = record {
         kept = record { formed = short-formed (w .links) e f; long = long ∙ g .ready .kept .long; sum = omega (arith, g .ready .kept .sum) };
         pairs = g .ready .pairs;
+        args = g .ready .args;
         results = g .ready .results;
         plain = g .ready .plain;
       };
       small = g .small;
       sum = omega (arith, count, g .sum);
-      on = λ R S q law f. z .on R S q law (g .on R S q law f);
+      on = λ R S q law f. z .on R S q law tt (g .on R S q law f);
       back = λ R S q law f. g .back R S q law (z .back R S q law f);
     }
 
@@ -112,6 +113,7 @@ module _ (b b′ : Book) (w : Core) (xs : List FuncApp) (x y : ℕ) (g : Tied b 
         ready = subst (λ n. Ready n (roots (v .links)) v xs) (sym many) (record {
           kept = record { formed = g₂ .ready .kept .formed; long = g₂ .ready .kept .long; sum = g₂ .ready .kept .sum };
           pairs = ((hx, hy), g .ready .pairs);
+          args = g .ready .args;
           results = g .ready .results;
           plain = g .ready .plain;
         });
@@ -161,24 +163,29 @@ element-tied b w xs mark g h e =
           sum = omega (arith, g .ready .kept .sum);
         };
         pairs = all-map (λ p i. (omega (arith, more, i .0), omega (arith, more, i .1))) (w .pairs) (g .ready .pairs);
+        args = all-map (λ x i. all-map (λ e (l : e < elements b). omega (arith, more, l)) (x .args) i) xs (g .ready .args);
         results = all-map (λ x i. omega (arith, more, i)) xs (g .ready .results);
         plain = subst (λ m. Unmarked (w .marks ++ (m ∷ []))) (sym e) (push-unmarked (w .marks) (g .ready .plain));
       };
       small = omega (arith, more, h);
       sum = omega (arith, more, count, g .sum);
-      on = λ R S q law f. z .on R S q law (g .on R S q law f);
+      on = λ R S q law f. z .on R S q law tt (g .on R S q law f);
       back = λ R S q law f. g .back R S q law (z .back R S q law f);
     }
 
 -- Kind 9.
 
-module _ (b : Book) (w : Core) (xs : List FuncApp) (x : FuncApp) (g : Tied b w xs) (hx : x .result < elements b) where
+module _ (b : Book) (w : Core) (xs : List FuncApp) (x : FuncApp) (g : Tied b w xs) (hargs : Below (elements b) (x .args)) (hx : x .result < elements b) where
   abbrev y : FuncApp
   y = canonicalFuncApp (w .links) x
 
   y-inside : y .result < elements b
   unfolding canonicalFuncApp
   y-inside = omega (arith, root-le (w .links) (x .result))
+
+  y-args : Below (elements b) (y .args)
+  unfolding canonicalFuncApp
+  y-args = roots-below (elements b) (w .links) (x .args) hargs
 
   abbrev b′ : Book
   b′ = taken (apply-func x) 0 b
@@ -201,6 +208,7 @@ module _ (b : Book) (w : Core) (xs : List FuncApp) (x : FuncApp) (g : Tied b w x
     ready = record {
       kept = g .ready .kept;
       pairs = g .ready .pairs;
+      args = placed-all compareFuncApp y (λ z. Below (elements b) (z .args)) xs y-args (g .ready .args);
       results = placed-all compareFuncApp y (λ z. z .result < elements b) xs y-inside (g .ready .results);
       plain = g .ready .plain;
     };
@@ -276,15 +284,15 @@ module _ (x : FuncApp) (ls : List ℕ) (ps : List Pair) (xs : List FuncApp) wher
 
 -- Kind 13.
 
-module _ (b : Book) (m : Machine) where
+module _ (b : Book) (m : Machine) (v : ValidMachine m) where
   abbrev run : CloseRun
   run = closeRun (m .sig) (m .structure)
 
   pub close-soundly : TiedTo b (m .structure) → run .core .met ≡ none
-      → ClosedSoundly (elements b) (roots (m .structure .links)) (m .structure) (afterClose run (m .structure)) (reportOf run)
+      → ClosedSoundly [] (m .sig) (elements b) (roots (m .structure .links)) (m .structure) (afterClose run (m .structure)) (reportOf run)
   unfolding fuel coreAtStart
   close-soundly g =
-      run-soundly (elements b) (roots (m .structure .links)) (m .sig) (m .structure) (g .ready) (omega (arith, g .sum, g .small))
+      run-soundly [] (elements b) (roots (m .structure .links)) (m .sig) (m .structure) v (g .ready) (omega (arith, g .sum, g .small))
 
   close-tied : TiedTo b (m .structure) → run .core .met ≡ none → TiedTo (taken close (reportOf run .merges) b) (afterClose run (m .structure))
   unfolding taken coreAtStart
@@ -294,7 +302,7 @@ module _ (b : Book) (m : Machine) where
         ready = z .ready;
         small = g .small;
         sum = omega (arith, z .sum, g .sum);
-        on = λ R S q law f. z .sound .on R S q law (g .on R S q law f);
+        on = λ R S q law f. z .sound .on R S q law tt (g .on R S q law f);
         back = λ R S q law f. g .back R S q law (z .sound .back R S q law f);
       }
 
@@ -328,7 +336,7 @@ module _ (m : Machine) (b : Book) (v : ValidMachine m) (g : AgreesWith b (m .str
   close-agrees met = record {
     long = after-els (m .sig) (m .structure) v ∙ g .long;
     named = record { equalities = g .named .equalities; apps = g .named .apps };
-    tied = λ u. close-tied b m (g .tied u) met;
+    tied = λ u. close-tied b m v (g .tied u) met;
   }
 
   closed-agrees : (a : Closed) → step close m .answer ≡ closed a → AgreesWith (taken close (a .merges) b) (step close m .after .structure)
@@ -411,16 +419,17 @@ module _ (m : Machine) (b : Book) (v : ValidMachine m) (g : AgreesWith b (m .str
       let a = and-second o (p && (q && r)) (not-false (o && (p && (q && r))) (clear .1 .0)) in
       let c = and-second p (q && r) a in
       let hx = declared (x .result) (and-second q r c) in
+      let hargs = all-declared (x .args) (and-first q r c) in
       record {
         long = applied-length x ls (s .pairs) (s .func-apps) ∙ g .long;
         named = record {
           equalities = g .named .equalities;
           apps = (
-            record { parents = all-declared (x .parents) (and-first p (q && r) a); args = all-declared (x .args) (and-first q r c); result = hx },
+            record { parents = all-declared (x .parents) (and-first p (q && r) a); args = hargs; result = hx },
             g .named .apps,
           );
         };
-        tied = λ e. application-tied b (coreAtStart s) (s .func-apps) x (g .tied e) hx;
+        tied = λ e. application-tied b (coreAtStart s) (s .func-apps) x (g .tied e) hargs hx;
       }
 
   root-agrees : (e : ℕ) → NoneApplies (findCauses ls e) → AgreesWith b (structure.with-links (shortOf ls e) s)
