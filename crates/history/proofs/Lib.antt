@@ -5,6 +5,7 @@ pub mod Drain
 pub mod Tables
 pub mod Functionality
 pub mod Operations
+pub mod Obeying
 pub mod Imposing
 pub mod Unjoined
 pub mod Passes

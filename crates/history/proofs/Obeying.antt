@@ -1,0 +1,232 @@
+-- The pass of identities and composites, on a table that is rewritten: its insertions shorten no path and queue pairs of two roots. Where the laws are
+-- held it does nothing, and where it does nothing they are held.
+use mathlib.Core.Path.{_≡_, refl, sym, subst, ap, _∙_}
+use mathlib.Core.Logic.{_≢_}
+use mathlib.Core.Bool.{Bool, true, false, not, _||_, or-false}
+use mathlib.Core.List.{List, [], _∷_, map}
+use mathlib.Core.Option.{Option, none, some, Option·some-injective}
+use Prim.Native.Nat.{ℕ, _<_}
+use lib.ListN.{length}
+use lib.Dec.{eqb}
+use borrow.Author.Tests.{eq-eqb, ne-eqb}
+use Rattle.ids.specs.Table.{placed, lookupOf}
+use Rattle.ids.proofs.Sorted.{All, all-at, no-test, lookup-sound, placed-all}
+use Rattle.unification.specs.Roots.{rootOf}
+use Rattle.unification.proofs.Laws.{root-root}
+use Rattle.semantics.specs.Structure.{FuncApp, func-app, pair, compareFuncApp, canonicalFuncApp, maxPairs, maxFuncApps}
+use Rattle.semantics.specs.Types as types
+use Rattle.semantics.specs.Types.{firstMet}
+use Rattle.semantics.specs.Applying.{Equated, equating, equate, Applied, applied, appliedEqual, applyAt, insertFuncAppOrEquate}
+use Rattle.semantics.specs.Laws.{Side, Law, holds, agree}
+use Rattle.semantics.specs.Close.{Turn, turn, reports, appliedTurn, applyTurn, giveTo, give, equalize, obey, obeyAll, keyOf}
+use Rattle.semantics.proofs.Canonical.{Canon, canon-image}
+use Rattle.semantics.proofs.Cases.{or-first, or-second, none-some}
+use Rattle.semantics.proofs.Equating.{equate-roots}
+use Rattle.semantics.proofs.Operations.{insertedTurn, keptTurn, queuedTurn, fullTurn, rootedIn, foundIn, apply-cases, obeyAll-keeps}
+use Rattle.semantics.proofs.Orders.{func-app-same}
+use Rattle.history.proofs.Operations.{resultOf, resultAt, Held, OverRoots}
+
+-- its applications are rewritten
+abbrev pub Rewrought : Turn → Type 0
+Rewrought t = All (Canon (t .core .links)) (t .apps)
+
+-- what is left where two roots are queued
+abbrev pub waitingTurn : ℕ → ℕ → Turn → Turn
+waitingTurn a b t = reports (types.with-pairs (pair a b ∷ t .core .pairs) (t .core)) (t .apps) true t
+
+queued-roots : (a b : ℕ) (t : Turn) → rootOf (t .core .links) a ≡ a → rootOf (t .core .links) b ≡ b → a ≢ b → queuedTurn a b t ≡ waitingTurn a b t
+queued-roots a b t p q n =
+    ap (λ (e : Equated). reports (types.with-links (e .links) (types.with-pairs (e .pairs) (t .core))) (t .apps) (e .differ) t)
+    (equate-roots (t .core .links) (t .core .pairs) a b p q ∙ ap (λ (d : Bool). equating (t .core .links) (pair a b ∷ t .core .pairs) (not d)) (ne-eqb a b n))
+
+-- the four ways of an insertion, for a claim on what it leaves
+pub rewrought-cases {ℓ} : (P : Turn → Type ℓ) (x : FuncApp) (t : Turn) → Rewrought t
+    → (foundIn t x ≡ none → P (insertedTurn (rootedIn t x) t))
+    → ((y : FuncApp) → foundIn t x ≡ some y → y .result ≡ rootedIn t x .result → P (keptTurn t))
+    → ((y : FuncApp) → foundIn t x ≡ some y → rootOf (t .core .links) (y .result) ≡ y .result → y .result ≢ rootedIn t x .result
+    → P (waitingTurn (y .result) (rootedIn t x .result) t))
+    → P (fullTurn t)
+    → P (applyTurn x t)
+unfolding canonicalFuncApp
+rewrought-cases P x t c new same other full =
+    apply-cases P x t (λ e room. new e) same
+    (λ y e n room.
+    let own : rootOf (t .core .links) (y .result) ≡ y .result =
+    ap (λ (z : FuncApp). z .result) (all-at (Canon (t .core .links)) (t .apps) c y (lookup-sound compareFuncApp (rootedIn t x) (t .apps) e .0)) in
+    subst P (sym (queued-roots (y .result) (rootedIn t x .result) t own (root-root (t .core .links) (x .result)) n)) (other y e own n))
+    full
+
+-- Work is reported once and for all, and a number that is met stays; no insertion merges.
+
+pub record NoLess (t u : Turn) : Type 0 where
+  pub worked : u .worked ≡ false → t .worked ≡ false
+  pub met : u .core .met ≡ none → t .core .met ≡ none
+  pub merges : u .core .merges ≡ t .core .merges
+
+first-met : (n : ℕ) (o : Option ℕ) {X : Type 0} → firstMet n o ≡ none → X
+first-met n none e = none-some (sym e)
+first-met n (some m) e = none-some (sym e)
+
+apply-more : (t : Turn) (x : FuncApp) (u : Turn) → NoLess t u → NoLess t (applyTurn x u)
+apply-more t x u h =
+    apply-cases (NoLess t) x u
+    (λ e room. record { worked = λ q. h .worked (or-first (u .worked) true q); met = h .met; merges = h .merges })
+    (λ y e r. record { worked = λ q. h .worked (or-first (u .worked) false q); met = h .met; merges = h .merges })
+    (λ y e n room. record { worked = λ q. h .worked (or-first (u .worked) _ q); met = h .met; merges = h .merges })
+    (record { worked = h .worked; met = λ q. first-met _ (u .core .met) q; merges = h .merges })
+
+pub obeyAll-more : (ls : List Law) (t : Turn) → NoLess t (obeyAll ls t)
+obeyAll-more ls t = obeyAll-keeps (NoLess t) (apply-more t) ls t (record { worked = λ q. q; met = λ q. q; merges = refl })
+
+-- Where the laws are held.
+
+kept-same : (t : Turn) → keptTurn t ≡ t
+kept-same t = λ i. turn (t .core) (t .apps) (or-false (t .worked) i)
+
+-- an application that is stored with its result
+apply-same : (x : FuncApp) (t : Turn) → resultAt (t .apps) (rootedIn t x) ≡ some (rootedIn t x .result) → applyTurn x t ≡ t
+unfolding applyTurn insertFuncAppOrEquate
+apply-same x t = go (foundIn t x) refl
+  where
+    go : (o : Option FuncApp) → foundIn t x ≡ o → resultOf o ≡ some (rootedIn t x .result) → applyTurn x t ≡ t
+    go none e q = (unfold resultOf in none-some q)
+    go (some y) e q =
+        ap (λ (o : Option FuncApp). appliedTurn (applyAt o (rootedIn t x) (t .core .links) (t .core .pairs) (t .apps)) t) e
+        ∙ (unfold applyAt appliedTurn resultOf in
+        ap (λ (b : Bool). appliedTurn (elim b [
+          | true ↦ applied (t .core .links) (t .core .pairs) (t .apps) false false
+          | false ↦ appliedEqual (equate (t .core .links) (t .core .pairs) (y .result) (rootedIn t x .result)) (t .core .pairs) (t .apps)
+        ]) t) (eq-eqb (y .result) (rootedIn t x .result) (Option·some-injective (y .result) (rootedIn t x .result) q))
+        ∙ kept-same t)
+
+-- a key made of roots
+record OfRoots (ls : List ℕ) (x : FuncApp) : Type 0 where
+  parents : map (rootOf ls) (x .parents) ≡ x .parents
+  args : map (rootOf ls) (x .args) ≡ x .args
+
+key-of-roots : (ls ps : List ℕ) (x : Side) → map (rootOf ls) ps ≡ ps → OfRoots ls (keyOf ls ps x)
+unfolding keyOf
+key-of-roots ls ps x e = record { parents = e; args = ap (λ (a : ℕ). a ∷ []) (root-root ls (x .el)) }
+
+-- the application that a side is given
+abbrev givenTo : FuncApp → ℕ → FuncApp
+givenTo y v = func-app (y .func) (y .parents) (y .args) v
+
+-- what is stored, given to a key made of roots, is as it stands
+given-rooted : (t : Turn) (y z : FuncApp) → OfRoots (t .core .links) y → rootOf (t .core .links) (z .result) ≡ z .result
+    → rootedIn t (givenTo y (z .result)) ≡ givenTo y (z .result)
+unfolding canonicalFuncApp
+given-rooted t y z o own = λ i. func-app (y .func) (o .parents i) (o .args i) (own i)
+
+-- a result that is stored is a root
+stored-root : (t : Turn) → Rewrought t → (x z : FuncApp) → lookupOf compareFuncApp x (t .apps) ≡ some z → rootOf (t .core .links) (z .result) ≡ z .result
+unfolding canonicalFuncApp
+stored-root t c x z e =
+    ap (λ (w : FuncApp). w .result) (all-at (Canon (t .core .links)) (t .apps) c z (lookup-sound compareFuncApp x (t .apps) e .0))
+
+-- of a key only function, parents and arguments are read
+key-alike : (xs : List FuncApp) (x : FuncApp) (v : ℕ) → lookupOf compareFuncApp (givenTo x v) xs ≡ lookupOf compareFuncApp x xs
+unfolding lookupOf compareFuncApp
+key-alike xs x v = refl
+
+-- given to a key that has the same result, or none
+give-same : (x y : FuncApp) (t : Turn) → Rewrought t → OfRoots (t .core .links) y → resultAt (t .apps) x ≡ resultAt (t .apps) y → give x y t ≡ t
+unfolding give giveTo
+give-same x y t c o h = go (lookupOf compareFuncApp x (t .apps)) refl
+  where
+    go : (z : Option FuncApp) → lookupOf compareFuncApp x (t .apps) ≡ z → giveTo y z t ≡ t
+    go none e = refl
+    go (some z) e =
+        let is = given-rooted t y z o (stored-root t c x z e) in
+        let at : resultAt (t .apps) (givenTo y (z .result)) ≡ some (z .result) =
+        ap resultOf (key-alike (t .apps) y (z .result)) ∙ sym h ∙ ap resultOf e ∙ (unfold resultOf in refl) in
+        apply-same (givenTo y (z .result)) t (subst (λ (w : FuncApp). resultAt (t .apps) w ≡ some (w .result)) (sym is) at)
+
+law-same : (l : Law) (t : Turn) → Rewrought t → OverRoots (t .core .links) l → Held (t .core .links) (t .apps) l → obey l t ≡ t
+unfolding obey equalize OverRoots Held
+law-same (holds x) t c o h = (unfold canonicalFuncApp in apply-same x t h)
+law-same (agree ps l r) t c o h =
+    let ls = t .core .links in
+    let x = keyOf ls ps l in
+    let y = keyOf ls ps r in
+    ap (give y x) (give-same x y t c (key-of-roots ls ps r o) h) ∙ give-same y x t c (key-of-roots ls ps l o) (sym h)
+
+pub laws-same : (ls : List Law) (t : Turn) → Rewrought t → All (OverRoots (t .core .links)) ls → All (Held (t .core .links) (t .apps)) ls → obeyAll ls t ≡ t
+unfolding obeyAll
+laws-same [] t c o h = refl
+laws-same (l ∷ ls) t c o h = ap (obeyAll ls) (law-same l t c (o .0) (h .0)) ∙ laws-same ls t c (o .1) (h .1)
+
+-- Conversely, where no work is reported and no number is met.
+
+-- nothing was done, and what Q says holds
+record Quiet (Q : Type 0) (t u : Turn) : Type 0 where
+  same : u ≡ t
+  so : Q
+
+abbrev IfQuiet : Type 0 → Turn → Turn → Type 0
+IfQuiet Q t u = u .worked ≡ false → u .core .met ≡ none → Quiet Q t u
+
+apply-quiet : (x : FuncApp) (t : Turn) → Rewrought t → IfQuiet (resultAt (t .apps) (rootedIn t x) ≡ some (rootedIn t x .result)) t (applyTurn x t)
+unfolding resultOf
+apply-quiet x t c =
+    rewrought-cases (IfQuiet (resultAt (t .apps) (rootedIn t x) ≡ some (rootedIn t x .result)) t) x t c
+    (λ e q m. no-test refl (or-second (t .worked) true q))
+    (λ y e r q m. record { same = kept-same t; so = ap resultOf e ∙ ap (λ (v : ℕ). some v) r })
+    (λ y e own n q m. no-test refl (or-second (t .worked) true q))
+    (λ q m. first-met _ (t .core .met) m)
+
+-- what is stored at the one key is stored at the other
+abbrev Given : Turn → FuncApp → FuncApp → Type 0
+Given t x y = (v : ℕ) → resultAt (t .apps) x ≡ some v → resultAt (t .apps) y ≡ some v
+
+give-quiet : (x y : FuncApp) (t : Turn) → Rewrought t → OfRoots (t .core .links) y → IfQuiet (Given t x y) t (give x y t)
+unfolding give giveTo resultOf
+give-quiet x y t c o = go (lookupOf compareFuncApp x (t .apps)) refl
+  where
+    go : (z : Option FuncApp) → lookupOf compareFuncApp x (t .apps) ≡ z → IfQuiet (Given t x y) t (giveTo y z t)
+    go none e q m = record { same = refl; so = λ v h. none-some (sym (ap resultOf e) ∙ h) }
+    go (some z) e q m =
+        let is = given-rooted t y z o (stored-root t c x z e) in
+        let a = apply-quiet (givenTo y (z .result)) t c q m in
+        let at : resultAt (t .apps) y ≡ some (z .result) =
+        sym (ap resultOf (key-alike (t .apps) y (z .result))) ∙ subst (λ (w : FuncApp). resultAt (t .apps) w ≡ some (w .result)) is (a .so) in
+        record { same = a .same; so = λ v h. at ∙ sym (ap resultOf e) ∙ h }
+
+both-given : (a b : Option ℕ) → ((v : ℕ) → a ≡ some v → b ≡ some v) → ((v : ℕ) → b ≡ some v → a ≡ some v) → a ≡ b
+both-given none none f g = refl
+both-given none (some v) f g = g v refl
+both-given (some v) b f g = sym (f v refl)
+
+-- the second giving comes after the first
+give-more : (x y : FuncApp) (t : Turn) → NoLess t (give x y t)
+unfolding give giveTo
+give-more x y t = go (lookupOf compareFuncApp x (t .apps))
+  where
+    go : (z : Option FuncApp) → NoLess t (giveTo y z t)
+    go none = record { worked = λ q. q; met = λ q. q; merges = refl }
+    go (some z) = apply-more t (givenTo y (z .result)) t (record { worked = λ q. q; met = λ q. q; merges = refl })
+
+law-quiet : (l : Law) (t : Turn) → Rewrought t → OverRoots (t .core .links) l → IfQuiet (Held (t .core .links) (t .apps) l) t (obey l t)
+unfolding obey equalize OverRoots Held
+law-quiet (holds x) t c o q m = (unfold canonicalFuncApp in apply-quiet x t c q m)
+law-quiet (agree ps l r) t c o q m =
+    let ls = t .core .links in
+    let x = keyOf ls ps l in
+    let y = keyOf ls ps r in
+    let u = give x y t in
+    let less = give-more y x u in
+    let one = give-quiet x y t c (key-of-roots ls ps r o) (less .worked q) (less .met m) in
+    let two = give-quiet y x t c (key-of-roots ls ps l o) (subst (λ (z : Turn). give y x z .worked ≡ false) (one .same) q)
+    (subst (λ (z : Turn). give y x z .core .met ≡ none) (one .same) m) in
+    record { same = ap (give y x) (one .same) ∙ two .same; so = both-given (resultAt (t .apps) x) (resultAt (t .apps) y) (one .so) (two .so) }
+
+pub laws-quiet : (ls : List Law) (t : Turn) → Rewrought t → All (OverRoots (t .core .links)) ls → obeyAll ls t .worked ≡ false → obeyAll ls t .core .met ≡ none
+    → (obeyAll ls t ≡ t) × All (Held (t .core .links) (t .apps)) ls
+unfolding obeyAll
+laws-quiet [] t c o q m = (refl, tt)
+laws-quiet (l ∷ ls) t c o q m =
+    let less = obeyAll-more ls (obey l t) in
+    let a = law-quiet l t c (o .0) (less .worked q) (less .met m) in
+    let b = laws-quiet ls t c (o .1) (subst (λ (u : Turn). obeyAll ls u .worked ≡ false) (a .same) q)
+    (subst (λ (u : Turn). obeyAll ls u .core .met ≡ none) (a .same) m) in
+    (ap (obeyAll ls) (a .same) ∙ b .0, (a .so, b .1))
