@@ -1,7 +1,7 @@
 -- The pass of identities and composites, on a table that is rewritten: its insertions shorten no path and queue pairs of two roots. Where the laws are
 -- held it does nothing, and where it does nothing they are held.
 use mathlib.Core.Path.{_≡_, refl, sym, subst, ap, _∙_}
-use mathlib.Core.Logic.{_≢_}
+use mathlib.Core.Logic.{_≢_, _↔_}
 use mathlib.Core.Bool.{Bool, true, false, not, _||_, or-false}
 use mathlib.Core.List.{List, [], _∷_, map}
 use mathlib.Core.Option.{Option, none, some, Option·some-injective}
@@ -10,7 +10,7 @@ use lib.ListN.{length}
 use lib.Dec.{eqb}
 use borrow.Author.Tests.{eq-eqb, ne-eqb}
 use Rattle.ids.specs.Table.{placed, lookupOf}
-use Rattle.ids.proofs.Sorted.{All, all-at, no-test, lookup-sound, placed-all}
+use Rattle.ids.proofs.Sorted.{All, all-at, no-test, lookup-sound, placed-all, placed-rest}
 use Rattle.unification.specs.Roots.{rootOf}
 use Rattle.unification.proofs.Laws.{root-root}
 use Rattle.semantics.specs.Structure.{FuncApp, func-app, pair, compareFuncApp, canonicalFuncApp, maxPairs, maxFuncApps}
@@ -230,3 +230,61 @@ laws-quiet (l ∷ ls) t c o q m =
     let b = laws-quiet ls t c (o .1) (subst (λ (u : Turn). obeyAll ls u .worked ≡ false) (a .same) q)
     (subst (λ (u : Turn). obeyAll ls u .core .met ≡ none) (a .same) m) in
     (ap (obeyAll ls) (a .same) ∙ b .0, (a .so, b .1))
+
+-- What insertions keep.
+
+-- what each insertion of an application that has T keeps, where T holds of all that is stored
+
+-- the law leads from applications that have T to such ones
+unfoldable pub Serves : List ℕ → (FuncApp → Type 0) → Law → Type 0
+Serves ls T (holds x) = T x
+Serves ls T (agree ps l r) = (v : ℕ) → T (func-app (l .func) ps (rootOf ls (l .el) ∷ []) v) ↔ T (func-app (r .func) ps (rootOf ls (r .el) ∷ []) v)
+
+module _ {ℓ} (P : Turn → Type ℓ) (T : FuncApp → Type 0) (ls : List ℕ) (links : (t : Turn) → P t → t .core .links ≡ ls)
+    (stored : (t : Turn) → P t → All T (t .apps)) (keeps : (x : FuncApp) (t : Turn) → P t → T x → P (applyTurn x t)) where
+  give-serves : (x y : FuncApp) (t : Turn) → ((v : ℕ) → T (givenTo x v) → T (givenTo y v)) → P t → P (give x y t)
+  unfolding give giveTo
+  give-serves x y t f h = go (lookupOf compareFuncApp x (t .apps)) refl
+    where
+      go : (o : Option FuncApp) → lookupOf compareFuncApp x (t .apps) ≡ o → P (giveTo y o t)
+      go none e = h
+      go (some z) e =
+          let found = lookup-sound compareFuncApp x (t .apps) e in
+          let k = func-app-same z x (found .1) in
+          let is : _≡_ {A = FuncApp} z (givenTo x (z .result)) = λ i. func-app (k .func i) (k .parents i) (k .args i) (z .result) in
+          keeps (givenTo y (z .result)) t h (f (z .result) (subst T is (all-at T (t .apps) (stored t h) z (found .0))))
+
+  obey-serves : (l : Law) (t : Turn) → Serves ls T l → P t → P (obey l t)
+  unfolding obey equalize Serves keyOf
+  obey-serves (holds x) t f h = keeps x t h f
+  obey-serves (agree ps l r) t f h =
+      subst (λ (ks : List ℕ). P (equalize (keyOf ks ps l) (keyOf ks ps r) t)) (sym (links t h))
+      (give-serves (keyOf ls ps r) (keyOf ls ps l) (give (keyOf ls ps l) (keyOf ls ps r) t) (λ v. f v .1)
+      (give-serves (keyOf ls ps l) (keyOf ls ps r) t (λ v. f v .0) h))
+
+  pub obeyAll-serves : (xs : List Law) (t : Turn) → All (Serves ls T) xs → P t → P (obeyAll xs t)
+  unfolding obeyAll
+  obeyAll-serves [] t f h = h
+  obeyAll-serves (l ∷ xs) t f h = obeyAll-serves xs (obey l t) (f .1) (obey-serves l t (f .0) h)
+
+-- the links stay, and the table is rewritten
+pub record Steady (ls : List ℕ) (t : Turn) : Type 0 where
+  pub links : t .core .links ≡ ls
+  pub canon : Rewrought t
+
+pub apply-steady : (ls : List ℕ) (x : FuncApp) (t : Turn) → Steady ls t → Steady ls (applyTurn x t)
+apply-steady ls x t h =
+    rewrought-cases (Steady ls) x t (h .canon)
+    (λ e. record {
+      links = h .links;
+      canon = placed-all compareFuncApp (rootedIn t x) (Canon (t .core .links)) (t .apps) (canon-image (t .core .links) x) (h .canon);
+    })
+    (λ y e r. record { links = h .links; canon = h .canon }) (λ y e own n. record { links = h .links; canon = h .canon })
+    (record { links = h .links; canon = h .canon })
+
+-- what holds of the applications that the pass leaves held of those that it began with
+pub obeyAll-rest : (P : FuncApp → Type 0) (xs : List Law) (t : Turn) → All P (obeyAll xs t .apps) → All P (t .apps)
+obeyAll-rest P xs t =
+    obeyAll-keeps (λ u. All P (u .apps) → All P (t .apps))
+    (λ x u f. apply-cases (λ z. All P (z .apps) → All P (t .apps)) x u (λ e room a. f (placed-rest compareFuncApp (rootedIn u x) P (u .apps) a))
+    (λ y e r. f) (λ y e n room. f) f) xs t (λ a. a)

@@ -27,10 +27,10 @@ use Rattle.history.proofs.Functionality.{meet-images, canonical-agree}
 -- What holds of each law, from what holds of each application.
 
 -- where applications that have Q are ones of a model's id or comp, their laws have P
-record Gives (Q : FuncApp → Type 0) (P : Law → Type 0) (m : ModelM) : Type 0 where
-  identity : (ps : List ℕ) (a r : ℕ) → Q (func-app (m .id) ps (a ∷ []) r)
+pub record Gives (Q : FuncApp → Type 0) (P : Law → Type 0) (m : ModelM) : Type 0 where
+  pub identity : (ps : List ℕ) (a r : ℕ) → Q (func-app (m .id) ps (a ∷ []) r)
       → P (holds (func-app (m .dom) ps (r ∷ []) a)) × P (holds (func-app (m .cod) ps (r ∷ []) a))
-  composite : (ps : List ℕ) (f g h : ℕ) → Q (func-app (m .comp) ps (f ∷ g ∷ []) h)
+  pub composite : (ps : List ℕ) (f g h : ℕ) → Q (func-app (m .comp) ps (f ∷ g ∷ []) h)
       → P (agree ps (side (m .dom) f) (side (m .dom) h)) × P (agree ps (side (m .cod) g) (side (m .cod) h)) × P (agree ps (side (m .cod) f) (side (m .dom) g))
 
 module _ (Q : FuncApp → Type 0) (P : Law → Type 0) where
@@ -73,7 +73,7 @@ module _ (Q : FuncApp → Type 0) (P : Law → Type 0) where
   laws-of [] gives x q = tt
   laws-of (m ∷ ms) gives x q = all-join P (lawsIn m x) (lawsOf ms x) (laws-in m (gives .0) x q) (laws-of ms (gives .1) x q)
 
-  laws-all : (ms : List ModelM) → All (Gives Q P) ms → (xs : List FuncApp) → All Q xs → All P (laws ms xs)
+  pub laws-all : (ms : List ModelM) → All (Gives Q P) ms → (xs : List FuncApp) → All Q xs → All P (laws ms xs)
   unfolding laws
   laws-all ms gives [] h = tt
   laws-all ms gives (x ∷ xs) h = all-join P (lawsOf ms x) (laws ms xs) (laws-of ms gives x (h .0)) (laws-all ms gives xs (h .1))
