@@ -1,6 +1,6 @@
 -- Closed sets over a book's elements, and over all numbers: where the book names no other numbers, both give the same classes. And where no application
 -- of the book is one of id or comp, these are the classes of 01.
-use mathlib.Core.Path.{_≡_, refl, sym, subst, _∙_}
+use mathlib.Core.Path.{_≡_, refl, sym, subst}
 use mathlib.Core.Logic.{_↔_, _⊎_, inl, inr}
 use mathlib.Core.Bool.{false}
 use mathlib.Core.List.{List, [], _∷_, List·Memᴰ}
@@ -8,12 +8,13 @@ use Prim.Native.Nat.{ℕ, _≤_, _<_}
 use native.Mathlib.Omega.{arith}
 use Rattle.ids.proofs.Sorted.{All, all-at, all-from, all-map}
 use Rattle.signature.specs.Model.{ModelM}
-use Rattle.semantics.specs.Structure.{Pair, FuncApp}
+use Rattle.semantics.specs.Structure.{Pair, FuncApp, func-app}
 use Rattle.semantics.specs.Valid.{Below}
 use Rattle.semantics.specs.Calls.{isIdOrComp}
 use Rattle.validity.proofs.Reserved.{not-id-or-comp}
-use Rattle.history.specs.Book.{Book, elements, Partition, Together, none, more, Meet, AppNamed, Obeys, ClosedSet, Sharing, Shared, Derived}
+use Rattle.history.specs.Book.{Book, elements, Partition, Together, none, more, Meet, AppNamed, ClosedSet, Sharing, Shared, Derived}
 use Rattle.history.specs.Book.{Fits, SharedByFits, AppliesNeither}
+use Rattle.history.specs.Laws.{Obeys}
 use Rattle.history.proofs.Relation.{Equivalence, Respects, Like, like-self, like-respects}
 use Rattle.history.proofs.Drain.{HoldsOfPair}
 
@@ -100,7 +101,7 @@ HoldsOfBook R S b = All (HoldsOfPair R) (b .equalities) × All S (b .apps)
 pub record ClosedAmongAll (b : Book) (R : ℕ → ℕ → Type 0) (S : FuncApp → Type 0) : Type 0 where
   pub equivalence : Equivalence R
   pub respects : Respects R S
-  pub laws : All (Obeys S) (b .sig .models)
+  pub laws : Obeys (b .sig .models) S
   pub holds : HoldsOfBook R S b
 
 module _ (b : Book) (named : Named b) where
@@ -112,23 +113,26 @@ module _ (b : Book) (named : Named b) where
     abbrev Within : FuncApp → Type 0
     Within x = S x × AppNamed n x
 
-    within-obeys : (m : ModelM) → Obeys S m → Obeys Within m
-    within-obeys m o = record {
-      id-dom = λ ps a r s. (o .id-dom ps a r (s .0), record { parents = s .1 .parents; args = (s .1 .result, tt); result = s .1 .args .0 });
-      id-cod = λ ps a r s. (o .id-cod ps a r (s .0), record { parents = s .1 .parents; args = (s .1 .result, tt); result = s .1 .args .0 });
-      comp-dom = λ ps f g h x s. (
-        λ t. (o .comp-dom ps f g h x (s .0) .0 (t .0), record { parents = t .1 .parents; args = (s .1 .result, tt); result = t .1 .result }),
-        λ t. (o .comp-dom ps f g h x (s .0) .1 (t .0), record { parents = t .1 .parents; args = (s .1 .args .0, tt); result = t .1 .result }),
-      );
-      comp-cod = λ ps f g h x s. (
-        λ t. (o .comp-cod ps f g h x (s .0) .0 (t .0), record { parents = t .1 .parents; args = (s .1 .result, tt); result = t .1 .result }),
-        λ t. (o .comp-cod ps f g h x (s .0) .1 (t .0), record { parents = t .1 .parents; args = (s .1 .args .1 .0, tt); result = t .1 .result }),
-      );
-      comp-middle = λ ps f g h x s. (
-        λ t. (o .comp-middle ps f g h x (s .0) .0 (t .0), record { parents = t .1 .parents; args = (s .1 .args .1 .0, tt); result = t .1 .result }),
-        λ t. (o .comp-middle ps f g h x (s .0) .1 (t .0), record { parents = t .1 .parents; args = (s .1 .args .0, tt); result = t .1 .result }),
-      );
+    within-obeys : Obeys (b .sig .models) S → Obeys (b .sig .models) Within
+    within-obeys o = record {
+      identity = λ m i ps a r s.
+          let z = o .identity m i ps a r (s .0) in
+          let k : AppNamed n (func-app (m .dom) ps (r ∷ []) a) = record { parents = s .1 .parents; args = (s .1 .result, tt); result = s .1 .args .0 } in
+          ((z .0, k), (z .1, record { parents = k .parents; args = k .args; result = k .result }));
+      composite = λ m i ps f k h x s.
+          let z = o .composite m i ps f k h x (s .0) in
+          let left = s .1 .args .0 in
+          let right = s .1 .args .1 .0 in
+          let whole = s .1 .result in (
+            (λ t. (z .0 .0 (t .0), at t whole), λ t. (z .0 .1 (t .0), at t left)),
+            (λ t. (z .1 .0 (t .0), at t whole), λ t. (z .1 .1 (t .0), at t right)),
+            (λ t. (z .2 .0 (t .0), at t right), λ t. (z .2 .1 (t .0), at t left)),
+          );
     }
+      where
+        -- the same value, of another function at another element
+        at : {f g e d x : ℕ} {ps : List ℕ} → Within (func-app f ps (e ∷ []) x) → d < n → AppNamed n (func-app g ps (d ∷ []) x)
+        at t h = record { parents = t .1 .parents; args = (h, tt); result = t .1 .result }
 
     within-closed : ClosedAmongAll b R S → ClosedSet b R Within
     within-closed c = record {
@@ -137,7 +141,7 @@ module _ (b : Book) (named : Named b) where
       given = λ x m. (all-at S (b .apps) (c .holds .1) x m, all-at (AppNamed n) (b .apps) (named .apps) x m);
       replaced = λ x y s i m r. (c .respects .alike x y m r (s .0), i);
       functional = λ x y s t m. c .respects .agree x y m (s .0) (t .0);
-      laws = all-map within-obeys (b .sig .models) (c .laws);
+      laws = within-obeys (c .laws);
     }
 
     -- and one over the elements, with numbers that stand alone
@@ -164,18 +168,29 @@ module _ (b : Book) (named : Named b) where
 abbrev pub SharedAmongAll : Sharing
 SharedAmongAll b x y = (R : ℕ → ℕ → Type 0) (S : FuncApp → Type 0) → ClosedAmongAll b R S → R x y
 
--- which, of elements of such a book, is to share a class
-pub shared-among-all : (b : Book) → Named b → (x y : ℕ) → x < elements b → Shared b x y ↔ SharedAmongAll b x y
-unfolding Shared
-shared-among-all b g x y h = (
-  λ s R S c. s R (Within b g R S) (restricted (elements b) R (c .equivalence)) (within-closed b g R S c),
-  λ s R S q c. within (elements b) R q x y h (s (Extended (elements b) R) S (extended-closed b g R S q c)),
-)
+-- and so of applications
+abbrev pub DerivedAmongAll : Book → FuncApp → Type 1
+DerivedAmongAll b x = (R : ℕ → ℕ → Type 0) (S : FuncApp → Type 0) → ClosedAmongAll b R S → S x
 
--- so of applications
-pub derived-among-all : (b : Book) → Named b → (x : FuncApp) → Derived b x → (R : ℕ → ℕ → Type 0) (S : FuncApp → Type 0) → ClosedAmongAll b R S → S x
-unfolding Derived
-derived-among-all b g x d R S c = d R (Within b g R S) (restricted (elements b) R (c .equivalence)) (within-closed b g R S c) .0
+-- Of such a book both are the same.
+module _ (b : Book) (g : Named b) where
+  pub shared-all : (x y : ℕ) → Shared b x y → SharedAmongAll b x y
+  unfolding Shared
+  shared-all x y s R S c = s R (Within b g R S) (restricted (elements b) R (c .equivalence)) (within-closed b g R S c)
+
+  pub shared-among-all : (x y : ℕ) → x < elements b → Shared b x y ↔ SharedAmongAll b x y
+  unfolding Shared
+  shared-among-all x y h = (
+    shared-all x y,
+    λ s R S q c. within (elements b) R q x y h (s (Extended (elements b) R) S (extended-closed b g R S q c)),
+  )
+
+  pub derived-among-all : (x : FuncApp) → Derived b x ↔ DerivedAmongAll b x
+  unfolding Derived
+  derived-among-all x = (
+    λ d R S c. d R (Within b g R S) (restricted (elements b) R (c .equivalence)) (within-closed b g R S c) .0,
+    λ d R S q c. d (Extended (elements b) R) S (extended-closed b g R S q c),
+  )
 
 -- The classes of 01.
 
@@ -183,48 +198,44 @@ derived-among-all b g x d R S c = d R (Within b g R S) (restricted (elements b) 
 abbrev pub In : List FuncApp → FuncApp → Type 0
 In l x = List·Memᴰ x l
 
-module _ (b : Book) (named : Named b) (neither : AppliesNeither b) (R : ℕ → ℕ → Type 0) (q : Partition (elements b) R) (f : Fits b R) where
+-- of applications that are none of id or comp the laws say nothing
+pub neither-obeys : (ms : List ModelM) (S : FuncApp → Type 0) → ((x : FuncApp) → S x → isIdOrComp (x .func) ms ≡ false) → Obeys ms S
+neither-obeys ms S f = record {
+  identity = λ m i ps a r s. absurd (not-id-or-comp (m .id) ms (f (func-app (m .id) ps (a ∷ []) r) s) m i .0 refl);
+  composite = λ m i ps j k h x s. absurd (not-id-or-comp (m .comp) ms (f (func-app (m .comp) ps (j ∷ k ∷ []) h) s) m i .1 refl);
+}
+
+pub book-obeys : (b : Book) → AppliesNeither b → (R : ℕ → ℕ → Type 0) → Obeys (b .sig .models) (Like R (In (b .apps)))
+unfolding AppliesNeither
+book-obeys b neither R =
+    neither-obeys (b .sig .models) (Like R (In (b .apps))) (λ x k.
+    subst (λ (f : ℕ). isIdOrComp f (b .sig .models) ≡ false) (k .meet .func)
+    (all-at (λ (y : FuncApp). isIdOrComp (y .func) (b .sig .models) ≡ false) (b .apps) neither (k .of) (k .has)))
+
+-- a partition that fits the book and what is alike to an application of the book are a closed set
+pub book-closed : (b : Book) → AppliesNeither b → (R : ℕ → ℕ → Type 0) → Equivalence R → Fits b R → ClosedAmongAll b R (Like R (In (b .apps)))
+book-closed b neither R q f = record {
+  equivalence = q;
+  respects = like-respects R q (In (b .apps)) (f .functional);
+  laws = book-obeys b neither R;
+  holds = (
+    all-from (HoldsOfPair R) (b .equalities) (f .equal),
+    all-from (Like R (In (b .apps))) (b .apps) (like-self R q (In (b .apps))),
+  );
+}
+
+module _ (b : Book) (named : Named b) (R : ℕ → ℕ → Type 0) (q : Partition (elements b) R) (f : Fits b R) where
   abbrev E : ℕ → ℕ → Type 0
   E = Extended (elements b) R
 
-  fits : Fits b E
-  fits = record {
+  extended-fits : Fits b E
+  extended-fits = record {
     equal = λ p m. let i = all-at (PairNamed (elements b)) (b .equalities) (named .equalities) p m in inr (i .lhs, i .rhs, f .equal p m);
     functional = λ v w m o t.
         let i = all-at (AppNamed (elements b)) (b .apps) (named .apps) v m in
         let j = all-at (AppNamed (elements b)) (b .apps) (named .apps) w o in
         inr (i .result, j .result, f .functional v w m o (meet-within (elements b) R q v w i t));
   }
-
-  -- what is alike to an application of the book is none of id or comp
-  no-operation : (m : ModelM) → List·Memᴰ m (b .sig .models) → (x : FuncApp) → Like E (In (b .apps)) x → (x .func ≡ m .id) ⊎ (x .func ≡ m .comp) → ⊥
-  unfolding AppliesNeither
-  no-operation m i x k e =
-      let z = not-id-or-comp (k .of .func) (b .sig .models) (all-at (λ (y : FuncApp). isIdOrComp (y .func) (b .sig .models) ≡ false) (b .apps) neither (k .of) (k .has)) m i in
-      elim e [ inl p ↦ z .0 (k .meet .func ∙ p) | inr p ↦ z .1 (k .meet .func ∙ p) ]
-
-  book-obeys : (m : ModelM) → List·Memᴰ m (b .sig .models) → Obeys (Like E (In (b .apps))) m
-  book-obeys m i = record {
-    id-dom = λ ps a r s. absurd (no-operation m i _ s (inl refl));
-    id-cod = λ ps a r s. absurd (no-operation m i _ s (inl refl));
-    comp-dom = λ ps f g h x s. absurd (no-operation m i _ s (inr refl));
-    comp-cod = λ ps f g h x s. absurd (no-operation m i _ s (inr refl));
-    comp-middle = λ ps f g h x s. absurd (no-operation m i _ s (inr refl));
-  }
-
-  -- a fitting partition and what is alike to an application of the book are a closed set
-  fits-closed : ClosedAmongAll b E (Like E (In (b .apps)))
-  fits-closed =
-      let e = extended (elements b) R q in
-      record {
-        equivalence = e;
-        respects = like-respects E e (In (b .apps)) (fits .functional);
-        laws = all-from (Obeys (Like E (In (b .apps)))) (b .sig .models) book-obeys;
-        holds = (
-          all-from (HoldsOfPair E) (b .equalities) (fits .equal),
-          all-from (Like E (In (b .apps))) (b .apps) (like-self E e (In (b .apps))),
-        );
-      }
 
 -- the laws put more together
 pub fits-shared : (b : Book) (x y : ℕ) → SharedByFits b x y → Shared b x y
@@ -240,6 +251,6 @@ unfolding SharedByFits
 neither-shared b g a x y h = (
   λ s R q f.
       within (elements b) R q x y h
-      (shared-among-all b g x y h .0 s (Extended (elements b) R) (Like (Extended (elements b) R) (In (b .apps))) (fits-closed b g a R q f)),
+      (shared-among-all b g x y h .0 s (Extended (elements b) R) (Like (Extended (elements b) R) (In (b .apps))) (book-closed b a (Extended (elements b) R) (extended (elements b) R q) (extended-fits b g R q f))),
   fits-shared b x y,
 )

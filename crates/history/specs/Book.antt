@@ -10,9 +10,9 @@ use Rattle.ids.specs.Count.{count}
 use Rattle.ids.specs.Sorted.{All}
 use Rattle.unification.specs.Roots.{rootOf}
 use Rattle.signature.specs.Model as signature
-use Rattle.signature.specs.Model.{Sig, ModelM}
+use Rattle.signature.specs.Model.{Sig}
 use Rattle.signature.specs.Calls.{withType, withPred, withFunc, withModel, withMorApp}
-use Rattle.semantics.specs.Structure.{Pair, pair, FuncApp, func-app}
+use Rattle.semantics.specs.Structure.{Pair, pair, FuncApp}
 use Rattle.semantics.specs.Types.{anyMarked}
 use Rattle.semantics.specs.Valid.{Below}
 use Rattle.semantics.specs.Close.{Closed}
@@ -20,6 +20,7 @@ use Rattle.semantics.specs.Calls.{Call, push-type, push-pred, push-func, push-m
 use Rattle.semantics.specs.Calls.{apply-func, apply-pred, bind-var, bind-ambient, close, type-conflicts, settle, root, root-const}
 use Rattle.semantics.specs.Calls.{lookup-type, ambient-parents, Totals, closed, summed, isAccepted, mergesOf, Machine, settleRun, Step, start, step}
 use Rattle.semantics.specs.Calls.{isIdOrComp}
+use Rattle.history.specs.Laws.{Obeys}
 
 -- The book: "it reads no structure".
 
@@ -146,22 +147,6 @@ pub record AppNamed (n : ℕ) (x : FuncApp) : Type 0 where
   pub args : Below n (x .args)
   pub result : x .result < n
 
--- "closed under these laws" (02, M-102): what applications of a model's id and comp that are in S say of its dom and cod
-pub record Obeys (S : FuncApp → Type 0) (m : ModelM) : Type 0 where
-  -- id(P; a) = r gives dom(P; r) = a
-  pub id-dom : (ps : List ℕ) (a r : ℕ) → S (func-app (m .id) ps (a ∷ []) r) → S (func-app (m .dom) ps (r ∷ []) a)
-  -- and cod(P; r) = a
-  pub id-cod : (ps : List ℕ) (a r : ℕ) → S (func-app (m .id) ps (a ∷ []) r) → S (func-app (m .cod) ps (r ∷ []) a)
-  -- comp(P; f, g) = h: dom(P; f) = x exactly when dom(P; h) = x
-  pub comp-dom : (ps : List ℕ) (f g h x : ℕ) → S (func-app (m .comp) ps (f ∷ g ∷ []) h)
-      → S (func-app (m .dom) ps (f ∷ []) x) ↔ S (func-app (m .dom) ps (h ∷ []) x)
-  -- cod(P; g) = x exactly when cod(P; h) = x
-  pub comp-cod : (ps : List ℕ) (f g h x : ℕ) → S (func-app (m .comp) ps (f ∷ g ∷ []) h)
-      → S (func-app (m .cod) ps (g ∷ []) x) ↔ S (func-app (m .cod) ps (h ∷ []) x)
-  -- cod(P; f) = x exactly when dom(P; g) = x
-  pub comp-middle : (ps : List ℕ) (f g h x : ℕ) → S (func-app (m .comp) ps (f ∷ g ∷ []) h)
-      → S (func-app (m .cod) ps (f ∷ []) x) ↔ S (func-app (m .dom) ps (g ∷ []) x)
-
 -- "set of applications and equalities closed under these laws too" (02, M-102): the applications that are in S, of elements that are equal as R says
 pub record ClosedSet (b : Book) (R : ℕ → ℕ → Type 0) (S : FuncApp → Type 0) : Type 0 where
   -- they are of the book's elements
@@ -174,7 +159,7 @@ pub record ClosedSet (b : Book) (R : ℕ → ℕ → Type 0) (S : FuncApp → Ty
   -- functionality
   pub functional : (x y : FuncApp) → S x → S y → Meet R x y → R (x .result) (y .result)
   -- identities and composites
-  pub laws : All (Obeys S) (b .sig .models)
+  pub laws : Obeys (b .sig .models) S
 
 -- which elements share a class
 abbrev pub Sharing : Type 2
