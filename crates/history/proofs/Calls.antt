@@ -2,7 +2,7 @@
 use mathlib.Core.Path.{_≡_, refl, sym, ap, subst, _∙_}
 use mathlib.Core.Logic.{_≢_, _↔_, ⊎-elim}
 use mathlib.Core.Bool.{Bool, true, false, _&&_}
-use mathlib.Core.List.{List, [], _∷_, _++_, Memᴰ·append-left}
+use mathlib.Core.List.{List, [], _∷_, _++_}
 use mathlib.Core.Option.{Option, none, some}
 use Prim.Native.Nat.{ℕ, _+_, _≤_, _<_}
 use native.Mathlib.Omega.{arith}
@@ -13,12 +13,12 @@ use borrow.Author.Tests.{eqb-true, ltb-true, leb-false, not-false}
 use Rattle.ids.specs.Table.{placed, lookupOf}
 use Rattle.ids.proofs.Answers.{or-neither}
 use Rattle.ids.proofs.Judging.{NoneApplies}
-use Rattle.ids.proofs.Sorted.{All, all-map, all-at, lookup-sound, lookup-none, placed-all, placed-own, placed-rest}
+use Rattle.ids.proofs.Sorted.{All, all-map, all-at, all-left, lookup-sound, lookup-none, placed-all, placed-own, placed-rest}
 use Rattle.unification.specs.Roots.{maxEls, rootOf, shortOf, addedOf, findCauses}
 use Rattle.unification.proofs.Numbers.{less-or, same-or}
 use Rattle.unification.proofs.Laws.{root-le, short-length}
 use Rattle.unification.proofs.Theorems.{added-formed, short-formed, short-root}
-use Rattle.signature.specs.Model.{Sig, ModelM, with-types, with-preds, with-funcs, with-models, with-mor-apps}
+use Rattle.signature.specs.Model.{Sig, with-types, with-preds, with-funcs, with-models, with-mor-apps}
 use Rattle.signature.specs.Calls.{isFunc, withType, withPred, withFunc, withModel, withMorApp}
 use Rattle.semantics.specs.Structure as structure
 use Rattle.semantics.specs.Structure.{Fact, FuncApp, Pair, pair, Structure, compareFuncApp, canonicalFuncApp}
@@ -47,7 +47,7 @@ use Rattle.history.proofs.Elements.{HoldsOfBook, Named, pair-more, app-
 use Rattle.history.proofs.Counts.{roots-added, added-length, added-root}
 use Rattle.history.proofs.Drain.{Unmarked}
 use Rattle.history.proofs.Functionality.{found-agrees, found-says}
-use Rattle.history.proofs.Passes.{HoldsOfCore, Ready}
+use Rattle.history.proofs.Passes.{HoldsOfCore, roots-below, Ready}
 use Rattle.history.proofs.Closing.{ClosedSoundly, unmet, closed-step, run-soundly}
 
 -- the book tied to a core and its applications
@@ -57,20 +57,13 @@ pub record Tied (b : Book) (w : Core) (xs : List FuncApp) : Type 1 where
   -- elements are roots and merges
   pub sum : roots (w .links) + b .merges ≡ elements b
   -- a closed set that has what the book has agrees with the structure
-  pub on : (R : ℕ → ℕ → Type 0) (S : FuncApp → Type 0) → Equivalence R → Respects R S → Obeys (b .sig .models) S → HoldsOfBook R S b
+  pub on : (R : ℕ → ℕ → Type 0) (S : FuncApp → Type 0) → Equivalence R → Respects R S → All (Obeys S) (b .sig .models) → HoldsOfBook R S b
       → HoldsOfCore R S w xs
   -- and conversely, where the laws do not matter
   pub back : (R : ℕ → ℕ → Type 0) (S : FuncApp → Type 0) → Equivalence R → Respects R S → HoldsOfCore R S w xs → HoldsOfBook R S b
 
 abbrev pub TiedTo : Book → Structure → Type 1
 TiedTo b s = Tied b (coreAtStart s) (s .func-apps)
-
--- a claim that obeys the laws of some models obeys those of the first of them
-obeys-fewer : (ms ns : List ModelM) (S : FuncApp → Type 0) → Obeys (ms ++ ns) S → Obeys ms S
-obeys-fewer ms ns S o = record {
-  identity = λ m i. o .identity m (Memᴰ·append-left ns i);
-  composite = λ m i. o .composite m (Memᴰ·append-left ns i);
-}
 
 -- other links and marks, with the same roots: no partition tells them apart
 alike-holds : (R : ℕ → ℕ → Type 0) (S : FuncApp → Type 0) (w : Core) (xs : List FuncApp) (ks : List ℕ) (ms : List Bool) → ((x : ℕ) → rootOf ks x ≡ rootOf (w .links) x)
@@ -93,6 +86,7 @@ relinked b w xs e g h =
       ready = record {
         kept = record { formed = short-formed (w .links) e f; long = long ∙ g .ready .kept .long; sum = omega (arith, g .ready .kept .sum) };
         pairs = g .ready .pairs;
+        args = g .ready .args;
         results = g .ready .results;
         plain = g .ready .plain;
       };
@@ -107,7 +101,7 @@ relinked b w xs e g h =
 module _ (b b′ : Book) (w : Core) (xs : List FuncApp) (x y : ℕ) (g : Tied b w xs) (hx : x < elements b) (hy : y < elements b)
     (many : elements b′ ≡ elements b) (merged : b′ .merges ≡ b .merges)
     (signed : b′ .sig ≡ b .sig)
-    (splits : (R : ℕ → ℕ → Type 0) (S : FuncApp → Type 0) → Equivalence R → Respects R S → Obeys (b .sig .models) S → HoldsOfBook R S b′ → HoldsOfBook R S b × R x y)
+    (splits : (R : ℕ → ℕ → Type 0) (S : FuncApp → Type 0) → Equivalence R → Respects R S → All (Obeys S) (b .sig .models) → HoldsOfBook R S b′ → HoldsOfBook R S b × R x y)
     (joins : (R : ℕ → ℕ → Type 0) (S : FuncApp → Type 0) → Equivalence R → Respects R S → HoldsOfCore R S w xs → HoldsOfBook R S b → R x y → HoldsOfBook R S b′) where
   queued : Tied b′ (with-links (shortOf (shortOf (w .links) x) y) (with-pairs (pair x y ∷ w .pairs) w)) xs
   queued =
@@ -122,13 +116,14 @@ module _ (b b′ : Book) (w : Core) (xs : List FuncApp) (x y : ℕ) (g : Tied b 
         ready = subst (λ n. Ready n (roots (v .links)) v xs) (sym many) (record {
           kept = record { formed = g₂ .ready .kept .formed; long = g₂ .ready .kept .long; sum = g₂ .ready .kept .sum };
           pairs = ((hx, hy), g .ready .pairs);
+          args = g .ready .args;
           results = g .ready .results;
           plain = g .ready .plain;
         });
         small = omega (arith, g .small);
         sum = omega (arith, g₂ .sum);
         on = λ R S q law o f.
-            let p = subst (λ (g : Sig). Obeys (g .models) S) signed o in
+            let p = subst (λ (g : Sig). All (Obeys S) (g .models)) signed o in
             let z = splits R S q law p f in
             let a = g₂ .on R S q law p (z .0) in
             record { rooted = a .rooted; pairs = (z .1, a .pairs); apps = a .apps };
@@ -172,6 +167,7 @@ element-tied b w xs mark g h e =
           sum = omega (arith, g .ready .kept .sum);
         };
         pairs = all-map (λ p i. (omega (arith, more, i .0), omega (arith, more, i .1))) (w .pairs) (g .ready .pairs);
+        args = all-map (λ x i. all-map (λ e (l : e < elements b). omega (arith, more, l)) (x .args) i) xs (g .ready .args);
         results = all-map (λ x i. omega (arith, more, i)) xs (g .ready .results);
         plain = subst (λ m. Unmarked (w .marks ++ (m ∷ []))) (sym e) (push-unmarked (w .marks) (g .ready .plain));
       };
@@ -183,7 +179,7 @@ element-tied b w xs mark g h e =
 
 -- Kind 9.
 
-module _ (b : Book) (w : Core) (xs : List FuncApp) (x : FuncApp) (g : Tied b w xs) (hx : x .result < elements b) where
+module _ (b : Book) (w : Core) (xs : List FuncApp) (x : FuncApp) (g : Tied b w xs) (hargs : Below (elements b) (x .args)) (hx : x .result < elements b) where
   abbrev y : FuncApp
   y = canonicalFuncApp (w .links) x
 
@@ -191,10 +187,14 @@ module _ (b : Book) (w : Core) (xs : List FuncApp) (x : FuncApp) (g : Tied b w x
   unfolding canonicalFuncApp
   y-inside = omega (arith, root-le (w .links) (x .result))
 
+  y-args : Below (elements b) (y .args)
+  unfolding canonicalFuncApp
+  y-args = roots-below (elements b) (w .links) (x .args) hargs
+
   abbrev b′ : Book
   b′ = taken (apply-func x) 0 b
 
-  image-from-book : (R : ℕ → ℕ → Type 0) (S : FuncApp → Type 0) → Equivalence R → Respects R S → Obeys (b .sig .models) S → HoldsOfBook R S b′
+  image-from-book : (R : ℕ → ℕ → Type 0) (S : FuncApp → Type 0) → Equivalence R → Respects R S → All (Obeys S) (b .sig .models) → HoldsOfBook R S b′
       → HoldsOfBook R S b × S y
   unfolding taken
   image-from-book R S q law o f =
@@ -213,6 +213,7 @@ module _ (b : Book) (w : Core) (xs : List FuncApp) (x : FuncApp) (g : Tied b w x
     ready = record {
       kept = g .ready .kept;
       pairs = g .ready .pairs;
+      args = placed-all compareFuncApp y (λ z. Below (elements b) (z .args)) xs y-args (g .ready .args);
       results = placed-all compareFuncApp y (λ z. z .result < elements b) xs y-inside (g .ready .results);
       plain = g .ready .plain;
     };
@@ -288,25 +289,25 @@ module _ (x : FuncApp) (ls : List ℕ) (ps : List Pair) (xs : List FuncApp) wher
 
 -- Kind 13.
 
-module _ (b : Book) (m : Machine) where
+module _ (b : Book) (m : Machine) (v : ValidMachine m) where
   abbrev run : CloseRun
   run = closeRun (m .sig) (m .structure)
 
   pub close-soundly : TiedTo b (m .structure) → run .core .met ≡ none
-      → ClosedSoundly (elements b) (roots (m .structure .links)) (m .structure) (afterClose run (m .structure)) (reportOf run)
+      → ClosedSoundly (m .sig .models) (m .sig) (elements b) (roots (m .structure .links)) (m .structure) (afterClose run (m .structure)) (reportOf run)
   unfolding fuel coreAtStart
   close-soundly g =
-      run-soundly (elements b) (roots (m .structure .links)) (m .sig) (m .structure) (g .ready) (omega (arith, g .sum, g .small))
+      run-soundly (m .sig .models) (elements b) (roots (m .structure .links)) (m .sig) (m .structure) v (g .ready) (omega (arith, g .sum, g .small))
 
-  close-tied : TiedTo b (m .structure) → run .core .met ≡ none → TiedTo (taken close (reportOf run .merges) b) (afterClose run (m .structure))
+  close-tied : b .sig ≡ m .sig → TiedTo b (m .structure) → run .core .met ≡ none → TiedTo (taken close (reportOf run .merges) b) (afterClose run (m .structure))
   unfolding taken coreAtStart
-  close-tied g met =
+  close-tied same g met =
       let z = close-soundly g met in
       record {
         ready = z .ready;
         small = g .small;
         sum = omega (arith, z .sum, g .sum);
-        on = λ R S q law o f. z .sound .on R S q law (g .on R S q law o f);
+        on = λ R S q law o f. z .sound .on R S q law (subst (λ (g : Sig). All (Obeys S) (g .models)) same o) (g .on R S q law o f);
         back = λ R S q law f. g .back R S q law (z .sound .back R S q law f);
       }
 
@@ -343,7 +344,7 @@ module _ (m : Machine) (b : Book) (v : ValidMachine m) (g : AgreesWith b m) wher
     sig = g .sig;
     long = after-els (m .sig) (m .structure) v ∙ g .long;
     named = record { equalities = g .named .equalities; apps = g .named .apps };
-    tied = λ u. close-tied b m (g .tied u) met;
+    tied = λ u. close-tied b m v (g .sig) (g .tied u) met;
   }
 
   closed-agrees : (a : Closed) → step close m .answer ≡ closed a → AgreesWith (taken close (a .merges) b) (step close m .after)
@@ -433,17 +434,18 @@ module _ (m : Machine) (b : Book) (v : ValidMachine m) (g : AgreesWith b m) wher
       let a = and-second o (p && (q && r)) (not-false (o && (p && (q && r))) (clear .1 .0)) in
       let c = and-second p (q && r) a in
       let hx = declared (x .result) (and-second q r c) in
+      let hargs = all-declared (x .args) (and-first q r c) in
       record {
         sig = g .sig;
         long = applied-length x ls (s .pairs) (s .func-apps) ∙ g .long;
         named = record {
           equalities = g .named .equalities;
           apps = (
-            record { parents = all-declared (x .parents) (and-first p (q && r) a); args = all-declared (x .args) (and-first q r c); result = hx },
+            record { parents = all-declared (x .parents) (and-first p (q && r) a); args = hargs; result = hx },
             g .named .apps,
           );
         };
-        tied = λ e. application-tied b (coreAtStart s) (s .func-apps) x (g .tied e) hx;
+        tied = λ e. application-tied b (coreAtStart s) (s .func-apps) x (g .tied e) hargs hx;
       }
 
   root-agrees : (e : ℕ) → NoneApplies (findCauses ls e) → AgreesWith b (at (structure.with-links (shortOf ls e) s))
@@ -456,7 +458,7 @@ module _ (m : Machine) (b : Book) (v : ValidMachine m) (g : AgreesWith b m) wher
   }
 
   -- kinds 1 to 5: both signatures grow alike, and a claim that obeys the laws of all models obeys those of fewer
-  declared-agrees : (h : Sig) → (i : Sig) → h ≡ i → ((S : FuncApp → Type 0) → Obeys (h .models) S → Obeys (b .sig .models) S)
+  declared-agrees : (h : Sig) → (i : Sig) → h ≡ i → ((S : FuncApp → Type 0) → All (Obeys S) (h .models) → All (Obeys S) (b .sig .models))
       → AgreesWith (with-sig h b) (machine i s)
   unfolding coreAtStart
   declared-agrees h i same fewer = record {
@@ -473,7 +475,7 @@ module _ (m : Machine) (b : Book) (v : ValidMachine m) (g : AgreesWith b m) wher
   effect-agrees (push-type t) clear = declared-agrees _ _ (ap (λ (h : Sig). withType h t) (g .sig)) (λ S o. o)
   effect-agrees (push-pred p) clear = declared-agrees _ _ (ap (λ (h : Sig). withPred h p) (g .sig)) (λ S o. o)
   effect-agrees (push-func f) clear = declared-agrees _ _ (ap (λ (h : Sig). withFunc h f) (g .sig)) (λ S o. o)
-  effect-agrees (push-model x) clear = declared-agrees _ _ (ap (λ (h : Sig). withModel h x) (g .sig)) (λ S o. obeys-fewer (b .sig .models) (x ∷ []) S o)
+  effect-agrees (push-model x) clear = declared-agrees _ _ (ap (λ (h : Sig). withModel h x) (g .sig)) (λ S o. all-left (Obeys S) (b .sig .models) (x ∷ []) o)
   effect-agrees (push-mor-app x) clear = declared-agrees _ _ (ap (λ (h : Sig). withMorApp h x) (g .sig)) (λ S o. o)
   effect-agrees (push-el mark) clear = el-agrees mark clear
   effect-agrees (equate-els x y) clear = equality-agrees x y clear

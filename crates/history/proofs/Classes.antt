@@ -61,7 +61,7 @@ module _ (b : Book) (w : Core) (xs : List FuncApp) (named : Named b) (g : Tied b
 
   -- nothing remains to join, and the laws hold of what is stored
   module _ (none : w .pairs ≡ []) (sorted : Sorted compareFuncApp xs) (canon : All (Canon ls) xs)
-      (laws : Obeys (b .sig .models) (Like (OneRoot ls) (In xs))) where
+      (laws : All (Obeys (Like (OneRoot ls) (In xs))) (b .sig .models)) where
     respects : Respects (OneRoot ls) (Like (OneRoot ls) (In xs))
     respects = like-respects (OneRoot ls) (one-root ls) (In xs) (canonical-agree ls xs sorted canon)
 

@@ -1,7 +1,7 @@
 -- Closed sets over a book's elements, and over all numbers: where the book names no other numbers, both give the same classes. And where no application
 -- of the book is one of id or comp, these are the classes of 01.
 use mathlib.Core.Path.{_≡_, refl, sym, subst}
-use mathlib.Core.Logic.{_↔_, _⊎_, inl, inr}
+use mathlib.Core.Logic.{_↔_, _≢_, _⊎_, inl, inr}
 use mathlib.Core.Bool.{false}
 use mathlib.Core.List.{List, [], _∷_, List·Memᴰ}
 use Prim.Native.Nat.{ℕ, _≤_, _<_}
@@ -11,6 +11,7 @@ use Rattle.signature.specs.Model.{ModelM}
 use Rattle.semantics.specs.Structure.{Pair, FuncApp, func-app}
 use Rattle.semantics.specs.Valid.{Below}
 use Rattle.semantics.specs.Calls.{isIdOrComp}
+use Rattle.semantics.proofs.Operations.{NoOperation}
 use Rattle.validity.proofs.Reserved.{not-id-or-comp}
 use Rattle.history.specs.Book.{Book, elements, Partition, Together, none, more, Meet, AppNamed, ClosedSet, Sharing, Shared, Derived}
 use Rattle.history.specs.Book.{Fits, SharedByFits, AppliesNeither}
@@ -101,7 +102,7 @@ HoldsOfBook R S b = All (HoldsOfPair R) (b .equalities) × All S (b .apps)
 pub record ClosedAmongAll (b : Book) (R : ℕ → ℕ → Type 0) (S : FuncApp → Type 0) : Type 0 where
   pub equivalence : Equivalence R
   pub respects : Respects R S
-  pub laws : Obeys (b .sig .models) S
+  pub laws : All (Obeys S) (b .sig .models)
   pub holds : HoldsOfBook R S b
 
 module _ (b : Book) (named : Named b) where
@@ -113,26 +114,24 @@ module _ (b : Book) (named : Named b) where
     abbrev Within : FuncApp → Type 0
     Within x = S x × AppNamed n x
 
-    within-obeys : Obeys (b .sig .models) S → Obeys (b .sig .models) Within
-    within-obeys o = record {
-      identity = λ m i ps a r s.
-          let z = o .identity m i ps a r (s .0) in
-          let k : AppNamed n (func-app (m .dom) ps (r ∷ []) a) = record { parents = s .1 .parents; args = (s .1 .result, tt); result = s .1 .args .0 } in
-          ((z .0, k), (z .1, record { parents = k .parents; args = k .args; result = k .result }));
-      composite = λ m i ps f k h x s.
-          let z = o .composite m i ps f k h x (s .0) in
-          let left = s .1 .args .0 in
-          let right = s .1 .args .1 .0 in
-          let whole = s .1 .result in (
-            (λ t. (z .0 .0 (t .0), at t whole), λ t. (z .0 .1 (t .0), at t left)),
-            (λ t. (z .1 .0 (t .0), at t whole), λ t. (z .1 .1 (t .0), at t right)),
-            (λ t. (z .2 .0 (t .0), at t right), λ t. (z .2 .1 (t .0), at t left)),
-          );
+    -- the same value, of another function at another element
+    at : {f e x : ℕ} {ps : List ℕ} → Within (func-app f ps (e ∷ []) x) → (k d : ℕ) → d < n → AppNamed n (func-app k ps (d ∷ []) x)
+    at t k d h = record { parents = t .1 .parents; args = (h, tt); result = t .1 .result }
+
+    within-obeys : (m : ModelM) → Obeys S m → Obeys Within m
+    within-obeys m o = record {
+      id-dom = λ ps a r s. (o .id-dom ps a r (s .0), record { parents = s .1 .parents; args = (s .1 .result, tt); result = s .1 .args .0 });
+      id-cod = λ ps a r s. (o .id-cod ps a r (s .0), record { parents = s .1 .parents; args = (s .1 .result, tt); result = s .1 .args .0 });
+      comp-dom = λ ps f g h x s.
+          let z = o .comp-dom ps f g h x (s .0) in
+          (λ t. (z .0 (t .0), at t (m .dom) h (s .1 .result)), λ t. (z .1 (t .0), at t (m .dom) f (s .1 .args .0)));
+      comp-cod = λ ps f g h x s.
+          let z = o .comp-cod ps f g h x (s .0) in
+          (λ t. (z .0 (t .0), at t (m .cod) h (s .1 .result)), λ t. (z .1 (t .0), at t (m .cod) g (s .1 .args .1 .0)));
+      comp-middle = λ ps f g h x s.
+          let z = o .comp-middle ps f g h x (s .0) in
+          (λ t. (z .0 (t .0), at t (m .dom) g (s .1 .args .1 .0)), λ t. (z .1 (t .0), at t (m .cod) f (s .1 .args .0)));
     }
-      where
-        -- the same value, of another function at another element
-        at : {f g e d x : ℕ} {ps : List ℕ} → Within (func-app f ps (e ∷ []) x) → d < n → AppNamed n (func-app g ps (d ∷ []) x)
-        at t h = record { parents = t .1 .parents; args = (h, tt); result = t .1 .result }
 
     within-closed : ClosedAmongAll b R S → ClosedSet b R Within
     within-closed c = record {
@@ -141,7 +140,7 @@ module _ (b : Book) (named : Named b) where
       given = λ x m. (all-at S (b .apps) (c .holds .1) x m, all-at (AppNamed n) (b .apps) (named .apps) x m);
       replaced = λ x y s i m r. (c .respects .alike x y m r (s .0), i);
       functional = λ x y s t m. c .respects .agree x y m (s .0) (t .0);
-      laws = within-obeys (c .laws);
+      laws = all-map within-obeys (b .sig .models) (c .laws);
     }
 
     -- and one over the elements, with numbers that stand alone
@@ -199,18 +198,27 @@ abbrev pub In : List FuncApp → FuncApp → Type 0
 In l x = List·Memᴰ x l
 
 -- of applications that are none of id or comp the laws say nothing
-pub neither-obeys : (ms : List ModelM) (S : FuncApp → Type 0) → ((x : FuncApp) → S x → isIdOrComp (x .func) ms ≡ false) → Obeys ms S
-neither-obeys ms S f = record {
-  identity = λ m i ps a r s. absurd (not-id-or-comp (m .id) ms (f (func-app (m .id) ps (a ∷ []) r) s) m i .0 refl);
-  composite = λ m i ps j k h x s. absurd (not-id-or-comp (m .comp) ms (f (func-app (m .comp) ps (j ∷ k ∷ []) h) s) m i .1 refl);
-}
+pub neither-obeys : (ms : List ModelM) (S : FuncApp → Type 0) → ((x : FuncApp) → S x → NoOperation ms x) → All (Obeys S) ms
+neither-obeys ms S plain = all-from (Obeys S) ms (λ m i. record {
+  id-dom = λ ps a r s. absurd (no-id m i (func-app (m .id) ps (a ∷ []) r) s refl);
+  id-cod = λ ps a r s. absurd (no-id m i (func-app (m .id) ps (a ∷ []) r) s refl);
+  comp-dom = λ ps f g h x s. absurd (no-comp m i (func-app (m .comp) ps (f ∷ g ∷ []) h) s refl);
+  comp-cod = λ ps f g h x s. absurd (no-comp m i (func-app (m .comp) ps (f ∷ g ∷ []) h) s refl);
+  comp-middle = λ ps f g h x s. absurd (no-comp m i (func-app (m .comp) ps (f ∷ g ∷ []) h) s refl);
+})
+  where
+    no-id : (m : ModelM) → List·Memᴰ m ms → (x : FuncApp) → S x → x .func ≢ m .id
+    no-id m i x s = not-id-or-comp (x .func) ms (plain x s) m i .0
 
-pub book-obeys : (b : Book) → AppliesNeither b → (R : ℕ → ℕ → Type 0) → Obeys (b .sig .models) (Like R (In (b .apps)))
+    no-comp : (m : ModelM) → List·Memᴰ m ms → (x : FuncApp) → S x → x .func ≢ m .comp
+    no-comp m i x s = not-id-or-comp (x .func) ms (plain x s) m i .1
+
+pub book-obeys : (b : Book) → AppliesNeither b → (R : ℕ → ℕ → Type 0) → All (Obeys (Like R (In (b .apps)))) (b .sig .models)
 unfolding AppliesNeither
 book-obeys b neither R =
     neither-obeys (b .sig .models) (Like R (In (b .apps))) (λ x k.
     subst (λ (f : ℕ). isIdOrComp f (b .sig .models) ≡ false) (k .meet .func)
-    (all-at (λ (y : FuncApp). isIdOrComp (y .func) (b .sig .models) ≡ false) (b .apps) neither (k .of) (k .has)))
+    (all-at (NoOperation (b .sig .models)) (b .apps) neither (k .of) (k .has)))
 
 -- a partition that fits the book and what is alike to an application of the book are a closed set
 pub book-closed : (b : Book) → AppliesNeither b → (R : ℕ → ℕ → Type 0) → Equivalence R → Fits b R → ClosedAmongAll b R (Like R (In (b .apps)))

@@ -23,7 +23,7 @@ use Rattle.semantics.proofs.Settling.{Closes, settle-closes}
 use Rattle.validity.proofs.Calls.{ValidMachine, start-valid, step-valid}
 use Rattle.history.proofs.Elements.{Named, SharedAmongAll, shared-among-all}
 use Rattle.semantics.proofs.Canonical.{Canon}
-use Rattle.history.proofs.Closing.{closed-step}
+use Rattle.history.proofs.Closing.{closed-step, unreserved-plain}
 use Rattle.history.proofs.Settling.{last-some, settle-ends}
 use Rattle.history.proofs.Calls.{TiedTo, AgreesWith, close-soundly, fed-agrees}
 
@@ -54,7 +54,7 @@ begin-valid = record {
     long = refl;
     named = record { equalities = tt; apps = tt };
     tied = λ e. record {
-      ready = record { kept = record { formed = none-formed; long = refl; sum = refl }; pairs = tt; results = tt; plain = λ e. refl };
+      ready = record { kept = record { formed = none-formed; long = refl; sum = refl }; pairs = tt; args = tt; results = tt; plain = λ e. refl };
       small = omega arith;
       sum = refl;
       on = λ R S q law f. record { rooted = λ x. subst (λ z. R z x) (sym (root-empty x)) (q .same x); pairs = tt; apps = tt };
@@ -150,12 +150,12 @@ close-leaves : (h : History) (c : Closed) → ValidHistory h → anyMarked (h .b
 unfolding leaves
 close-leaves h c valid unmarked e =
     let a = closed-step (h .machine) c e in
-    let s = close-soundly (h .book) (h .machine) (valid .book .tied unmarked) (a .met) in
+    let s = close-soundly (h .book) (h .machine) (valid .valid) (valid .book .tied unmarked) (a .met) in
     subst (λ (m : Machine). LeftBy (c ∷ []) (m .structure)) (sym (a .after)) (record {
       pairs = s .pairs;
       sorted = s .sorted;
       canon = s .canon;
-      few = (subst (λ (d : Closed). d .rounds ≤ d .merges + 2) (sym (a .answer)) (s .few), tt);
+      few = (subst (λ (d : Closed). d .rounds ≤ d .merges + 2) (sym (a .answer)) (s .few (unreserved-plain (h .machine .sig) (h .machine .structure .func-apps) (valid .valid .unreserved))), tt);
     })
 
 closes-leave : (cs : List Closed) (h : History) (z : Machine) → ValidHistory h → anyMarked (h .book .marks) ≡ false → Closes (h .machine) cs z → 0 < length cs

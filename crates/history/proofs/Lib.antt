@@ -4,6 +4,7 @@ pub mod Counts
 pub mod Drain
 pub mod Tables
 pub mod Functionality
+pub mod Operations
 pub mod Imposing
 pub mod Unjoined
 pub mod Passes

@@ -2,7 +2,7 @@
 use mathlib.Core.Path.{_≡_, refl, sym, subst, subst₂, ap, ap₂, _∙_}
 use mathlib.Core.Logic.{_⊎_, inl, inr}
 use mathlib.Core.Bool.{Bool, false, _||_, or-false}
-use mathlib.Core.List.{List, [], _∷_}
+use mathlib.Core.List.{List, [], _∷_, map}
 use mathlib.Core.Option.{none}
 use Prim.Native.Nat.{ℕ, _+_, _≤_, _<_}
 use native.Mathlib.Omega.{arith}
@@ -10,21 +10,23 @@ use native.Mathlib.Nat.{le-refl, le-trans}
 use lib.ListN.{length}
 use lib.Dec.{ltb}
 use borrow.Author.Tests.{le-ltb, ltb-false}
-use Rattle.ids.proofs.Sorted.{All, all-of, all-map, Sorted}
+use Rattle.ids.proofs.Sorted.{All, all-of, all-map, all-image, Sorted}
 use Rattle.unification.specs.Roots.{rootOf, Formed}
 use Rattle.unification.proofs.Laws.{root-le, root-root}
-use Rattle.signature.specs.Model.{Sig}
+use Rattle.signature.specs.Model.{Sig, ModelM}
 use Rattle.semantics.specs.Structure.{Fact, FuncApp, PredApp, Pair, compareFuncApp, canonicalFuncApp}
 use Rattle.semantics.specs.Types as types
 use Rattle.semantics.specs.Types.{Core, drain, imposeAll, grew}
 use Rattle.semantics.specs.Close.{Rewritten, rewriting, enterAll, demands, Turn, turn, reports, drained, drainPass, rewrote, functionalityPass, typed}
 use Rattle.semantics.specs.Close.{typingPass, Pass, passes, runPasses, round}
+use Rattle.semantics.specs.Valid.{Below}
 use Rattle.semantics.proofs.Cases.{or-first, or-second}
 use Rattle.semantics.proofs.Counts.{roots}
 use Rattle.semantics.proofs.Functionality.{enterAll-all, enterAll-sorted, enterAll-pairs, enterAll-none}
 use Rattle.semantics.proofs.Queues.{drain-pairs, fresh}
 use Rattle.semantics.proofs.Stages.{Stage, Along}
 use Rattle.validity.proofs.Drain.{TwoRoots, drain-merges}
+use Rattle.history.specs.Laws.{Obeys}
 use Rattle.history.proofs.Relation.{Equivalence, Rooted, Respects}
 use Rattle.history.proofs.Drain.{RootsAndMerges, HoldsOfPair, Inside, Unmarked, Joined, drain-law, drain-counted, WithinClass, drain-same}
 use Rattle.history.proofs.Drain.{drain-within}
@@ -39,22 +41,28 @@ pub record HoldsOfCore (R : ℕ → ℕ → Type 0) (S : FuncApp → Type 0) (w 
   pub pairs : All (HoldsOfPair R) (w .pairs)
   pub apps : All S xs
 
+-- roots of elements are elements
+pub roots-below : (n : ℕ) (ls es : List ℕ) → Below n es → Below n (map (rootOf ls) es)
+roots-below n ls es h = all-image (λ e. e < n) (rootOf ls) es (all-map (λ e l. omega (arith, root-le ls e, l)) es h)
+
 -- n elements, so many of them roots or merged, and none marked
 pub record Ready (n total : ℕ) (w : Core) (xs : List FuncApp) : Type 0 where
   pub kept : RootsAndMerges n total w
   pub pairs : All (Inside n) (w .pairs)
+  pub args : All (λ x. Below n (x .args)) xs
   pub results : All (λ x. x .result < n) xs
   pub plain : Unmarked (w .marks)
 
--- what every partition that agrees with the one agrees with the other, in both directions
-pub record Sound (w : Core) (xs : List FuncApp) (v : Core) (ys : List FuncApp) : Type 1 where
-  pub on : (R : ℕ → ℕ → Type 0) (S : FuncApp → Type 0) → Equivalence R → Respects R S → HoldsOfCore R S w xs → HoldsOfCore R S v ys
+-- what every partition that agrees with the one agrees with the other, in both directions; from the first to the second where the claim on
+-- applications obeys the laws of these models
+pub record Sound (ms : List ModelM) (w : Core) (xs : List FuncApp) (v : Core) (ys : List FuncApp) : Type 1 where
+  pub on : (R : ℕ → ℕ → Type 0) (S : FuncApp → Type 0) → Equivalence R → Respects R S → All (Obeys S) ms → HoldsOfCore R S w xs → HoldsOfCore R S v ys
   pub back : (R : ℕ → ℕ → Type 0) (S : FuncApp → Type 0) → Equivalence R → Respects R S → HoldsOfCore R S v ys → HoldsOfCore R S w xs
 
 -- from one core and its applications to another
-pub record Passed (n total : ℕ) (w : Core) (xs : List FuncApp) (v : Core) (ys : List FuncApp) : Type 1 where
+pub record Passed (ms : List ModelM) (n total : ℕ) (w : Core) (xs : List FuncApp) (v : Core) (ys : List FuncApp) : Type 1 where
   pub ready : Ready n total v ys
-  pub sound : Sound w xs v ys
+  pub sound : Sound ms w xs v ys
 
 -- imposing what the applications of r and the predicate applications demand does nothing
 abbrev pub DemandsSafe : Sig → List PredApp → Core → Rewritten → Type 0
@@ -141,8 +149,8 @@ module _ (g : Sig) (preds : List PredApp) where
 
   pub record Lawful (p : Pass) (A B : Stage) : Type 1 where
     -- where no element is marked, the classes are as sound as they were
-    pub passed : (n total : ℕ) (t : Turn) → Ready n total (t .core) (t .apps)
-        → Passed n total (t .core) (t .apps) (p g preds t .core) (p g preds t .apps)
+    pub passed : (ms : List ModelM) (n total : ℕ) (t : Turn) → Ready n total (t .core) (t .apps)
+        → Passed ms n total (t .core) (t .apps) (p g preds t .core) (p g preds t .apps)
     pub leads : (t : Turn) → Quiet p t → A t → B (p g preds t)
     -- where nothing remains to do it does nothing, and says so; pairs within one class may be dropped, and applications rewritten
     pub idle : (t : Turn) → A t → NoWork g preds t → OnlyTidied g preds t (p g preds t)
@@ -158,17 +166,17 @@ module _ (g : Sig) (preds : List PredApp) where
 
 -- A list of passes.
 
-pub passed-none : (n total : ℕ) (w : Core) (xs : List FuncApp) → Ready n total w xs → Passed n total w xs w xs
-passed-none n total w xs r = record { ready = r; sound = record { on = λ R S q law f. f; back = λ R S q law f. f } }
+pub passed-none : (ms : List ModelM) (n total : ℕ) (w : Core) (xs : List FuncApp) → Ready n total w xs → Passed ms n total w xs w xs
+passed-none ms n total w xs r = record { ready = r; sound = record { on = λ R S q law obeys f. f; back = λ R S q law f. f } }
 
-pub sound-then : {w v u : Core} {xs ys zs : List FuncApp} → Sound w xs v ys → Sound v ys u zs → Sound w xs u zs
+pub sound-then : {ms : List ModelM} {w v u : Core} {xs ys zs : List FuncApp} → Sound ms w xs v ys → Sound ms v ys u zs → Sound ms w xs u zs
 sound-then a b = record {
-  on = λ R S q law f. b .on R S q law (a .on R S q law f);
+  on = λ R S q law obeys f. b .on R S q law obeys (a .on R S q law obeys f);
   back = λ R S q law f. a .back R S q law (b .back R S q law f);
 }
 
-pub passed-then : {n total : ℕ} {w v u : Core} {xs ys zs : List FuncApp} → Passed n total w xs v ys → Passed n total v ys u zs
-    → Passed n total w xs u zs
+pub passed-then : {ms : List ModelM} {n total : ℕ} {w v u : Core} {xs ys zs : List FuncApp} → Passed ms n total w xs v ys → Passed ms n total v ys u zs
+    → Passed ms n total w xs u zs
 passed-then a b = record { ready = b .ready; sound = sound-then (a .sound) (b .sound) }
 
 module _ (g : Sig) (preds : List PredApp) where
@@ -190,19 +198,19 @@ module _ (g : Sig) (preds : List PredApp) where
   run-more (p ∷ ps) A C l t = le-trans (l .1 .more t) (run-more ps (l .0) C (l .2) (p g preds t))
 
   -- where no element is marked
-  module _ (n total : ℕ) where
+  module _ (ms : List ModelM) (n total : ℕ) where
     run-passed : (ps : List Pass) (A B : Stage) → AllLawful ps A B → (t : Turn) → Ready n total (t .core) (t .apps)
-        → Passed n total (t .core) (t .apps) (runPasses ps g preds t .core) (runPasses ps g preds t .apps)
+        → Passed ms n total (t .core) (t .apps) (runPasses ps g preds t .core) (runPasses ps g preds t .apps)
     unfolding runPasses
-    run-passed [] A B l t r = passed-none n total (t .core) (t .apps) r
+    run-passed [] A B l t r = passed-none ms n total (t .core) (t .apps) r
     run-passed (p ∷ ps) A C l t r =
-        let a = l .1 .passed n total t r in passed-then a (run-passed ps (l .0) C (l .2) (p g preds t) (a .ready))
+        let a = l .1 .passed ms n total t r in passed-then a (run-passed ps (l .0) C (l .2) (p g preds t) (a .ready))
 
     run-leads : (ps : List Pass) (A B : Stage) → AllLawful ps A B → (t : Turn) → Ready n total (t .core) (t .apps) → A t → B (runPasses ps g preds t)
     unfolding runPasses
     run-leads [] A B l t r h = subst (λ (C : Stage). C t) l h
     run-leads (p ∷ ps) A C l t r h =
-        run-leads ps (l .0) C (l .2) (p g preds t) (l .1 .passed n total t r .ready) (l .1 .leads t (inl (r .plain)) h)
+        run-leads ps (l .0) C (l .2) (p g preds t) (l .1 .passed ms n total t r .ready) (l .1 .leads t (inl (r .plain)) h)
 
   -- where nothing is merged
   abbrev Still : List Pass → Turn → Type 0
@@ -255,20 +263,21 @@ reports-none t xs w v work p e =
 
 -- The drain.
 
-module _ (n total : ℕ) (t : Turn) (r : Ready n total (t .core) (t .apps)) where
+module _ (ms : List ModelM) (n total : ℕ) (t : Turn) (r : Ready n total (t .core) (t .apps)) where
   abbrev law : Joined n total (types.with-pairs [] (t .core)) (drain (t .core)) (λ R. All (HoldsOfPair R) (t .core .pairs))
   law = drain-law n total (t .core) (r .kept) (r .pairs)
 
-  drain-passed : Passed n total (t .core) (t .apps) (drain (t .core)) (t .apps)
+  drain-passed : Passed ms n total (t .core) (t .apps) (drain (t .core)) (t .apps)
   drain-passed = record {
     ready = record {
       kept = law .kept;
       pairs = subst (All (Inside n)) (sym (drain-pairs (t .core))) tt;
+      args = r .args;
       results = r .results;
       plain = law .plain (r .plain);
     };
     sound = record {
-      on = λ R S q s f. record {
+      on = λ R S q s obeys f. record {
         rooted = law .on R q (f .rooted) (f .pairs);
         pairs = subst (All (HoldsOfPair R)) (sym (drain-pairs (t .core))) tt;
         apps = f .apps;
@@ -328,21 +337,23 @@ module _ (t : Turn) where
       ap (λ (ps : List Pair). enterAll (t .core .links) (t .apps) (rewriting [] ps false)) e
       ∙ (λ i. rewriting (r .apps) ((enterAll-none (t .core .links) (t .apps) fresh q .1 ∙ sym e) i) (q i))
 
-  functionality-passed : (n total : ℕ) → Ready n total (t .core) (t .apps)
-      → Passed n total (t .core) (t .apps) (types.with-pairs (rewritten .pairs) (t .core)) (rewritten .apps)
+  functionality-passed : (ms : List ModelM) (n total : ℕ) → Ready n total (t .core) (t .apps)
+      → Passed ms n total (t .core) (t .apps) (types.with-pairs (rewritten .pairs) (t .core)) (rewritten .apps)
   unfolding canonicalFuncApp
-  functionality-passed n total r =
+  functionality-passed ms n total r =
       let low = all-map {P = λ x. x .result < n} {Q = λ x. rootOf (t .core .links) (x .result) < n}
       (λ x h. omega (arith, root-le (t .core .links) (x .result))) (t .apps) (r .results) in
       record {
         ready = record {
           kept = record { formed = r .kept .formed; long = r .kept .long; sum = r .kept .sum };
           pairs = enterAll-pairs (λ e. e < n) (Inside n) (λ p a b d. (a, b)) (t .core .links) (t .apps) begin low tt (r .pairs);
+          args = enterAll-all (λ x. Below n (x .args)) (t .core .links) (t .apps) begin
+              (all-map (λ x h. roots-below n (t .core .links) (x .args) h) (t .apps) (r .args)) tt;
           results = enterAll-all (λ x. x .result < n) (t .core .links) (t .apps) begin low tt;
           plain = r .plain;
         };
         sound = record {
-          on = λ R S q s f.
+          on = λ R S q s obeys f.
               let a = enterAll-on R S q s (t .core .links) (f .rooted) (t .apps) begin (record { apps = tt; pairs = f .pairs }) (f .apps) in
               record { rooted = f .rooted; pairs = a .pairs; apps = a .apps };
           back = λ R S q s f.
@@ -354,7 +365,7 @@ module _ (t : Turn) where
 functionality-lawful : (g : Sig) (preds : List PredApp) (w : Core) → Lawful g preds functionalityPass (AfterDrain w) (AfterFunctionality w)
 unfolding functionalityPass rewrote
 functionality-lawful g preds w = record {
-  passed = λ n total t r. functionality-passed t n total r;
+  passed = λ ms n total t r. functionality-passed t ms n total r;
   leads = λ t q h.
       let ls = t .core .links in
       record {
@@ -406,8 +417,8 @@ functionality-lawful g preds w = record {
 -- `typing`.
 
 -- where only the facts grow
-module _ (n total : ℕ) (w v : Core) (xs : List FuncApp) (grown : OnlyFactsGrew w v) where
-  pub grown-passed : Ready n total w xs → Passed n total w xs v xs
+module _ (ms : List ModelM) (n total : ℕ) (w v : Core) (xs : List FuncApp) (grown : OnlyFactsGrew w v) where
+  pub grown-passed : Ready n total w xs → Passed ms n total w xs v xs
   grown-passed r = record {
     ready = record {
       kept = record {
@@ -416,11 +427,12 @@ module _ (n total : ℕ) (w v : Core) (xs : List FuncApp) (grown : OnlyFactsGrew
         sum = ap₂ _+_ (ap roots (grown .links)) (grown .merges) ∙ r .kept .sum;
       };
       pairs = subst (All (Inside n)) (sym (grown .pairs)) (r .pairs);
+      args = r .args;
       results = r .results;
       plain = subst Unmarked (sym (grown .marks)) (r .plain);
     };
     sound = record {
-      on = λ R S q s f. record {
+      on = λ R S q s obeys f. record {
         rooted = subst (Rooted R) (sym (grown .links)) (f .rooted);
         pairs = subst (All (HoldsOfPair R)) (sym (grown .pairs)) (f .pairs);
         apps = f .apps;
@@ -469,7 +481,7 @@ module _ (g : Sig) (preds : List PredApp) where
   typing-lawful : (w : Core) → Lawful g preds typingPass (AfterFunctionality w) (RoundDone g preds w)
   unfolding typingPass typed
   typing-lawful w = record {
-    passed = λ n total t r. grown-passed n total (t .core) (imposed t) (t .apps) (unmarked-grown (asked t) (t .core) (r .plain)) r;
+    passed = λ ms n total t r. grown-passed ms n total (t .core) (imposed t) (t .apps) (unmarked-grown (asked t) (t .core) (r .plain)) r;
     leads = λ t q. elim q [ inl u ↦ typing-done w t (unmarked-grown (asked t) (t .core) u .merges) | inr e ↦ typing-done w t e ];
     idle = λ t h r.
         let own = entered-same (t .core .links) (t .apps) (h .sorted) (h .canon) in
@@ -539,13 +551,13 @@ module _ (g : Sig) (preds : List PredApp) where
 
     -- where no element is marked
 
-    pub round-passed : (n total : ℕ) → Ready n total w xs → Passed n total w xs (round g preds xs w .core) (round g preds xs w .apps)
+    pub round-passed : (ms : List ModelM) (n total : ℕ) → Ready n total w xs → Passed ms n total w xs (round g preds xs w .core) (round g preds xs w .apps)
     unfolding round
-    round-passed n total = run-passed g preds n total passes (BeginsWith w) (RoundDone g preds w) (all-lawful w) (turn w xs false)
+    round-passed ms n total = run-passed g preds ms n total passes (BeginsWith w) (RoundDone g preds w) (all-lawful w) (turn w xs false)
 
     pub round-done : (n total : ℕ) → Ready n total w xs → RoundDone g preds w (round g preds xs w)
     unfolding round
-    round-done n total r = run-leads g preds n total passes (BeginsWith w) (RoundDone g preds w) (all-lawful w) (turn w xs false) r refl
+    round-done n total r = run-leads g preds [] n total passes (BeginsWith w) (RoundDone g preds w) (all-lawful w) (turn w xs false) r refl
 
     -- where nothing is merged
 

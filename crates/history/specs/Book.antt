@@ -159,7 +159,7 @@ pub record ClosedSet (b : Book) (R : ℕ → ℕ → Type 0) (S : FuncApp → Ty
   -- functionality
   pub functional : (x y : FuncApp) → S x → S y → Meet R x y → R (x .result) (y .result)
   -- identities and composites
-  pub laws : Obeys (b .sig .models) S
+  pub laws : All (Obeys S) (b .sig .models)
 
 -- which elements share a class
 abbrev pub Sharing : Type 2

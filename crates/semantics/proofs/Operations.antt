@@ -1,21 +1,25 @@
 -- The pass of identities and composites: what an application inserted in a round leaves, and what holds along its laws.
-use mathlib.Core.Path.{_≡_, refl}
+use mathlib.Core.Path.{_≡_, refl, ap}
 use mathlib.Core.Logic.{_≢_}
-use mathlib.Core.Bool.{Bool, true, false}
+use mathlib.Core.Bool.{Bool, true, false, _||_}
 use mathlib.Core.List.{List, [], _∷_}
 use mathlib.Core.Option.{Option, none, some}
-use Prim.Native.Nat.{ℕ, _≤_, _<_}
+use Prim.Native.Nat.{ℕ, _<_}
 use lib.ListN.{length}
 use lib.Dec.{eqb, leb}
 use borrow.Author.Tests.{eqb-true, eqb-false, leb-false}
 use Rattle.ids.specs.Answers.{noRoom}
 use Rattle.ids.specs.Table.{placed, lookupOf}
-use Rattle.unification.specs.Roots.{rootOf}
-use Rattle.semantics.specs.Structure.{FuncApp, func-app, Pair, pair, compareFuncApp, canonicalFuncApp, maxPairs, maxFuncApps}
+use Rattle.ids.proofs.Sorted.{All}
+use Rattle.signature.specs.Model.{Sig, ModelM}
+use Rattle.semantics.specs.Structure.{FuncApp, func-app, PredApp, compareFuncApp, canonicalFuncApp, maxPairs, maxFuncApps}
 use Rattle.semantics.specs.Types as types
-use Rattle.semantics.specs.Applying.{Equated, equate, Applied, appliedEqual, applyAt, insertFuncAppOrEquate}
-use Rattle.semantics.specs.Laws.{Law, holds, agree}
+use Rattle.semantics.specs.Applying.{equate, appliedEqual, applyAt, insertFuncAppOrEquate}
+use Rattle.semantics.specs.Laws.{Law, holds, agree, lawsIn, lawsOf, laws}
 use Rattle.semantics.specs.Close.{Turn, turn, reports, appliedTurn, applyTurn, giveTo, give, equalize, obey, obeyAll, keyOf}
+use Rattle.semantics.specs.Close.{operationPass}
+use Rattle.semantics.specs.Calls.{isIdOrComp}
+use Rattle.semantics.proofs.Cases.{or-first, or-second}
 
 -- An application inserted in a round: its key is new, or it has the result that is there, or it queues a pair, or there is no room.
 
@@ -99,3 +103,27 @@ module _ {ℓ} (P : Turn → Type ℓ) (keeps : (x : FuncApp) (t : Turn) → P t
   unfolding obeyAll
   obeyAll-keeps [] t h = h
   obeyAll-keeps (l ∷ ls) t h = obeyAll-keeps ls (obey l t) (obey-keeps l t h)
+
+-- Applications of neither id nor comp: they have no law, so that the pass leaves all as it was.
+
+-- it is no application of a model's id or comp
+abbrev pub NoOperation : List ModelM → FuncApp → Type 0
+NoOperation ms x = isIdOrComp (x .func) ms ≡ false
+
+lawsOf-none : (ms : List ModelM) (x : FuncApp) → NoOperation ms x → lawsOf ms x ≡ []
+unfolding isIdOrComp lawsOf lawsIn
+lawsOf-none [] x e = refl
+lawsOf-none (m ∷ ms) x e =
+    let id = eqb (x .func) (m .id) in
+    let comp = eqb (x .func) (m .comp) in
+    let here = or-first (id || comp) (isIdOrComp (x .func) ms) e in
+    rw (or-first id comp here, or-second id comp here) (lawsOf-none ms x (or-second (id || comp) (isIdOrComp (x .func) ms) e))
+
+pub laws-none : (ms : List ModelM) (xs : List FuncApp) → All (NoOperation ms) xs → laws ms xs ≡ []
+unfolding laws
+laws-none ms [] h = refl
+laws-none ms (x ∷ xs) h = rw (lawsOf-none ms x (h .0)) (laws-none ms xs (h .1))
+
+pub operations-none : (g : Sig) (preds : List PredApp) (t : Turn) → All (NoOperation (g .models)) (t .apps) → operationPass g preds t ≡ t
+unfolding operationPass obeyAll
+operations-none g preds t h = ap (λ (ls : List Law). obeyAll ls t) (laws-none (g .models) (t .apps) h)
