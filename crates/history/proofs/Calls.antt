@@ -13,7 +13,7 @@ use borrow.Author.Tests.{eqb-true, ltb-true, leb-false, not-false}
 use Rattle.ids.specs.Table.{placed, lookupOf}
 use Rattle.ids.proofs.Answers.{or-neither}
 use Rattle.ids.proofs.Judging.{NoneApplies}
-use Rattle.ids.proofs.Sorted.{All, all-map, all-at, all-left, lookup-sound, lookup-none, placed-all, placed-own, placed-rest}
+use Rattle.ids.proofs.Sorted.{All, all-of, all-map, all-at, all-left, lookup-sound, lookup-none, placed-all, placed-own, placed-rest}
 use Rattle.unification.specs.Roots.{maxEls, rootOf, shortOf, addedOf, findCauses}
 use Rattle.unification.proofs.Numbers.{less-or, same-or}
 use Rattle.unification.proofs.Laws.{root-le, short-length}
@@ -26,7 +26,7 @@ use Rattle.semantics.specs.Types.{Core, with-links, with-marks, with-pairs, any
 use Rattle.semantics.specs.Valid.{Below}
 use Rattle.semantics.specs.Close.{Closed, CloseRun, closeRun, reportOf, afterClose, coreAtStart, fuel}
 use Rattle.semantics.specs.Applying.{equate, Applied, applied}
-use Rattle.semantics.specs.Calls.{isEl, areEls, elCauses, withEl, equalityCauses, withEquality, withImposition}
+use Rattle.semantics.specs.Calls.{isIdOrComp, isEl, areEls, elCauses, withEl, equalityCauses, withEquality, withImposition}
 use Rattle.semantics.specs.Applying.{appliedEqual, applyAt, insertFuncAppOrEquate}
 use Rattle.semantics.specs.Calls.{appliedTo, applicationCauses, withApplied, withPredApp}
 use Rattle.semantics.specs.Calls.{withVar, withAmbient, Call, push-type, push-pred, push-func, push-model, push-mor-app, push-el, equate-els}
@@ -34,8 +34,9 @@ use Rattle.semantics.specs.Calls.{impose-type, apply-func, apply-pred, bind-var
 use Rattle.semantics.specs.Calls.{lookup-type, ambient-parents, isAccepted, mergesOf, Machine, machine, Step, equalityRule, impositionRule, applicationRule}
 use Rattle.semantics.specs.Calls.{closeRule, settleRule, rule, closed, mergesIn, sumsOf, leaves, acceptance, step}
 use Rattle.history.specs.Laws.{Obeys}
-use Rattle.history.specs.Book.{Book, with-sig, with-merges, elements, taken, fed}
+use Rattle.history.specs.Book.{Book, with-sig, with-merges, elements, taken, fed, AppliesNeither}
 use Rattle.semantics.proofs.Links.{length-push}
+use Rattle.semantics.proofs.Operations.{NoOperation}
 use Rattle.semantics.proofs.Judged.{step-by, effect-accepted, below-if}
 use Rattle.semantics.proofs.Settling.{Closes, closesLeave, run-closes}
 use Rattle.semantics.proofs.Cases.{and-first, and-second, or-first, or-second}
@@ -43,7 +44,7 @@ use Rattle.semantics.proofs.Counts.{roots, roots-alike}
 use Rattle.validity.proofs.Closing.{after-els}
 use Rattle.validity.proofs.Calls.{ValidMachine, step-valid}
 use Rattle.history.proofs.Relation.{Equivalence, Respects, says-image, image-says}
-use Rattle.history.proofs.Elements.{HoldsOfBook, Named, pair-more, app-more}
+use Rattle.history.proofs.Elements.{HoldsOfBook, Named, pair-more, app-more, neither-obeys}
 use Rattle.history.proofs.Counts.{roots-added, added-length, added-root}
 use Rattle.history.proofs.Drain.{Unmarked}
 use Rattle.history.proofs.Functionality.{found-agrees, found-says}
@@ -61,6 +62,17 @@ pub record Tied (b : Book) (w : Core) (xs : List FuncApp) : Type 1 where
       → HoldsOfCore R S w xs
   -- and conversely, where the laws do not matter
   pub back : (R : ℕ → ℕ → Type 0) (S : FuncApp → Type 0) → Equivalence R → Respects R S → HoldsOfCore R S w xs → HoldsOfBook R S b
+
+-- where no application of the book is one of id or comp, none that is stored is
+pub neither-stored : (b : Book) (w : Core) (xs : List FuncApp) → Tied b w xs → AppliesNeither b → All (NoOperation (b .sig .models)) xs
+unfolding AppliesNeither
+neither-stored b w xs g neither =
+    let ms = b .sig .models in
+    g .on (λ x y. Unit {0}) (NoOperation ms) (record { same = λ x. tt; flip = λ e. tt; trans = λ e f. tt })
+    (record { alike = λ x y m r e. subst (λ (f : ℕ). isIdOrComp f ms ≡ false) (m .func) e; agree = λ x y m e f. tt })
+    (neither-obeys ms (NoOperation ms) (λ x e. e))
+    (all-of (λ p. tt) (b .equalities), neither)
+    .apps
 
 abbrev pub TiedTo : Book → Structure → Type 1
 TiedTo b s = Tied b (coreAtStart s) (s .func-apps)

@@ -14,14 +14,15 @@ use Rattle.unification.proofs.Numbers.{same-or}
 use Rattle.unification.proofs.Laws.{root-le, root-root}
 use Rattle.semantics.specs.Structure.{FuncApp, func-app, compareFuncApp, canonicalFuncApp}
 use Rattle.semantics.specs.Types.{Core}
-use Rattle.history.specs.Laws.{Obeys}
+use Rattle.semantics.specs.Laws.{laws}
 use Rattle.history.specs.Book.{Book, elements, Sharing, Shared, Derived, Fits, AppliesNeither, Classes}
-use Rattle.history.proofs.Relation.{OneRoot, one-root, one-rooted, Respects, image-says, Like, like-self, like-respects}
+use Rattle.history.proofs.Relation.{OneRoot, one-root, one-rooted, Respects, image-says, Like, like-self}
 use Rattle.history.proofs.Elements.{Named, In, ClosedAmongAll, shared-all, shared-among-all, derived-among-all, book-closed}
 use Rattle.semantics.proofs.Counts.{roots, isRoot, count-alike}
 use Rattle.history.proofs.Drain.{HoldsOfPair}
 use Rattle.semantics.proofs.Canonical.{Canon}
-use Rattle.history.proofs.Functionality.{canonical-agree, meet-images}
+use Rattle.history.proofs.Functionality.{meet-images}
+use Rattle.history.proofs.Operations.{Held, stored-respects, held-obeyed}
 use Rattle.history.proofs.Passes.{HoldsOfCore}
 use Rattle.history.proofs.Calls.{Tied}
 
@@ -61,16 +62,16 @@ module _ (b : Book) (w : Core) (xs : List FuncApp) (named : Named b) (g : Tied b
 
   -- nothing remains to join, and the laws hold of what is stored
   module _ (none : w .pairs ≡ []) (sorted : Sorted compareFuncApp xs) (canon : All (Canon ls) xs)
-      (laws : All (Obeys (Like (OneRoot ls) (In xs))) (b .sig .models)) where
+      (held : All (Held ls xs) (laws (b .sig .models) xs)) where
     respects : Respects (OneRoot ls) (Like (OneRoot ls) (In xs))
-    respects = like-respects (OneRoot ls) (one-root ls) (In xs) (canonical-agree ls xs sorted canon)
+    respects = stored-respects ls xs sorted canon
 
     -- to have one root, and to be alike to what is stored, is closed
     root-closed : ClosedAmongAll b (OneRoot ls) (Like (OneRoot ls) (In xs))
     root-closed = record {
       equivalence = one-root ls;
       respects = respects;
-      laws = laws;
+      laws = held-obeyed ls xs sorted canon (b .sig .models) held;
       holds = g .back (OneRoot ls) (Like (OneRoot ls) (In xs)) (one-root ls) respects (record {
         rooted = one-rooted ls;
         pairs = subst (All (HoldsOfPair (OneRoot ls))) (sym none) tt;
