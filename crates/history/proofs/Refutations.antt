@@ -1,7 +1,7 @@
 -- Wrong versions of the rule, each refuted by a short list of calls. Every list has two elements, 0 and 1.
 -- A list is data, and what the right definitions say of it is computed and follows from the rule (`WorkedList`, `Right`). A version is the rule
 -- with one part replaced (`ConservationBy` of Versions). `table` has the versions, each with its list.
-use mathlib.Core.Path.{_≡_, refl, sym, subst, ap, _∙_}
+use mathlib.Core.Path.{_≡_, refl, sym, subst, ap, ap₂, _∙_}
 use mathlib.Core.Logic.{_↔_, Lift}
 use mathlib.Core.Bool.{Bool, true, false}
 use mathlib.Core.List.{List, [], _∷_, map, List·Memᴰ, List·Memᴰ·head, List·Memᴰ·tail, List·Memᴰ·not-nil}
@@ -10,8 +10,9 @@ use Prim.Native.String.{String}
 use native.Mathlib.Omega.{arith}
 use lib.Dec.{T}
 use Rattle.ids.specs.Count.{count}
+use Rattle.ids.proofs.Sorted.{All, all-at}
 use Rattle.unification.specs.Roots.{rootOf}
-use Rattle.signature.specs.Model.{plain}
+use Rattle.signature.specs.Model.{plain, Sig, sig, empty, FuncM, type-entry, func-entry}
 use Rattle.semantics.specs.Structure.{Pair, pair, FuncApp, func-app}
 use Rattle.semantics.specs.Types.{anyMarked}
 use Rattle.semantics.specs.Close.{Closed, report}
@@ -19,13 +20,14 @@ use Rattle.semantics.specs.Calls.{Call, equate-els, close, settle, totals, Answ
 use Rattle.semantics.specs.Calls.{isAccepted, mergesOf, mergesIn}
 use Rattle.semantics.proofs.WrongSettles.{lastMerges}
 use Rattle.semantics.proofs.ProvedCases.{typ, func, plainEl, markedEl, impose, app}
-use Rattle.history.specs.Book.{Book, book, with-equalities, with-apps, elements, taken, fed, history, Together, none, Meet, Shared}
-use Rattle.history.specs.Book.{Classes, RanCloses, closes, settles, Conserved, Conservation}
+use Rattle.history.specs.Book.{Book, book, with-equalities, with-apps, elements, taken, fed, history, Together, none, more, Meet, AppNamed, Shared}
+use Rattle.history.specs.Laws.{Obeys}
+use Rattle.history.specs.Book.{Sharing, AppliesNeither, Classes, RanCloses, closes, settles, Conserved, Conservation}
 use Rattle.history.proofs.SecondClose.{noChange}
 use Rattle.history.proofs.Conservation.{conservation}
 use Rattle.history.proofs.Examples.{computed}
-use Rattle.history.proofs.Versions.{after, linksAfter, Feeds, bookBy, bookAfter, Meets, Sharing, SharedBy, ConservedBy, ConservationBy, unmarked}
-use Rattle.history.proofs.Versions.{feeding, merges, roundLimit, meets-right}
+use Rattle.history.proofs.Versions.{after, linksAfter, Feeds, bookBy, bookAfter, Meets, SharedBy, ConservedBy, ConservationBy, unmarked}
+use Rattle.history.proofs.Versions.{feeding, merges, roundLimit, closed-right}
 
 -- The lists.
 
@@ -51,9 +53,16 @@ pub record WorkedList : Type 0 where
   pub two : elements book ≡ 2
   pub shows : shown calls call ≡ showing book (0 ∷ root ∷ [])
 
+-- a signature of one type and so many functions that give one of it
+abbrev constants : List FuncM → Sig
+constants fs = sig (type-entry plain [] ∷ []) [] fs [] []
+
+abbrev constant : FuncM
+constant = func-entry [] [] 0
+
 -- a book of two elements with no mark: equalities, applications, merges
-abbrev plainBook : List Pair → List FuncApp → ℕ → Book
-plainBook es xs n = book (false ∷ false ∷ []) es xs n
+abbrev plainBook : Sig → List Pair → List FuncApp → ℕ → Book
+plainBook g es xs n = book g (false ∷ false ∷ []) es xs n
 
 apart : WorkedList
 unfolding computed shown
@@ -61,7 +70,7 @@ apart = record {
   calls = plainEl ∷ plainEl ∷ [];
   call = close;
   answers = report false 0 1 ∷ [];
-  book = plainBook [] [] 0;
+  book = plainBook empty [] [] 0;
   root = 1;
   ran = closes refl;
   two = refl;
@@ -74,7 +83,7 @@ equal = record {
   calls = plainEl ∷ plainEl ∷ equate-els 0 1 ∷ [];
   call = close;
   answers = report true 1 2 ∷ [];
-  book = plainBook (pair 0 1 ∷ []) [] 1;
+  book = plainBook empty (pair 0 1 ∷ []) [] 1;
   root = 0;
   ran = closes refl;
   two = refl;
@@ -88,7 +97,7 @@ equal-before = record {
   calls = plainEl ∷ plainEl ∷ equate-els 0 1 ∷ close ∷ [];
   call = close;
   answers = report false 0 1 ∷ [];
-  book = plainBook (pair 0 1 ∷ []) [] 1;
+  book = plainBook empty (pair 0 1 ∷ []) [] 1;
   root = 0;
   ran = closes refl;
   two = refl;
@@ -102,7 +111,7 @@ refused-equal = record {
   calls = plainEl ∷ equate-els 0 1 ∷ plainEl ∷ [];
   call = close;
   answers = report false 0 1 ∷ [];
-  book = plainBook [] [] 0;
+  book = plainBook empty [] [] 0;
   root = 1;
   ran = closes refl;
   two = refl;
@@ -116,7 +125,7 @@ two-results = record {
   calls = typ plain [] ∷ func [] [] 0 ∷ plainEl ∷ plainEl ∷ app 0 [] [] 0 ∷ app 0 [] [] 1 ∷ [];
   call = close;
   answers = report true 1 2 ∷ [];
-  book = plainBook [] (func-app 0 [] [] 1 ∷ func-app 0 [] [] 0 ∷ []) 1;
+  book = plainBook (constants (constant ∷ [])) [] (func-app 0 [] [] 1 ∷ func-app 0 [] [] 0 ∷ []) 1;
   root = 0;
   ran = closes refl;
   two = refl;
@@ -130,7 +139,7 @@ two-parents = record {
   calls = typ plain [] ∷ func [] [] 0 ∷ plainEl ∷ plainEl ∷ app 0 (0 ∷ []) [] 0 ∷ app 0 (1 ∷ []) [] 1 ∷ [];
   call = close;
   answers = report true 0 2 ∷ [];
-  book = plainBook [] (func-app 0 (1 ∷ []) [] 1 ∷ func-app 0 (0 ∷ []) [] 0 ∷ []) 0;
+  book = plainBook (constants (constant ∷ [])) [] (func-app 0 (1 ∷ []) [] 1 ∷ func-app 0 (0 ∷ []) [] 0 ∷ []) 0;
   root = 1;
   ran = closes refl;
   two = refl;
@@ -144,7 +153,7 @@ two-functions = record {
   calls = typ plain [] ∷ func [] [] 0 ∷ func [] [] 0 ∷ plainEl ∷ plainEl ∷ app 0 [] [] 0 ∷ app 1 [] [] 1 ∷ [];
   call = close;
   answers = report true 0 2 ∷ [];
-  book = plainBook [] (func-app 1 [] [] 1 ∷ func-app 0 [] [] 0 ∷ []) 0;
+  book = plainBook (constants (constant ∷ constant ∷ [])) [] (func-app 1 [] [] 1 ∷ func-app 0 [] [] 0 ∷ []) 0;
   root = 1;
   ran = closes refl;
   two = refl;
@@ -158,7 +167,7 @@ two-lengths = record {
   calls = typ plain [] ∷ func [] [] 0 ∷ plainEl ∷ plainEl ∷ app 0 [] [] 0 ∷ app 0 [] (0 ∷ []) 1 ∷ [];
   call = close;
   answers = report true 0 2 ∷ [];
-  book = plainBook [] (func-app 0 [] (0 ∷ []) 1 ∷ func-app 0 [] [] 0 ∷ []) 0;
+  book = plainBook (constants (constant ∷ [])) [] (func-app 0 [] (0 ∷ []) 1 ∷ func-app 0 [] [] 0 ∷ []) 0;
   root = 1;
   ran = closes refl;
   two = refl;
@@ -172,7 +181,7 @@ marked-parent = record {
   calls = typ plain [] ∷ plainEl ∷ markedEl ∷ impose 0 0 (0 ∷ []) ∷ impose 0 0 (1 ∷ []) ∷ [];
   call = close;
   answers = report true 1 1 ∷ [];
-  book = book (false ∷ true ∷ []) [] [] 1;
+  book = book (constants []) (false ∷ true ∷ []) [] [] 1;
   root = 0;
   ran = closes refl;
   two = refl;
@@ -186,7 +195,7 @@ equal-settled = record {
   calls = plainEl ∷ plainEl ∷ equate-els 0 1 ∷ [];
   call = settle;
   answers = report true 1 2 ∷ noChange ∷ [];
-  book = plainBook (pair 0 1 ∷ []) [] 1;
+  book = plainBook empty (pair 0 1 ∷ []) [] 1;
   root = 0;
   ran = settles {t = totals 2 1} refl;
   two = refl;
@@ -200,7 +209,7 @@ functions-settled = record {
   calls = typ plain [] ∷ func [] [] 0 ∷ func [] [] 0 ∷ plainEl ∷ plainEl ∷ app 0 [] [] 0 ∷ app 1 [] [] 1 ∷ [];
   call = settle;
   answers = report true 0 2 ∷ noChange ∷ [];
-  book = plainBook [] (func-app 1 [] [] 1 ∷ func-app 0 [] [] 0 ∷ []) 0;
+  book = plainBook (constants (constant ∷ constant ∷ [])) [] (func-app 1 [] [] 1 ∷ func-app 0 [] [] 0 ∷ []) 0;
   root = 1;
   ran = settles {t = totals 2 0} refl;
   two = refl;
@@ -232,16 +241,17 @@ module _ (w : WorkedList) where
 pub record Right (w : WorkedList) : Type 1 where
   pub conserved : Conserved (w .book) (links w) (w .answers)
   pub shared : Shared (w .book) 0 1 ↔ (w .root ≡ 0)
-  pub classes : Classes (w .book) (elements (w .book) - w .book .merges)
+  pub classes : Classes Shared (w .book) (elements (w .book) - w .book .merges)
 
 right : (w : WorkedList) → unmarked (w .book .marks) → Right w
 unfolding Conservation
 right w u =
-    let s = c .one-root 0 1 (omega (arith, w .two)) (omega (arith, w .two)) in
+    let by = c .by-classes in
+    let s = by .one-root 0 1 (omega (arith, w .two)) (omega (arith, w .two)) in
     record {
       conserved = c;
       shared = (λ h. sym (root-one w) ∙ sym (s .1 h) ∙ root-zero w, λ h. s .0 (root-zero w ∙ sym (root-one w ∙ h)));
-      classes = subst (Classes (w .book)) (let z : c .classes ≡ elements (w .book) - w .book .merges = omega (arith, c .sum) in z) (c .counted);
+      classes = subst (Classes Shared (w .book)) (let z : by .classes ≡ elements (w .book) - w .book .merges = omega (arith, by .sum) in z) (by .counted);
     }
   where
     c : Conserved (w .book) (links w) (w .answers)
@@ -266,7 +276,7 @@ only-first p (suc n) t f = go (p (suc n)) (f (suc n) (omega arith) (omega arith)
     go false f e = e
 
 module _ {feeds : Feeds} {Admits : List Bool → Type 0} {Share : Sharing} {counts : Book → ℕ} {merged : Book → List Closed → ℕ} {Low : ℕ → ℕ → Type 0}
-    {Few : List Closed → Type 0} (h : ConservationBy feeds Admits Share counts merged Low Few) (w : WorkedList) (b : Book)
+    {Few : Book → List Closed → Type 0} (h : ConservationBy feeds Admits Share counts merged Low Few) (w : WorkedList) (b : Book)
     (made : bookAfter feeds (w .calls) (w .call) ≡ b) (two : elements b ≡ 2) (admitted : Admits (b .marks)) where
   -- what it says of the list
   said : ConservedBy Share counts merged Low Few b (links w) (w .answers)
@@ -310,34 +320,56 @@ module _ {feeds : Feeds} {Admits : List Bool → Type 0} {Share : Sharing} {coun
       n (subst (λ (x : ℕ). Low x 1) (root-zero w) (said .lowest 0 1 (omega (arith, two)) (omega (arith, two)) (shares r)))
 
   -- it allows too few rounds
-  short-of-rounds : (Few (w .answers) → ⊥) → ⊥
+  short-of-rounds : (Few b (w .answers) → ⊥) → ⊥
   short-of-rounds n = n (said .few)
 
 -- Elements that share a class, and that do not.
 
 equal-shared : (b : Book) → List·Memᴰ (pair 0 1) (b .equalities) → Shared b 0 1
 unfolding Shared
-equal-shared b m R q f = f .equal (pair 0 1) m
+equal-shared b m R S q c = c .equal (pair 0 1) m
 
 met-shared : (M : Meets) (b : Book) (x y : FuncApp) → List·Memᴰ x (b .apps) → List·Memᴰ y (b .apps) → ((R : ℕ → ℕ → Type 0) → M R x y)
-    → SharedBy M b (x .result) (y .result)
+    → SharedBy M Obeys b (x .result) (y .result)
 unfolding SharedBy
-met-shared M b x y m o t R q f = f .functional x y m o (t R)
+met-shared M b x y m o t R S q c = c .functional x y (c .given x m) (c .given y o) (t R)
 
--- with no equality, and no two applications that meet, each element is alone
-unmet : (M : Meets) (b : Book) → b .equalities ≡ [] → ((R : ℕ → ℕ → Type 0) (x y : FuncApp) → List·Memᴰ x (b .apps) → M R x y → ⊥) → SharedBy M b 0 1 → ⊥
+-- to be the same
+
+together-same : (k l : List ℕ) → Together (λ x y. x ≡ y) k l → k ≡ l
+together-same k l none = refl
+together-same k l (more e t) = ap₂ _∷_ e (together-same _ _ t)
+
+meet-same : (x y : FuncApp) → Meet (λ x y. x ≡ y) x y → x .result ≡ y .result → x ≡ y
+meet-same x y m r =
+    let p = together-same (x .parents) (y .parents) (m .parents) in
+    let a = together-same (x .args) (y .args) (m .args) in
+    λ i. func-app (m .func i) (p i) (a i) (r i)
+
+-- with no equality, no two applications that meet, and no model, each element is alone
+unmet : (M : Meets) (b : Book) → b .equalities ≡ [] → b .sig .models ≡ [] → All (AppNamed (elements b)) (b .apps)
+    → ((R : ℕ → ℕ → Type 0) (x y : FuncApp) → List·Memᴰ x (b .apps) → M R x y → ⊥) → SharedBy M Obeys b 0 1 → ⊥
 unfolding SharedBy
-unmet M b e n s =
-    let z : _≡_ {A = ℕ} 0 1 = s (λ x y. x ≡ y) (record { same = λ x h. refl; flip = λ x y h k p. sym p; trans = λ x y z h k l p q. p ∙ q })
+unmet M b e none-declared named n s =
+    let z : _≡_ {A = ℕ} 0 1 = s (λ x y. x ≡ y) (λ x. List·Memᴰ x (b .apps)) (record { same = λ x h. refl; flip = λ x y h k p. sym p; trans = λ x y z h k l p q. p ∙ q })
     (record {
+      named = all-at (AppNamed (elements b)) (b .apps) named;
       equal = λ p m. absurd (List·Memᴰ·not-nil (subst (λ (l : List Pair). List·Memᴰ p l) e m));
+      given = λ x m. m;
+      replaced = λ x y m i t r. subst (λ (z : FuncApp). List·Memᴰ z (b .apps)) (meet-same x y t r) m;
       functional = λ x y m o t. absurd (n (λ x y. x ≡ y) x y m t);
+      laws = subst (All (Obeys (λ x. List·Memᴰ x (b .apps)))) (sym none-declared) tt;
     }) in
     omega (arith, z)
 
-bare : (b : Book) → b .equalities ≡ [] → b .apps ≡ [] → Shared b 0 1 → ⊥
-bare b e a s =
-    unmet Meet b e (λ R x y m t. List·Memᴰ·not-nil (subst (λ (l : List FuncApp). List·Memᴰ x l) a m)) (meets-right b 0 1 .1 s)
+bare : (b : Book) → b .equalities ≡ [] → b .sig .models ≡ [] → b .apps ≡ [] → Shared b 0 1 → ⊥
+bare b e d a s =
+    unmet Meet b e d (subst (All (AppNamed (elements b))) (sym a) tt)
+    (λ R x y m t. List·Memᴰ·not-nil (subst (λ (l : List FuncApp). List·Memᴰ x l) a m)) (closed-right b 0 1 .1 s)
+
+-- an application to no element, whose result is 0 or 1
+constant-named : (f r : ℕ) → r < 2 → AppNamed 2 (func-app f [] [] r)
+constant-named f r h = record { parents = tt; args = tt; result = h }
 
 -- The wrong parts.
 
@@ -375,8 +407,8 @@ roundsIn [] = 0
 roundsIn (c ∷ cs) = c .rounds + roundsIn cs
 
 -- the rounds of a settle summed, against its merges
-abbrev summedLimit : List Closed → Type 0
-summedLimit cs = roundsIn cs ≤ mergesIn cs + 2
+abbrev summedLimit : Book → List Closed → Type 0
+summedLimit b cs = AppliesNeither b → roundsIn cs ≤ mergesIn cs + 2
 
 abbrev never : Meets
 never R x y = ⊥
@@ -412,28 +444,28 @@ pub record Refuted : Type 2 where
   pub wrong : version → ⊥
 
 pub table : List Refuted
-unfolding computed shown bookBy apart equal equal-before refused-equal two-results two-parents two-functions two-lengths marked-parent equal-settled functions-settled
+unfolding computed shown bookBy AppliesNeither apart equal equal-before refused-equal two-results two-parents two-functions two-lengths marked-parent equal-settled functions-settled
 table =
     record {
       name = "refused equalities taken";
       version = ConservationBy refusedTaken unmarked Shared elements merges _≤_ (roundLimit 2);
       list = refused-equal;
       fact = conserved (right refused-equal refl);
-      wrong = λ h. joins h refused-equal (plainBook (pair 0 1 ∷ []) [] 0) refl refl refl refl (equal-shared _ (List·Memᴰ·head refl));
+      wrong = λ h. joins h refused-equal (plainBook empty (pair 0 1 ∷ []) [] 0) refl refl refl refl (equal-shared _ (List·Memᴰ·head refl));
     }
     ∷ record {
       name = "equality dropped";
       version = ConservationBy noEqualities unmarked Shared elements merges _≤_ (roundLimit 2);
       list = equal;
       fact = conserved (right equal refl);
-      wrong = λ h. parts h equal (plainBook [] [] 1) refl refl refl refl (bare _ refl refl);
+      wrong = λ h. parts h equal (plainBook empty [] [] 1) refl refl refl refl (bare _ refl refl refl);
     }
     ∷ record {
       name = "application dropped";
       version = ConservationBy noApplications unmarked Shared elements merges _≤_ (roundLimit 2);
       list = two-results;
       fact = conserved (right two-results refl);
-      wrong = λ h. parts h two-results (plainBook [] [] 1) refl refl refl refl (bare _ refl refl);
+      wrong = λ h. parts h two-results (plainBook (constants (constant ∷ [])) [] [] 1) refl refl refl refl (bare _ refl refl refl);
     }
     ∷ record {
       name = "merges twice";
@@ -468,7 +500,7 @@ table =
       version = ConservationBy feeding unmarked Shared elements merges _≤_ (roundLimit 1);
       list = two-functions;
       fact = conserved (right two-functions refl);
-      wrong = λ h. short-of-rounds h two-functions (two-functions .book) refl refl refl (λ l. omega (arith, l .0));
+      wrong = λ h. short-of-rounds h two-functions (two-functions .book) refl refl refl (λ l. omega (arith, l (refl, (refl, tt)) .0));
     }
     ∷ record {
       name = "all in one class";
@@ -486,14 +518,14 @@ table =
     }
     ∷ record {
       name = "no functionality";
-      version = ConservationBy feeding unmarked (SharedBy never) elements merges _≤_ (roundLimit 2);
+      version = ConservationBy feeding unmarked (SharedBy never Obeys) elements merges _≤_ (roundLimit 2);
       list = two-results;
       fact = conserved (right two-results refl);
-      wrong = λ h. parts h two-results (two-results .book) refl refl refl refl (unmet never _ refl (λ R x y m t. t));
+      wrong = λ h. parts h two-results (two-results .book) refl refl refl refl (unmet never _ refl refl (constant-named 0 1 (omega arith), (constant-named 0 0 (omega arith), tt)) (λ R x y m t. t));
     }
     ∷ record {
       name = "Meet without parents";
-      version = ConservationBy feeding unmarked (SharedBy anyParents) elements merges _≤_ (roundLimit 2);
+      version = ConservationBy feeding unmarked (SharedBy anyParents Obeys) elements merges _≤_ (roundLimit 2);
       list = two-parents;
       fact = conserved (right two-parents refl);
       wrong = λ h.
@@ -503,7 +535,7 @@ table =
     }
     ∷ record {
       name = "Meet without the function";
-      version = ConservationBy feeding unmarked (SharedBy anyFunction) elements merges _≤_ (roundLimit 2);
+      version = ConservationBy feeding unmarked (SharedBy anyFunction Obeys) elements merges _≤_ (roundLimit 2);
       list = two-functions;
       fact = conserved (right two-functions refl);
       wrong = λ h.
@@ -513,7 +545,7 @@ table =
     }
     ∷ record {
       name = "shorter lists together";
-      version = ConservationBy feeding unmarked (SharedBy shorter) elements merges _≤_ (roundLimit 2);
+      version = ConservationBy feeding unmarked (SharedBy shorter Obeys) elements merges _≤_ (roundLimit 2);
       list = two-lengths;
       fact = conserved (right two-lengths refl);
       wrong = λ h.
@@ -525,8 +557,8 @@ table =
       name = "marks allowed";
       version = ConservationBy feeding (λ ms. Unit {0}) Shared elements merges _≤_ (roundLimit 2);
       list = marked-parent;
-      fact = outside refl refl (bare _ refl refl);
-      wrong = λ h. parts h marked-parent (marked-parent .book) refl refl tt refl (bare _ refl refl);
+      fact = outside refl refl (bare _ refl refl refl);
+      wrong = λ h. parts h marked-parent (marked-parent .book) refl refl tt refl (bare _ refl refl refl);
     }
     ∷ record {
       name = "merges of a settle not taken";
@@ -534,7 +566,7 @@ table =
       list = equal-settled;
       fact = conserved (right equal-settled refl);
       wrong = λ h.
-          miscounts h equal-settled (plainBook (pair 0 1 ∷ []) [] 0) refl refl refl 1 refl (omega arith) (λ l. refl) (λ z. omega (arith, z));
+          miscounts h equal-settled (plainBook empty (pair 0 1 ∷ []) [] 0) refl refl refl 1 refl (omega arith) (λ l. refl) (λ z. omega (arith, z));
     }
     ∷ record {
       name = "merges of a settle's last close only";
@@ -548,6 +580,6 @@ table =
       version = ConservationBy feeding unmarked Shared elements merges _≤_ summedLimit;
       list = functions-settled;
       fact = conserved (right functions-settled refl);
-      wrong = λ h. short-of-rounds h functions-settled (functions-settled .book) refl refl refl (λ l. omega (arith, l));
+      wrong = λ h. short-of-rounds h functions-settled (functions-settled .book) refl refl refl (λ l. omega (arith, l (refl, (refl, tt))));
     }
     ∷ []
