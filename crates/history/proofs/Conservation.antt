@@ -7,7 +7,7 @@ use native.Mathlib.Omega.{arith}
 use Rattle.unification.specs.Roots.{rootOf}
 use Rattle.unification.proofs.Laws.{root-le, root-root}
 use Rattle.semantics.specs.Close.{Closed, coreAtStart}
-use Rattle.history.specs.Book.{Book, elements, History, history, Sharing, Shared, SharedByFits, Conserves, Conserved, Conservation, PlainConservation}
+use Rattle.history.specs.Book.{Book, elements, History, history, Sharing, Shared, SharedByFits, RootsByClass, Conserved, Conservation, PlainConservation}
 use Rattle.history.proofs.Elements.{neither-shared}
 use Rattle.history.proofs.Classes.{shared-if, only-shared, root-classes}
 use Rattle.history.proofs.Histories.{Returned, returned}
@@ -23,7 +23,7 @@ returned-conserves h cs r =
     let only = only-shared b w (v .func-apps) (r .named) (r .tied) (z .pairs) (z .sorted) (z .canon) (z .held) in
     let shared = shared-if b w (v .func-apps) (r .named) (r .tied) in
     record {
-      by-classes = record {
+      by-class = record {
         long = r .long;
         classes = _;
         counted = root-classes b w (v .func-apps) (r .named) (r .tied) (z .pairs) (z .sorted) (z .canon) (z .held);
@@ -45,7 +45,7 @@ conservation before k cs ran unmarked = returned-conserves (history (before ++ (
 
 -- where elements share a class by the one exactly when they do by the other
 shared-alike : (Share Other : Sharing) (b : Book) (links : List ℕ) → ((x y : ℕ) → x < elements b → Share b x y ↔ Other b x y)
-    → Conserves Share b links → Conserves Other b links
+    → RootsByClass Share b links → RootsByClass Other b links
 shared-alike Share Other b links same c = record {
   long = c .long;
   classes = c .classes;
@@ -72,4 +72,4 @@ plain-conservation before k cs ran unmarked neither =
     let h = history (before ++ (k ∷ [])) in
     let r = returned before k cs ran unmarked in
     let c = returned-conserves h cs r in
-    (shared-alike Shared SharedByFits (h .book) (h .machine .structure .links) (neither-shared (h .book) (r .named) neither) (c .by-classes), c .few neither)
+    (shared-alike Shared SharedByFits (h .book) (h .machine .structure .links) (neither-shared (h .book) (r .named) neither) (c .by-class), c .few neither)

@@ -9,7 +9,7 @@ use Rattle.semantics.specs.Types.{anyMarked}
 use Rattle.semantics.specs.Close.{Closed, coreAtStart}
 use Rattle.semantics.specs.Calls.{Call}
 use Rattle.semantics.proofs.Canonical.{Canon}
-use Rattle.history.specs.Book.{Book, history, ClosedSet, Derived, AppliesNeither, RanCloses}
+use Rattle.history.specs.Book.{Book, history, Derived, AppliesNeither, RanCloses}
 use Rattle.history.proofs.Classes.{ImageOf, derived-if, only-derived, stored-image}
 use Rattle.history.proofs.Histories.{returned}
 

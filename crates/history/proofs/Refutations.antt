@@ -246,7 +246,7 @@ pub record Right (w : WorkedList) : Type 1 where
 right : (w : WorkedList) → unmarked (w .book .marks) → Right w
 unfolding Conservation
 right w u =
-    let by = c .by-classes in
+    let by = c .by-class in
     let s = by .one-root 0 1 (omega (arith, w .two)) (omega (arith, w .two)) in
     record {
       conserved = c;

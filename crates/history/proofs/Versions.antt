@@ -118,7 +118,7 @@ conservation-right = (
   λ h before k cs ran u.
       let r = h .says before k cs ran (rw (book-right before k) u) in
       subst (λ (b : Book). Conserved b (linksAfter before k) cs) (book-right before k) (record {
-        by-classes = record {
+        by-class = record {
           long = r .long;
           classes = r .classes;
           counted = record { lowest = r .counted .lowest; is = r .counted .is; many = r .counted .many };
@@ -132,7 +132,7 @@ conservation-right = (
   λ h. record {
     says = λ before k cs ran u.
         let c = h before k cs ran (rw (book-right before k) at u) in
-        let r = c .by-classes in
+        let r = c .by-class in
         subst (λ (b : Book). ConservedBy Shared elements merges _≤_ (roundLimit 2) b (linksAfter before k) cs) (sym (book-right before k)) (record {
           long = r .long;
           classes = r .classes;

@@ -203,7 +203,7 @@ pub data RanCloses (m : Machine) : Call → List Closed → Type 0 where
   settles : {t : Totals} → step settle m .answer ≡ summed t → RanCloses m settle (settleRun (m .sig) (m .structure) .reports)
 
 -- what holds of the book and the links that an accepted close or settle leaves
-pub record Conserves (Share : Sharing) (b : Book) (links : List ℕ) : Type 1 where
+pub record RootsByClass (Share : Sharing) (b : Book) (links : List ℕ) : Type 1 where
   -- there are as many links as elements
   pub long : length links ≡ elements b
   pub classes : ℕ
@@ -222,7 +222,7 @@ RoundLimit cs = All (λ (c : Closed). c .rounds ≤ c .merges + 2) cs
 
 -- what holds at the return of an accepted close or settle whose closes answered cs
 pub record Conserved (b : Book) (links : List ℕ) (cs : List Closed) : Type 1 where
-  pub by-classes : Conserves Shared b links
+  pub by-class : RootsByClass Shared b links
   -- "the round limit reads only for sheets that apply neither id nor comp" (02, M-102)
   pub few : AppliesNeither b → RoundLimit cs
 
@@ -240,4 +240,4 @@ PlainConservation =
     (before : List Call) (k : Call) (cs : List Closed) → RanCloses (history before .machine) k cs
     → anyMarked (history (before ++ (k ∷ [])) .book .marks) ≡ false
     → AppliesNeither (history (before ++ (k ∷ [])) .book)
-    → Conserves SharedByFits (history (before ++ (k ∷ [])) .book) (history (before ++ (k ∷ [])) .machine .structure .links) × RoundLimit cs
+    → RootsByClass SharedByFits (history (before ++ (k ∷ [])) .book) (history (before ++ (k ∷ [])) .machine .structure .links) × RoundLimit cs
