@@ -1,4 +1,4 @@
--- Wrong versions of the rule, each refuted by a short list of calls. Every list has two elements, 0 and 1.
+-- Wrong versions of the rule, each refuted by a short list of calls. Each is about the elements 0 and 1 of its list.
 -- A list is data, and what the right definitions say of it is computed and follows from the rule (`WorkedList`, `Right`). A version is the rule
 -- with one part replaced (`ConservationBy` of Versions). `table` has the versions, each with its list.
 use mathlib.Core.Path.{_≡_, refl, sym, subst, ap, ap₂, _∙_}
@@ -26,7 +26,7 @@ use Rattle.history.specs.Book.{Sharing, AppliesNeither, Classes, RanClos
 use Rattle.history.proofs.SecondClose.{noChange}
 use Rattle.history.proofs.Conservation.{conservation}
 use Rattle.history.proofs.Examples.{computed}
-use Rattle.history.proofs.Versions.{after, linksAfter, Feeds, bookBy, bookAfter, Meets, SharedBy, ConservedBy, ConservationBy, unmarked}
+use Rattle.history.proofs.Versions.{after, linksAfter, Feeds, bookBy, bookAfter, Meets, never, SharedBy, ConservedBy, ConservationBy, unmarked}
 use Rattle.history.proofs.Versions.{feeding, merges, roundLimit, closed-right}
 
 -- The lists.
@@ -50,7 +50,7 @@ pub record WorkedList : Type 0 where
   pub book : Book
   pub root : ℕ
   pub ran : RanCloses (history calls .machine) call answers
-  pub two : elements book ≡ 2
+  pub two : 2 ≤ elements book
   pub shows : shown calls call ≡ showing book (0 ∷ root ∷ [])
 
 -- a signature of one type and so many functions that give one of it
@@ -73,7 +73,7 @@ apart = record {
   book = plainBook empty [] [] 0;
   root = 1;
   ran = closes refl;
-  two = refl;
+  two = omega arith;
   shows = refl;
 }
 
@@ -86,7 +86,7 @@ equal = record {
   book = plainBook empty (pair 0 1 ∷ []) [] 1;
   root = 0;
   ran = closes refl;
-  two = refl;
+  two = omega arith;
   shows = refl;
 }
 
@@ -100,7 +100,7 @@ equal-before = record {
   book = plainBook empty (pair 0 1 ∷ []) [] 1;
   root = 0;
   ran = closes refl;
-  two = refl;
+  two = omega arith;
   shows = refl;
 }
 
@@ -114,7 +114,7 @@ refused-equal = record {
   book = plainBook empty [] [] 0;
   root = 1;
   ran = closes refl;
-  two = refl;
+  two = omega arith;
   shows = refl;
 }
 
@@ -128,7 +128,7 @@ two-results = record {
   book = plainBook (constants (constant ∷ [])) [] (func-app 0 [] [] 1 ∷ func-app 0 [] [] 0 ∷ []) 1;
   root = 0;
   ran = closes refl;
-  two = refl;
+  two = omega arith;
   shows = refl;
 }
 
@@ -142,7 +142,7 @@ two-parents = record {
   book = plainBook (constants (constant ∷ [])) [] (func-app 0 (1 ∷ []) [] 1 ∷ func-app 0 (0 ∷ []) [] 0 ∷ []) 0;
   root = 1;
   ran = closes refl;
-  two = refl;
+  two = omega arith;
   shows = refl;
 }
 
@@ -156,7 +156,7 @@ two-functions = record {
   book = plainBook (constants (constant ∷ constant ∷ [])) [] (func-app 1 [] [] 1 ∷ func-app 0 [] [] 0 ∷ []) 0;
   root = 1;
   ran = closes refl;
-  two = refl;
+  two = omega arith;
   shows = refl;
 }
 
@@ -170,7 +170,7 @@ two-lengths = record {
   book = plainBook (constants (constant ∷ [])) [] (func-app 0 [] (0 ∷ []) 1 ∷ func-app 0 [] [] 0 ∷ []) 0;
   root = 1;
   ran = closes refl;
-  two = refl;
+  two = omega arith;
   shows = refl;
 }
 
@@ -184,7 +184,7 @@ marked-parent = record {
   book = book (constants []) (false ∷ true ∷ []) [] [] 1;
   root = 0;
   ran = closes refl;
-  two = refl;
+  two = omega arith;
   shows = refl;
 }
 
@@ -198,7 +198,7 @@ equal-settled = record {
   book = plainBook empty (pair 0 1 ∷ []) [] 1;
   root = 0;
   ran = settles {t = totals 2 1} refl;
-  two = refl;
+  two = omega arith;
   shows = refl;
 }
 
@@ -212,7 +212,7 @@ functions-settled = record {
   book = plainBook (constants (constant ∷ constant ∷ [])) [] (func-app 1 [] [] 1 ∷ func-app 0 [] [] 0 ∷ []) 0;
   root = 1;
   ran = settles {t = totals 2 0} refl;
-  two = refl;
+  two = omega arith;
   shows = refl;
 }
 
@@ -277,7 +277,7 @@ only-first p (suc n) t f = go (p (suc n)) (f (suc n) (omega arith) (omega arith)
 
 module _ {feeds : Feeds} {Admits : List Bool → Type 0} {Share : Sharing} {counts : Book → ℕ} {merged : Book → List Closed → ℕ} {Low : ℕ → ℕ → Type 0}
     {Few : Book → List Closed → Type 0} (h : ConservationBy feeds Admits Share counts merged Low Few) (w : WorkedList) (b : Book)
-    (made : bookAfter feeds (w .calls) (w .call) ≡ b) (two : elements b ≡ 2) (admitted : Admits (b .marks)) where
+    (made : bookAfter feeds (w .calls) (w .call) ≡ b) (two : 2 ≤ elements b) (admitted : Admits (b .marks)) where
   -- what it says of the list
   said : ConservedBy Share counts merged Low Few b (links w) (w .answers)
   said =
@@ -297,8 +297,8 @@ module _ {feeds : Feeds} {Admits : List Bool → Type 0} {Share : Sharing} {coun
   parts r n = n (shares r)
 
   -- one class is counted, so that the merges of two elements must be 1, and the version has another number
-  miscounts : (k : ℕ) → counts b ≡ suc k → k ≤ 1 → (1 ≤ k → w .root ≡ 0) → (merged b (w .answers) ≡ 1 → ⊥) → ⊥
-  miscounts k q l r n = n (omega (arith, said .sum, said .counted .many, one, two))
+  miscounts : elements b ≡ 2 → (k : ℕ) → counts b ≡ suc k → k ≤ 1 → (1 ≤ k → w .root ≡ 0) → (merged b (w .answers) ≡ 1 → ⊥) → ⊥
+  miscounts both k q l r n = n (omega (arith, said .sum, said .counted .many, one, both))
     where
       p : ℕ → Bool
       p = said .counted .lowest
@@ -330,7 +330,7 @@ unfolding Shared
 equal-shared b m R S q c = c .equal (pair 0 1) m
 
 met-shared : (M : Meets) (b : Book) (x y : FuncApp) → List·Memᴰ x (b .apps) → List·Memᴰ y (b .apps) → ((R : ℕ → ℕ → Type 0) → M R x y)
-    → SharedBy M Obeys b (x .result) (y .result)
+    → SharedBy M Meet Obeys b (x .result) (y .result)
 unfolding SharedBy
 met-shared M b x y m o t R S q c = c .functional x y (c .given x m) (c .given y o) (t R)
 
@@ -348,7 +348,7 @@ meet-same x y m r =
 
 -- with no equality, no two applications that meet, and no model, each element is alone
 unmet : (M : Meets) (b : Book) → b .equalities ≡ [] → b .sig .models ≡ [] → All (AppNamed (elements b)) (b .apps)
-    → ((R : ℕ → ℕ → Type 0) (x y : FuncApp) → List·Memᴰ x (b .apps) → M R x y → ⊥) → SharedBy M Obeys b 0 1 → ⊥
+    → ((R : ℕ → ℕ → Type 0) (x y : FuncApp) → List·Memᴰ x (b .apps) → M R x y → ⊥) → SharedBy M Meet Obeys b 0 1 → ⊥
 unfolding SharedBy
 unmet M b e none-declared named n s =
     let z : _≡_ {A = ℕ} 0 1 = s (λ x y. x ≡ y) (λ x. List·Memᴰ x (b .apps)) (record { same = λ x h. refl; flip = λ x y h k p. sym p; trans = λ x y z h k l p q. p ∙ q })
@@ -410,9 +410,6 @@ roundsIn (c ∷ cs) = c .rounds + roundsIn cs
 abbrev summedLimit : Book → List Closed → Type 0
 summedLimit b cs = AppliesNeither b → roundsIn cs ≤ mergesIn cs + 2
 
-abbrev never : Meets
-never R x y = ⊥
-
 abbrev anyParents : Meets
 anyParents R x y = (x .func ≡ y .func) × Together R (x .args) (y .args)
 
@@ -451,105 +448,105 @@ table =
       version = ConservationBy refusedTaken unmarked Shared elements merges _≤_ (roundLimit 2);
       list = refused-equal;
       fact = conserved (right refused-equal refl);
-      wrong = λ h. joins h refused-equal (plainBook empty (pair 0 1 ∷ []) [] 0) refl refl refl refl (equal-shared _ (List·Memᴰ·head refl));
+      wrong = λ h. joins h refused-equal (plainBook empty (pair 0 1 ∷ []) [] 0) refl (omega arith) refl refl (equal-shared _ (List·Memᴰ·head refl));
     }
     ∷ record {
       name = "equality dropped";
       version = ConservationBy noEqualities unmarked Shared elements merges _≤_ (roundLimit 2);
       list = equal;
       fact = conserved (right equal refl);
-      wrong = λ h. parts h equal (plainBook empty [] [] 1) refl refl refl refl (bare _ refl refl refl);
+      wrong = λ h. parts h equal (plainBook empty [] [] 1) refl (omega arith) refl refl (bare _ refl refl refl);
     }
     ∷ record {
       name = "application dropped";
       version = ConservationBy noApplications unmarked Shared elements merges _≤_ (roundLimit 2);
       list = two-results;
       fact = conserved (right two-results refl);
-      wrong = λ h. parts h two-results (plainBook (constants (constant ∷ [])) [] [] 1) refl refl refl refl (bare _ refl refl refl);
+      wrong = λ h. parts h two-results (plainBook (constants (constant ∷ [])) [] [] 1) refl (omega arith) refl refl (bare _ refl refl refl);
     }
     ∷ record {
       name = "merges twice";
       version = ConservationBy feeding unmarked Shared elements (λ b cs. b .merges + b .merges) _≤_ (roundLimit 2);
       list = equal;
       fact = conserved (right equal refl);
-      wrong = λ h. miscounts h equal (equal .book) refl refl refl 1 refl (omega arith) (λ l. refl) (λ z. omega (arith, z));
+      wrong = λ h. miscounts h equal (equal .book) refl (omega arith) refl refl 1 refl (omega arith) (λ l. refl) (λ z. omega (arith, z));
     }
     ∷ record {
       name = "merges of the last close only";
       version = ConservationBy feeding unmarked Shared elements (λ b cs. lastMerges cs) _≤_ (roundLimit 2);
       list = equal-before;
       fact = conserved (right equal-before refl);
-      wrong = λ h. miscounts h equal-before (equal-before .book) refl refl refl 1 refl (omega arith) (λ l. refl) (λ z. omega (arith, z));
+      wrong = λ h. miscounts h equal-before (equal-before .book) refl (omega arith) refl refl 1 refl (omega arith) (λ l. refl) (λ z. omega (arith, z));
     }
     ∷ record {
       name = "classes over one element fewer";
       version = ConservationBy feeding unmarked Shared (λ b. elements b - 1) merges _≤_ (roundLimit 2);
       list = apart;
       fact = conserved (right apart refl);
-      wrong = λ h. miscounts h apart (apart .book) refl refl refl 0 refl (omega arith) (λ l. absurd (omega (arith, l))) (λ z. omega (arith, z));
+      wrong = λ h. miscounts h apart (apart .book) refl (omega arith) refl refl 0 refl (omega arith) (λ l. absurd (omega (arith, l))) (λ z. omega (arith, z));
     }
     ∷ record {
       name = "highest root";
       version = ConservationBy feeding unmarked Shared elements merges (λ r y. y ≤ r) (roundLimit 2);
       list = equal;
       fact = conserved (right equal refl);
-      wrong = λ h. misplaces h equal (equal .book) refl refl refl refl (λ l. omega (arith, l));
+      wrong = λ h. misplaces h equal (equal .book) refl (omega arith) refl refl (λ l. omega (arith, l));
     }
     ∷ record {
       name = "rounds at most merges and one";
       version = ConservationBy feeding unmarked Shared elements merges _≤_ (roundLimit 1);
       list = two-functions;
       fact = conserved (right two-functions refl);
-      wrong = λ h. short-of-rounds h two-functions (two-functions .book) refl refl refl (λ l. omega (arith, l (refl, (refl, tt)) .0));
+      wrong = λ h. short-of-rounds h two-functions (two-functions .book) refl (omega arith) refl (λ l. omega (arith, l (refl, (refl, tt)) .0));
     }
     ∷ record {
       name = "all in one class";
       version = ConservationBy feeding unmarked (λ b x y. Unit {1}) elements merges _≤_ (roundLimit 2);
       list = apart;
       fact = conserved (right apart refl);
-      wrong = λ h. joins h apart (apart .book) refl refl refl refl tt;
+      wrong = λ h. joins h apart (apart .book) refl (omega arith) refl refl tt;
     }
     ∷ record {
       name = "each alone";
       version = ConservationBy feeding unmarked (λ b x y. Lift {0, 1} (x ≡ y)) elements merges _≤_ (roundLimit 2);
       list = equal;
       fact = conserved (right equal refl);
-      wrong = λ h. parts h equal (equal .book) refl refl refl refl (λ s. omega (arith, s .lower));
+      wrong = λ h. parts h equal (equal .book) refl (omega arith) refl refl (λ s. omega (arith, s .lower));
     }
     ∷ record {
       name = "no functionality";
-      version = ConservationBy feeding unmarked (SharedBy never Obeys) elements merges _≤_ (roundLimit 2);
+      version = ConservationBy feeding unmarked (SharedBy never Meet Obeys) elements merges _≤_ (roundLimit 2);
       list = two-results;
       fact = conserved (right two-results refl);
-      wrong = λ h. parts h two-results (two-results .book) refl refl refl refl (unmet never _ refl refl (constant-named 0 1 (omega arith), (constant-named 0 0 (omega arith), tt)) (λ R x y m t. t));
+      wrong = λ h. parts h two-results (two-results .book) refl (omega arith) refl refl (unmet never _ refl refl (constant-named 0 1 (omega arith), (constant-named 0 0 (omega arith), tt)) (λ R x y m t. t));
     }
     ∷ record {
       name = "Meet without parents";
-      version = ConservationBy feeding unmarked (SharedBy anyParents Obeys) elements merges _≤_ (roundLimit 2);
+      version = ConservationBy feeding unmarked (SharedBy anyParents Meet Obeys) elements merges _≤_ (roundLimit 2);
       list = two-parents;
       fact = conserved (right two-parents refl);
       wrong = λ h.
-          joins h two-parents (two-parents .book) refl refl refl refl
+          joins h two-parents (two-parents .book) refl (omega arith) refl refl
           (met-shared anyParents _ (func-app 0 (0 ∷ []) [] 0) (func-app 0 (1 ∷ []) [] 1) (List·Memᴰ·tail (List·Memᴰ·head refl)) (List·Memᴰ·head refl)
           (λ R. (refl, none)));
     }
     ∷ record {
       name = "Meet without the function";
-      version = ConservationBy feeding unmarked (SharedBy anyFunction Obeys) elements merges _≤_ (roundLimit 2);
+      version = ConservationBy feeding unmarked (SharedBy anyFunction Meet Obeys) elements merges _≤_ (roundLimit 2);
       list = two-functions;
       fact = conserved (right two-functions refl);
       wrong = λ h.
-          joins h two-functions (two-functions .book) refl refl refl refl
+          joins h two-functions (two-functions .book) refl (omega arith) refl refl
           (met-shared anyFunction _ (func-app 0 [] [] 0) (func-app 1 [] [] 1) (List·Memᴰ·tail (List·Memᴰ·head refl)) (List·Memᴰ·head refl)
           (λ R. (none, none)));
     }
     ∷ record {
       name = "shorter lists together";
-      version = ConservationBy feeding unmarked (SharedBy shorter Obeys) elements merges _≤_ (roundLimit 2);
+      version = ConservationBy feeding unmarked (SharedBy shorter Meet Obeys) elements merges _≤_ (roundLimit 2);
       list = two-lengths;
       fact = conserved (right two-lengths refl);
       wrong = λ h.
-          joins h two-lengths (two-lengths .book) refl refl refl refl
+          joins h two-lengths (two-lengths .book) refl (omega arith) refl refl
           (met-shared shorter _ (func-app 0 [] [] 0) (func-app 0 [] (0 ∷ []) 1) (List·Memᴰ·tail (List·Memᴰ·head refl)) (List·Memᴰ·head refl)
           (λ R. (refl, tt, tt)));
     }
@@ -558,7 +555,7 @@ table =
       version = ConservationBy feeding (λ ms. Unit {0}) Shared elements merges _≤_ (roundLimit 2);
       list = marked-parent;
       fact = outside refl refl (bare _ refl refl refl);
-      wrong = λ h. parts h marked-parent (marked-parent .book) refl refl tt refl (bare _ refl refl refl);
+      wrong = λ h. parts h marked-parent (marked-parent .book) refl (omega arith) tt refl (bare _ refl refl refl);
     }
     ∷ record {
       name = "merges of a settle not taken";
@@ -566,20 +563,20 @@ table =
       list = equal-settled;
       fact = conserved (right equal-settled refl);
       wrong = λ h.
-          miscounts h equal-settled (plainBook empty (pair 0 1 ∷ []) [] 0) refl refl refl 1 refl (omega arith) (λ l. refl) (λ z. omega (arith, z));
+          miscounts h equal-settled (plainBook empty (pair 0 1 ∷ []) [] 0) refl (omega arith) refl refl 1 refl (omega arith) (λ l. refl) (λ z. omega (arith, z));
     }
     ∷ record {
       name = "merges of a settle's last close only";
       version = ConservationBy feeding unmarked Shared elements lastOfSettle _≤_ (roundLimit 2);
       list = equal-settled;
       fact = conserved (right equal-settled refl);
-      wrong = λ h. miscounts h equal-settled (equal-settled .book) refl refl refl 1 refl (omega arith) (λ l. refl) (λ z. omega (arith, z));
+      wrong = λ h. miscounts h equal-settled (equal-settled .book) refl (omega arith) refl refl 1 refl (omega arith) (λ l. refl) (λ z. omega (arith, z));
     }
     ∷ record {
       name = "rounds of a settle at most its merges and two";
       version = ConservationBy feeding unmarked Shared elements merges _≤_ summedLimit;
       list = functions-settled;
       fact = conserved (right functions-settled refl);
-      wrong = λ h. short-of-rounds h functions-settled (functions-settled .book) refl refl refl (λ l. omega (arith, l (refl, (refl, tt))));
+      wrong = λ h. short-of-rounds h functions-settled (functions-settled .book) refl (omega arith) refl (λ l. omega (arith, l (refl, (refl, tt))));
     }
     ∷ []

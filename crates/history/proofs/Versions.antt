@@ -41,21 +41,24 @@ bookAfter feeds ks k = bookBy feeds (ks ++ (k ∷ [])) start blank
 abbrev pub Meets : Type 1
 Meets = (ℕ → ℕ → Type 0) → FuncApp → FuncApp → Type 0
 
+abbrev pub never : Meets
+never R x y = ⊥
+
 -- what the applications of a model's id and comp say of its dom and cod
 abbrev pub Says : Type 1
 Says = (FuncApp → Type 0) → ModelM → Type 0
 
--- `ClosedSet`: when two applications have one result, and the laws
-pub record ClosedSetBy (M : Meets) (L : Says) (b : Book) (R : ℕ → ℕ → Type 0) (S : FuncApp → Type 0) : Type 0 where
+-- `ClosedSet`: when two applications have one result, when the elements of one may be replaced by those of the other, and the laws
+pub record ClosedSetBy (M A : Meets) (L : Says) (b : Book) (R : ℕ → ℕ → Type 0) (S : FuncApp → Type 0) : Type 0 where
   pub named : (x : FuncApp) → S x → AppNamed (elements b) x
   pub equal : (p : Pair) → List·Memᴰ p (b .equalities) → R (p .lhs) (p .rhs)
   pub given : (x : FuncApp) → List·Memᴰ x (b .apps) → S x
-  pub replaced : (x y : FuncApp) → S x → AppNamed (elements b) y → Meet R x y → R (x .result) (y .result) → S y
+  pub replaced : (x y : FuncApp) → S x → AppNamed (elements b) y → A R x y → R (x .result) (y .result) → S y
   pub functional : (x y : FuncApp) → S x → S y → M R x y → R (x .result) (y .result)
   pub laws : All (L S) (b .sig .models)
 
-unfoldable pub SharedBy : Meets → Says → Sharing
-SharedBy M L b x y = (R : ℕ → ℕ → Type 0) (S : FuncApp → Type 0) → Partition (elements b) R → ClosedSetBy M L b R S → R x y
+unfoldable pub SharedBy : Meets → Meets → Says → Sharing
+SharedBy M A L b x y = (R : ℕ → ℕ → Type 0) (S : FuncApp → Type 0) → Partition (elements b) R → ClosedSetBy M A L b R S → R x y
 
 -- `Classes` and `Conserved`: the sharing, how many elements are counted, the merges, what a root is to an element of its class, the rounds
 pub record ClassesBy (Share : Sharing) (b : Book) (counted k : ℕ) : Type 1 where
@@ -105,7 +108,7 @@ book-right : (ks : List Call) (k : Call) → bookAfter feeding ks k ≡ after ks
 unfolding history begin
 book-right ks k = run-book (ks ++ (k ∷ [])) begin
 
-pub closed-right : (b : Book) (x y : ℕ) → SharedBy Meet Obeys b x y ↔ Shared b x y
+pub closed-right : (b : Book) (x y : ℕ) → SharedBy Meet Meet Obeys b x y ↔ Shared b x y
 unfolding SharedBy Shared
 closed-right b x y = (
   λ s R S q c. s R S q (record { named = c .named; equal = c .equal; given = c .given; replaced = c .replaced; functional = c .functional; laws = c .laws }),
