@@ -23,5 +23,6 @@ pub mod Images
 pub mod Unchanged
 pub mod Examples
 pub mod Versions
+pub mod WrongLaws
 pub mod Refutations
 pub mod WrongFlags

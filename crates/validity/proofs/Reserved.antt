@@ -21,7 +21,7 @@ pub record NotReserved (g : Sig) (f : ℕ) : Type 0 where
   pub comp : (m : ModelM) → List·Memᴰ m (g .models) → f ≢ m .comp
   pub mor-app : (m : MorAppM) → List·Memᴰ m (g .mor-apps) → f ≢ m .func
 
-not-id-or-comp : (f : ℕ) (ms : List ModelM) → isIdOrComp f ms ≡ false → (m : ModelM) → List·Memᴰ m ms → (f ≢ m .id) × (f ≢ m .comp)
+pub not-id-or-comp : (f : ℕ) (ms : List ModelM) → isIdOrComp f ms ≡ false → (m : ModelM) → List·Memᴰ m ms → (f ≢ m .id) × (f ≢ m .comp)
 unfolding isIdOrComp
 not-id-or-comp f [] e m k = absurd (List·Memᴰ·not-nil k)
 not-id-or-comp f (n ∷ ns) e m k = elim (List·Memᴰ·cases-cons k) [
