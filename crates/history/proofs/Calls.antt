@@ -306,10 +306,10 @@ module _ (b : Book) (m : Machine) (v : ValidMachine m) where
   run = closeRun (m .sig) (m .structure)
 
   pub close-soundly : TiedTo b (m .structure) → run .core .met ≡ none
-      → ClosedSoundly (m .sig .models) (m .sig) (elements b) (roots (m .structure .links)) (m .structure) (afterClose run (m .structure)) (reportOf run)
+      → ClosedSoundly (m .sig) (elements b) (roots (m .structure .links)) (m .structure) (afterClose run (m .structure)) (reportOf run)
   unfolding fuel coreAtStart
   close-soundly g =
-      run-soundly (m .sig .models) (elements b) (roots (m .structure .links)) (m .sig) (m .structure) v (g .ready) (omega (arith, g .sum, g .small))
+      run-soundly (elements b) (roots (m .structure .links)) (m .sig) (m .structure) v (g .ready) (omega (arith, g .sum, g .small))
 
   close-tied : b .sig ≡ m .sig → TiedTo b (m .structure) → run .core .met ≡ none → TiedTo (taken close (reportOf run .merges) b) (afterClose run (m .structure))
   unfolding taken coreAtStart

@@ -1,18 +1,18 @@
 -- Closed sets over a book's elements, and over all numbers: where the book names no other numbers, both give the same classes. And where no application
 -- of the book is one of id or comp, these are the classes of 01.
-use mathlib.Core.Path.{_≡_, refl, sym, subst}
+use mathlib.Core.Path.{_≡_, refl, sym, ap, subst, _∙_}
 use mathlib.Core.Logic.{_↔_, _≢_, _⊎_, inl, inr}
 use mathlib.Core.Bool.{false}
 use mathlib.Core.List.{List, [], _∷_, List·Memᴰ}
 use Prim.Native.Nat.{ℕ, _≤_, _<_}
 use native.Mathlib.Omega.{arith}
-use Rattle.ids.proofs.Sorted.{All, all-at, all-from, all-map}
+use Rattle.ids.proofs.Sorted.{All, all-at, all-from, all-map, no-test}
 use Rattle.signature.specs.Model.{ModelM}
 use Rattle.semantics.specs.Structure.{Pair, FuncApp, func-app}
 use Rattle.semantics.specs.Valid.{Below}
 use Rattle.semantics.specs.Calls.{isIdOrComp}
 use Rattle.semantics.proofs.Operations.{NoOperation}
-use Rattle.validity.proofs.Reserved.{not-id-or-comp}
+use Rattle.validity.proofs.Operating.{is-operation}
 use Rattle.history.specs.Book.{Book, elements, Partition, Together, none, more, Meet, AppNamed, ClosedSet, Sharing, Shared, Derived}
 use Rattle.history.specs.Book.{Fits, SharedByFits, AppliesNeither}
 use Rattle.history.specs.Laws.{Obeys}
@@ -208,10 +208,10 @@ neither-obeys ms S plain = all-from (Obeys S) ms (λ m i. record {
 })
   where
     no-id : (m : ModelM) → List·Memᴰ m ms → (x : FuncApp) → S x → x .func ≢ m .id
-    no-id m i x s = not-id-or-comp (x .func) ms (plain x s) m i .0
+    no-id m i x s e = no-test (ap (λ (f : ℕ). isIdOrComp f ms) e ∙ is-operation ms m i .0) (plain x s)
 
     no-comp : (m : ModelM) → List·Memᴰ m ms → (x : FuncApp) → S x → x .func ≢ m .comp
-    no-comp m i x s = not-id-or-comp (x .func) ms (plain x s) m i .1
+    no-comp m i x s e = no-test (ap (λ (f : ℕ). isIdOrComp f ms) e ∙ is-operation ms m i .1) (plain x s)
 
 pub book-obeys : (b : Book) → AppliesNeither b → (R : ℕ → ℕ → Type 0) → All (Obeys (Like R (In (b .apps)))) (b .sig .models)
 unfolding AppliesNeither

@@ -2,24 +2,22 @@
 -- held it does nothing, and where it does nothing they are held.
 use mathlib.Core.Path.{_≡_, refl, sym, subst, ap, _∙_}
 use mathlib.Core.Logic.{_≢_, _↔_}
-use mathlib.Core.Bool.{Bool, true, false, not, _||_, or-false}
+use mathlib.Core.Bool.{Bool, true, false, not, or-false}
 use mathlib.Core.List.{List, [], _∷_, map}
 use mathlib.Core.Option.{Option, none, some, Option·some-injective}
-use Prim.Native.Nat.{ℕ, _<_}
-use lib.ListN.{length}
-use lib.Dec.{eqb}
+use Prim.Native.Nat.{ℕ}
 use borrow.Author.Tests.{eq-eqb, ne-eqb}
-use Rattle.ids.specs.Table.{placed, lookupOf}
+use Rattle.ids.specs.Table.{lookupOf}
 use Rattle.ids.proofs.Sorted.{All, all-at, no-test, lookup-sound, placed-all, placed-rest}
 use Rattle.unification.specs.Roots.{rootOf}
 use Rattle.unification.proofs.Laws.{root-root}
-use Rattle.semantics.specs.Structure.{FuncApp, func-app, pair, compareFuncApp, canonicalFuncApp, maxPairs, maxFuncApps}
+use Rattle.semantics.specs.Structure.{FuncApp, func-app, pair, compareFuncApp, canonicalFuncApp}
 use Rattle.semantics.specs.Types as types
 use Rattle.semantics.specs.Types.{firstMet}
-use Rattle.semantics.specs.Applying.{Equated, equating, equate, Applied, applied, appliedEqual, applyAt, insertFuncAppOrEquate}
+use Rattle.semantics.specs.Applying.{Equated, equating, equate, applied, appliedEqual, applyAt, insertFuncAppOrEquate}
 use Rattle.semantics.specs.Laws.{Side, Law, holds, agree}
 use Rattle.semantics.specs.Close.{Turn, turn, reports, appliedTurn, applyTurn, giveTo, give, equalize, obey, obeyAll, keyOf}
-use Rattle.semantics.proofs.Canonical.{Canon, canon-image}
+use Rattle.semantics.proofs.Canonical.{Canon, canon-result, canon-image}
 use Rattle.semantics.proofs.Cases.{or-first, or-second, none-some}
 use Rattle.semantics.proofs.Equating.{equate-roots}
 use Rattle.semantics.proofs.Operations.{insertedTurn, keptTurn, queuedTurn, fullTurn, rootedIn, foundIn, apply-cases, obeyAll-keeps}
@@ -27,8 +25,13 @@ use Rattle.semantics.proofs.Orders.{func-app-same}
 use Rattle.history.proofs.Operations.{resultOf, resultAt, Held, OverRoots}
 
 -- its applications are rewritten
-abbrev pub Rewrought : Turn → Type 0
-Rewrought t = All (Canon (t .core .links)) (t .apps)
+abbrev pub AllCanon : Turn → Type 0
+AllCanon t = All (Canon (t .core .links)) (t .apps)
+
+-- a result that is stored is a root
+stored-root : (t : Turn) → AllCanon t → (x z : FuncApp) → lookupOf compareFuncApp x (t .apps) ≡ some z → rootOf (t .core .links) (z .result) ≡ z .result
+stored-root t c x z e =
+    canon-result (t .core .links) z (all-at (Canon (t .core .links)) (t .apps) c z (lookup-sound compareFuncApp x (t .apps) e .0))
 
 -- what is left where two roots are queued
 abbrev pub waitingTurn : ℕ → ℕ → Turn → Turn
@@ -40,7 +43,7 @@ queued-roots a b t p q n =
     (equate-roots (t .core .links) (t .core .pairs) a b p q ∙ ap (λ (d : Bool). equating (t .core .links) (pair a b ∷ t .core .pairs) (not d)) (ne-eqb a b n))
 
 -- the four ways of an insertion, for a claim on what it leaves
-pub rewrought-cases {ℓ} : (P : Turn → Type ℓ) (x : FuncApp) (t : Turn) → Rewrought t
+pub canon-cases {ℓ} : (P : Turn → Type ℓ) (x : FuncApp) (t : Turn) → AllCanon t
     → (foundIn t x ≡ none → P (insertedTurn (rootedIn t x) t))
     → ((y : FuncApp) → foundIn t x ≡ some y → y .result ≡ rootedIn t x .result → P (keptTurn t))
     → ((y : FuncApp) → foundIn t x ≡ some y → rootOf (t .core .links) (y .result) ≡ y .result → y .result ≢ rootedIn t x .result
@@ -48,11 +51,10 @@ pub rewrought-cases {ℓ} : (P : Turn → Type ℓ) (x : FuncApp) (t : Turn) →
     → P (fullTurn t)
     → P (applyTurn x t)
 unfolding canonicalFuncApp
-rewrought-cases P x t c new same other full =
+canon-cases P x t c new same other full =
     apply-cases P x t (λ e room. new e) same
     (λ y e n room.
-    let own : rootOf (t .core .links) (y .result) ≡ y .result =
-    ap (λ (z : FuncApp). z .result) (all-at (Canon (t .core .links)) (t .apps) c y (lookup-sound compareFuncApp (rootedIn t x) (t .apps) e .0)) in
+    let own = stored-root t c (rootedIn t x) y e in
     subst P (sym (queued-roots (y .result) (rootedIn t x .result) t own (root-root (t .core .links) (x .result)) n)) (other y e own n))
     full
 
@@ -118,19 +120,13 @@ given-rooted : (t : Turn) (y z : FuncApp) → OfRoots (t .core .links) y → roo
 unfolding canonicalFuncApp
 given-rooted t y z o own = λ i. func-app (y .func) (o .parents i) (o .args i) (own i)
 
--- a result that is stored is a root
-stored-root : (t : Turn) → Rewrought t → (x z : FuncApp) → lookupOf compareFuncApp x (t .apps) ≡ some z → rootOf (t .core .links) (z .result) ≡ z .result
-unfolding canonicalFuncApp
-stored-root t c x z e =
-    ap (λ (w : FuncApp). w .result) (all-at (Canon (t .core .links)) (t .apps) c z (lookup-sound compareFuncApp x (t .apps) e .0))
-
 -- of a key only function, parents and arguments are read
 key-alike : (xs : List FuncApp) (x : FuncApp) (v : ℕ) → lookupOf compareFuncApp (givenTo x v) xs ≡ lookupOf compareFuncApp x xs
 unfolding lookupOf compareFuncApp
 key-alike xs x v = refl
 
 -- given to a key that has the same result, or none
-give-same : (x y : FuncApp) (t : Turn) → Rewrought t → OfRoots (t .core .links) y → resultAt (t .apps) x ≡ resultAt (t .apps) y → give x y t ≡ t
+give-same : (x y : FuncApp) (t : Turn) → AllCanon t → OfRoots (t .core .links) y → resultAt (t .apps) x ≡ resultAt (t .apps) y → give x y t ≡ t
 unfolding give giveTo
 give-same x y t c o h = go (lookupOf compareFuncApp x (t .apps)) refl
   where
@@ -142,7 +138,7 @@ give-same x y t c o h = go (lookupOf compareFuncApp x (t .apps)) refl
         ap resultOf (key-alike (t .apps) y (z .result)) ∙ sym h ∙ ap resultOf e ∙ (unfold resultOf in refl) in
         apply-same (givenTo y (z .result)) t (subst (λ (w : FuncApp). resultAt (t .apps) w ≡ some (w .result)) (sym is) at)
 
-law-same : (l : Law) (t : Turn) → Rewrought t → OverRoots (t .core .links) l → Held (t .core .links) (t .apps) l → obey l t ≡ t
+law-same : (l : Law) (t : Turn) → AllCanon t → OverRoots (t .core .links) l → Held (t .core .links) (t .apps) l → obey l t ≡ t
 unfolding obey equalize OverRoots Held
 law-same (holds x) t c o h = (unfold canonicalFuncApp in apply-same x t h)
 law-same (agree ps l r) t c o h =
@@ -151,7 +147,7 @@ law-same (agree ps l r) t c o h =
     let y = keyOf ls ps r in
     ap (give y x) (give-same x y t c (key-of-roots ls ps r o) h) ∙ give-same y x t c (key-of-roots ls ps l o) (sym h)
 
-pub laws-same : (ls : List Law) (t : Turn) → Rewrought t → All (OverRoots (t .core .links)) ls → All (Held (t .core .links) (t .apps)) ls → obeyAll ls t ≡ t
+pub laws-same : (ls : List Law) (t : Turn) → AllCanon t → All (OverRoots (t .core .links)) ls → All (Held (t .core .links) (t .apps)) ls → obeyAll ls t ≡ t
 unfolding obeyAll
 laws-same [] t c o h = refl
 laws-same (l ∷ ls) t c o h = ap (obeyAll ls) (law-same l t c (o .0) (h .0)) ∙ laws-same ls t c (o .1) (h .1)
@@ -159,17 +155,17 @@ laws-same (l ∷ ls) t c o h = ap (obeyAll ls) (law-same l t c (o .0) (h .0)) �
 -- Conversely, where no work is reported and no number is met.
 
 -- nothing was done, and what Q says holds
-record Quiet (Q : Type 0) (t u : Turn) : Type 0 where
+record DidNothing (Q : Type 0) (t u : Turn) : Type 0 where
   same : u ≡ t
   so : Q
 
-abbrev IfQuiet : Type 0 → Turn → Turn → Type 0
-IfQuiet Q t u = u .worked ≡ false → u .core .met ≡ none → Quiet Q t u
+abbrev IfUnworked : Type 0 → Turn → Turn → Type 0
+IfUnworked Q t u = u .worked ≡ false → u .core .met ≡ none → DidNothing Q t u
 
-apply-quiet : (x : FuncApp) (t : Turn) → Rewrought t → IfQuiet (resultAt (t .apps) (rootedIn t x) ≡ some (rootedIn t x .result)) t (applyTurn x t)
+apply-unworked : (x : FuncApp) (t : Turn) → AllCanon t → IfUnworked (resultAt (t .apps) (rootedIn t x) ≡ some (rootedIn t x .result)) t (applyTurn x t)
 unfolding resultOf
-apply-quiet x t c =
-    rewrought-cases (IfQuiet (resultAt (t .apps) (rootedIn t x) ≡ some (rootedIn t x .result)) t) x t c
+apply-unworked x t c =
+    canon-cases (IfUnworked (resultAt (t .apps) (rootedIn t x) ≡ some (rootedIn t x .result)) t) x t c
     (λ e q m. no-test refl (or-second (t .worked) true q))
     (λ y e r q m. record { same = kept-same t; so = ap resultOf e ∙ ap (λ (v : ℕ). some v) r })
     (λ y e own n q m. no-test refl (or-second (t .worked) true q))
@@ -179,15 +175,15 @@ apply-quiet x t c =
 abbrev Given : Turn → FuncApp → FuncApp → Type 0
 Given t x y = (v : ℕ) → resultAt (t .apps) x ≡ some v → resultAt (t .apps) y ≡ some v
 
-give-quiet : (x y : FuncApp) (t : Turn) → Rewrought t → OfRoots (t .core .links) y → IfQuiet (Given t x y) t (give x y t)
+give-unworked : (x y : FuncApp) (t : Turn) → AllCanon t → OfRoots (t .core .links) y → IfUnworked (Given t x y) t (give x y t)
 unfolding give giveTo resultOf
-give-quiet x y t c o = go (lookupOf compareFuncApp x (t .apps)) refl
+give-unworked x y t c o = go (lookupOf compareFuncApp x (t .apps)) refl
   where
-    go : (z : Option FuncApp) → lookupOf compareFuncApp x (t .apps) ≡ z → IfQuiet (Given t x y) t (giveTo y z t)
+    go : (z : Option FuncApp) → lookupOf compareFuncApp x (t .apps) ≡ z → IfUnworked (Given t x y) t (giveTo y z t)
     go none e q m = record { same = refl; so = λ v h. none-some (sym (ap resultOf e) ∙ h) }
     go (some z) e q m =
         let is = given-rooted t y z o (stored-root t c x z e) in
-        let a = apply-quiet (givenTo y (z .result)) t c q m in
+        let a = apply-unworked (givenTo y (z .result)) t c q m in
         let at : resultAt (t .apps) y ≡ some (z .result) =
         sym (ap resultOf (key-alike (t .apps) y (z .result))) ∙ subst (λ (w : FuncApp). resultAt (t .apps) w ≡ some (w .result)) is (a .so) in
         record { same = a .same; so = λ v h. at ∙ sym (ap resultOf e) ∙ h }
@@ -206,34 +202,32 @@ give-more x y t = go (lookupOf compareFuncApp x (t .apps))
     go none = record { worked = λ q. q; met = λ q. q; merges = refl }
     go (some z) = apply-more t (givenTo y (z .result)) t (record { worked = λ q. q; met = λ q. q; merges = refl })
 
-law-quiet : (l : Law) (t : Turn) → Rewrought t → OverRoots (t .core .links) l → IfQuiet (Held (t .core .links) (t .apps) l) t (obey l t)
+law-unworked : (l : Law) (t : Turn) → AllCanon t → OverRoots (t .core .links) l → IfUnworked (Held (t .core .links) (t .apps) l) t (obey l t)
 unfolding obey equalize OverRoots Held
-law-quiet (holds x) t c o q m = (unfold canonicalFuncApp in apply-quiet x t c q m)
-law-quiet (agree ps l r) t c o q m =
+law-unworked (holds x) t c o q m = (unfold canonicalFuncApp in apply-unworked x t c q m)
+law-unworked (agree ps l r) t c o q m =
     let ls = t .core .links in
     let x = keyOf ls ps l in
     let y = keyOf ls ps r in
     let u = give x y t in
     let less = give-more y x u in
-    let one = give-quiet x y t c (key-of-roots ls ps r o) (less .worked q) (less .met m) in
-    let two = give-quiet y x t c (key-of-roots ls ps l o) (subst (λ (z : Turn). give y x z .worked ≡ false) (one .same) q)
+    let one = give-unworked x y t c (key-of-roots ls ps r o) (less .worked q) (less .met m) in
+    let two = give-unworked y x t c (key-of-roots ls ps l o) (subst (λ (z : Turn). give y x z .worked ≡ false) (one .same) q)
     (subst (λ (z : Turn). give y x z .core .met ≡ none) (one .same) m) in
     record { same = ap (give y x) (one .same) ∙ two .same; so = both-given (resultAt (t .apps) x) (resultAt (t .apps) y) (one .so) (two .so) }
 
-pub laws-quiet : (ls : List Law) (t : Turn) → Rewrought t → All (OverRoots (t .core .links)) ls → obeyAll ls t .worked ≡ false → obeyAll ls t .core .met ≡ none
+pub laws-unworked : (ls : List Law) (t : Turn) → AllCanon t → All (OverRoots (t .core .links)) ls → obeyAll ls t .worked ≡ false → obeyAll ls t .core .met ≡ none
     → (obeyAll ls t ≡ t) × All (Held (t .core .links) (t .apps)) ls
 unfolding obeyAll
-laws-quiet [] t c o q m = (refl, tt)
-laws-quiet (l ∷ ls) t c o q m =
+laws-unworked [] t c o q m = (refl, tt)
+laws-unworked (l ∷ ls) t c o q m =
     let less = obeyAll-more ls (obey l t) in
-    let a = law-quiet l t c (o .0) (less .worked q) (less .met m) in
-    let b = laws-quiet ls t c (o .1) (subst (λ (u : Turn). obeyAll ls u .worked ≡ false) (a .same) q)
+    let a = law-unworked l t c (o .0) (less .worked q) (less .met m) in
+    let b = laws-unworked ls t c (o .1) (subst (λ (u : Turn). obeyAll ls u .worked ≡ false) (a .same) q)
     (subst (λ (u : Turn). obeyAll ls u .core .met ≡ none) (a .same) m) in
     (ap (obeyAll ls) (a .same) ∙ b .0, (a .so, b .1))
 
--- What insertions keep.
-
--- what each insertion of an application that has T keeps, where T holds of all that is stored
+-- What each insertion of an application that has T keeps, where T holds of all that is stored.
 
 -- the law leads from applications that have T to such ones
 unfoldable pub Serves : List ℕ → (FuncApp → Type 0) → Law → Type 0
@@ -270,11 +264,11 @@ module _ {ℓ} (P : Turn → Type ℓ) (T : FuncApp → Type 0) (ls : List ℕ) 
 -- the links stay, and the table is rewritten
 pub record Steady (ls : List ℕ) (t : Turn) : Type 0 where
   pub links : t .core .links ≡ ls
-  pub canon : Rewrought t
+  pub canon : AllCanon t
 
 pub apply-steady : (ls : List ℕ) (x : FuncApp) (t : Turn) → Steady ls t → Steady ls (applyTurn x t)
 apply-steady ls x t h =
-    rewrought-cases (Steady ls) x t (h .canon)
+    canon-cases (Steady ls) x t (h .canon)
     (λ e. record {
       links = h .links;
       canon = placed-all compareFuncApp (rootedIn t x) (Canon (t .core .links)) (t .apps) (canon-image (t .core .links) x) (h .canon);

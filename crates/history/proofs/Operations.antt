@@ -1,5 +1,5 @@
 -- The laws of identities and composites: as a claim on applications has them, and as a table holds them.
-use mathlib.Core.Path.{_≡_, refl, sym, subst, ap, ap₂, _∙_}
+use mathlib.Core.Path.{_≡_, refl, sym, subst, ap, _∙_}
 use mathlib.Core.Logic.{_↔_, inl, inr}
 use mathlib.Core.Bool.{Bool, true, false}
 use mathlib.Core.List.{List, [], _∷_, map, List·Memᴰ, List·Memᴰ·not-nil, List·Memᴰ·cases-cons}
@@ -15,7 +15,7 @@ use Rattle.unification.proofs.Laws.{root-root}
 use Rattle.semantics.specs.Structure.{FuncApp, func-app, compareFuncApp, canonicalFuncApp}
 use Rattle.semantics.specs.Laws.{Side, side, Law, holds, agree, identityLaws, compositionLaws, lawsIn, lawsOf, laws}
 use Rattle.semantics.specs.Close.{keyOf}
-use Rattle.semantics.proofs.Canonical.{Canon}
+use Rattle.semantics.proofs.Canonical.{Canon, canonical-alike}
 use Rattle.semantics.proofs.Cases.{none-some}
 use Rattle.semantics.proofs.Orders.{func-app-ordered, func-app-same, same-func-app, SameKey}
 use Rattle.history.specs.Book.{Together}
@@ -110,6 +110,17 @@ resultAt xs x = resultOf (lookupOf compareFuncApp x xs)
 unfoldable pub Held : List ℕ → List FuncApp → Law → Type 0
 Held ls xs (holds x) = resultAt xs (canonicalFuncApp ls x) ≡ some (rootOf ls (x .result))
 Held ls xs (agree ps l r) = resultAt xs (keyOf ls ps l) ≡ resultAt xs (keyOf ls ps r)
+
+-- of the links only the roots count
+module _ (ls ks : List ℕ) (roots : (e : ℕ) → rootOf ks e ≡ rootOf ls e) where
+  side-alike : (ps : List ℕ) (x : Side) → keyOf ks ps x ≡ keyOf ls ps x
+  unfolding keyOf
+  side-alike ps x = λ i. func-app (x .func) ps (roots (x .el) i ∷ []) 0
+
+  pub held-alike : (xs : List FuncApp) (l : Law) → Held ls xs l → Held ks xs l
+  unfolding Held
+  held-alike xs (holds x) h = ap (resultAt xs) (canonical-alike ls ks roots x) ∙ h ∙ ap (λ (v : ℕ). some v) (sym (roots (x .result)))
+  held-alike xs (agree ps l r) h = ap (resultAt xs) (side-alike ps l) ∙ h ∙ sym (ap (resultAt xs) (side-alike ps r))
 
 -- over parents that are roots
 unfoldable pub OverRoots : List ℕ → Law → Type 0

@@ -51,7 +51,7 @@ pub record Like (R : ℕ → ℕ → Type 0) (App : FuncApp → Type 0) (x : Fun
   pub result : R (of .result) (x .result)
 
 module _ (R : ℕ → ℕ → Type 0) (q : Equivalence R) where
-  together-same : (l : List ℕ) → Together R l l
+  pub together-same : (l : List ℕ) → Together R l l
   together-same [] = none
   together-same (x ∷ xs) = more (q .same x) (together-same xs)
 

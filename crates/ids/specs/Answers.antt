@@ -30,7 +30,8 @@ undeclared = 5
 abbrev pub wrongKind : ℕ
 wrongKind = 6
 
--- "application of id, comp or a morphism application function"
+-- "application of id, comp or a morphism application function"; 02, M-102: "Number 7 remains for record 5 functions, and for id and comp where a record 5
+-- stands."
 abbrev pub reserved : ℕ
 reserved = 7
 
@@ -49,6 +50,10 @@ noAmbient = 10
 -- "the close would at some moment hold 1,025 facts"
 abbrev pub tooManyFacts : ℕ
 tooManyFacts = 11
+
+-- 02, M-102: "an id application without exactly one argument, or a comp without exactly two"
+abbrev pub wrongArity : ℕ
+wrongArity = 12
 
 -- a value, or the number of the refusal
 pub data Answered (A : Type 0) : Type 0 where

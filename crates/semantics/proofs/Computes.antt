@@ -40,7 +40,7 @@ unfolding answers.firstOf answers.decided answers.outcome
     conflicts.parentsMatch conflicts.disagree conflicts.firstConflict conflicts.conflictAmong conflicts.conflictAt conflicts.conflictsBelow
     conflicts.typeConflicts
     calls.elCauses calls.withEl calls.equalityCauses calls.withEquality calls.isImposed calls.impositionCauses calls.withImposition
-    calls.isIdOrComp calls.isReserved calls.applicationCauses calls.withApplied
+    calls.isIdOrComp calls.isReserved calls.misapplies calls.isMisapplied calls.applicationCauses calls.withApplied
     calls.predicationCauses calls.withPredApp calls.variableCauses calls.withVar calls.ambientCauses calls.withAmbient calls.ambientOf
     calls.haveAmbients calls.ambientEls calls.ambientParentsCauses calls.leading calls.start calls.equalityRule calls.impositionRule calls.applicationRule calls.closeRule
     calls.reportedFirst calls.settleAfter calls.settleBy calls.settleFrom calls.settleRun calls.mergesIn calls.sumsOf calls.settleRule calls.rule

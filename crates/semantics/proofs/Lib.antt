@@ -10,6 +10,7 @@ pub mod Functionality
 pub mod Queues
 pub mod Canonical
 pub mod Stages
+pub mod ModelFunctions
 pub mod Operations
 pub mod Pairs
 pub mod Computes

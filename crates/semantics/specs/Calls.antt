@@ -8,7 +8,7 @@ use mathlib.Core.Option.{Option, none, some}
 use lib.ListN.{length, take}
 use lib.Dec.{eqb, leb, ltb}
 use Rattle.ids.specs.declared.Ordering.the-variants.{Less, Equal, Greater}
-use Rattle.ids.specs.Answers.{Cause, Answered, accepted, refused, Outcome, firstOf, decided, _if_, malformed, undeclared, wrongKind, reserved, givenAgain, noRoom, noAmbient}
+use Rattle.ids.specs.Answers.{Cause, Answered, accepted, refused, Outcome, firstOf, decided, _if_, malformed, undeclared, wrongKind, reserved, wrongArity, givenAgain, noRoom, noAmbient}
 use Rattle.ids.specs.Ids.{tooLong, allBelow}
 use Rattle.ids.specs.Table.{present, placed, lookupOf}
 use Rattle.unification.specs.Roots.{maxEls, rootOf, shortOf, addedOf, FindM, findOf, findCauses}
@@ -77,13 +77,23 @@ withImposition queued f s = elim queued [ true ↦ s | false ↦ with-imposition
 
 -- Kind 9, "function application (A function, B result)", as `insert_func_app_or_equate`.
 
--- "application of id, comp or a morphism application function"
+-- the function is a model's id or comp
 unfoldable pub isIdOrComp : ℕ → List ModelM → Bool
 isIdOrComp f [] = false
 isIdOrComp f (m ∷ ms) = (eqb f (m .id) || eqb f (m .comp)) || isIdOrComp f ms
 
+-- "Number 7 remains for record 5 functions, and for id and comp where a record 5 stands." (02, M-102)
 unfoldable pub isReserved : Sig → ℕ → Bool
-isReserved g f = isIdOrComp f (g .models) || inMorApps f (g .mor-apps)
+isReserved g f = inMorApps f (g .mor-apps) || (isIdOrComp f (g .models) && ltb 0 (length (g .mor-apps)))
+
+-- "an id application without exactly one argument, or a comp without exactly two"
+unfoldable pub misapplies : ModelM → FuncApp → Bool
+misapplies m x =
+    (eqb (x .func) (m .id) && not (eqb (length (x .args)) 1)) || (eqb (x .func) (m .comp) && not (eqb (length (x .args)) 2))
+
+unfoldable pub isMisapplied : FuncApp → List ModelM → Bool
+isMisapplied x [] = false
+isMisapplied x (m ∷ ms) = misapplies m x || isMisapplied x ms
 
 -- the application on the structure's own tables
 abbrev pub appliedTo : Structure → FuncApp → Applied
@@ -94,6 +104,7 @@ applicationCauses g s x =
     malformed if (tooLong (x .parents) || tooLong (x .args))
     ∷ undeclared if not (isFunc g (x .func) && (areEls s (x .parents) && (areEls s (x .args) && isEl s (x .result))))
     ∷ reserved if isReserved g (x .func)
+    ∷ wrongArity if isMisapplied x (g .models)
     ∷ noRoom if appliedTo s x .full
     ∷ []
 

@@ -10,8 +10,8 @@ use Rattle.ids.specs.Table.{lookupOf, placed, rewriteInto}
 use Rattle.unification.specs.Roots.{maxEls, rootOf}
 use Rattle.signature.specs.Model.{Sig, predAt, funcAt}
 use Rattle.signature.specs.Calls.{TypedM, at, absent, concreteTypeAt}
-use Rattle.semantics.specs.Structure.{Fact, fact, FuncApp, func-app, PredApp, Pair, pair, Structure, maxFacts, compareFact, compareFuncApp}
-use Rattle.semantics.specs.Structure.{comparePredApp, canonicalFact, canonicalFuncApp, canonicalPredApp, canonicalVar, with-links}
+use Rattle.semantics.specs.Structure.{Fact, fact, FuncApp, func-app, PredApp, Pair, pair, Structure, maxFacts, maxFuncApps, compareFact}
+use Rattle.semantics.specs.Structure.{compareFuncApp, comparePredApp, canonicalFact, canonicalFuncApp, canonicalPredApp, canonicalVar, with-links}
 use Rattle.semantics.specs.Structure.{with-marks, with-facts, with-func-apps, with-pred-apps, with-vars, with-pairs}
 use Rattle.semantics.specs.Structure.{with-impositions}
 use Rattle.semantics.specs.Types as types
@@ -77,7 +77,8 @@ funcResults g (x ∷ xs) = demandedAt g (funcAt g (x .func) .codomain) (x .paren
 unfoldable pub demands : Sig → List FuncApp → List PredApp → List Fact
 demands g apps preds = funcArgs g apps ++ (predArgs g preds ++ funcResults g apps)
 
--- A round: "drain (last pair first), `functionality`, `typing`".
+-- A round: "drain (last pair first), `functionality`, `typing`", and the laws of identities and composites: "The pass runs after typing in each round"
+-- (02, M-102).
 
 -- what the passes of a round work on, and whether one of them reported work
 pub record Turn : Type 0 where
@@ -159,7 +160,7 @@ abbrev pub Pass : Type 0
 Pass = Sig → List PredApp → Turn → Turn
 
 unfoldable pub passes : List Pass
-passes = drainPass ∷ functionalityPass ∷ typingPass ∷ []
+passes = drainPass ∷ functionalityPass ∷ typingPass ∷ operationPass ∷ []
 
 unfoldable pub runPasses : List Pass → Sig → List PredApp → Turn → Turn
 runPasses [] g preds t = t
@@ -201,7 +202,7 @@ roundsFrom (suc k) g preds t =
 
 -- more rounds than a close of a valid structure can take
 unfoldable pub fuel : ℕ
-fuel = 2 * ((maxFacts + 2) * (maxEls + 1))
+fuel = 2 * ((maxFacts + maxFuncApps + 2) * (maxEls + 1))
 
 unfoldable pub rounds : Sig → List PredApp → List FuncApp → Core → Rounds
 rounds g preds apps w = roundsFrom fuel g preds (round g preds apps w)
