@@ -93,15 +93,15 @@ module _ {k : Call} {cs : List Closed} (w : Worked k cs) where
   conserves = conservation worked k cs (w .ran) (w .unmarked)
 
   -- there are two classes
-  two-classes : Classes (after k .book) 2
-  two-classes = rw two at (conserves .counted)
+  two-classes : Classes Shared (after k .book) 2
+  two-classes = rw two at (conserves .by-class .counted)
     where
-      two : conserves .classes ≡ 2
-      two = omega (arith, conserves .sum, w .four, w .two-merges)
+      two : conserves .by-class .classes ≡ 2
+      two = omega (arith, conserves .by-class .sum, w .four, w .two-merges)
 
   -- 2 and 3 share one, by the two applications
   two-three : Shared (after k .book) 2 3
-  two-three = conserves .one-root 2 3 (omega (arith, w .four)) (omega (arith, w .four)) .0 (w .same-root)
+  two-three = conserves .by-class .one-root 2 3 (omega (arith, w .four)) (omega (arith, w .four)) .0 (w .same-root)
 
 -- Settled: after the settle an equality within one class, answered with no and queued; a marked element; a find; a refused equality.
 after-settle : List Call
