@@ -4,7 +4,7 @@
 use mathlib.Core.Path.{_≡_, refl, sym, subst, ap, ap₂, _∙_}
 use mathlib.Core.Logic.{_↔_, Lift}
 use mathlib.Core.Bool.{Bool, true, false}
-use mathlib.Core.List.{List, [], _∷_, map, List·Memᴰ, List·Memᴰ·head, List·Memᴰ·tail, List·Memᴰ·not-nil}
+use mathlib.Core.List.{List, [], _∷_, _++_, map, List·Memᴰ, List·Memᴰ·head, List·Memᴰ·tail, List·Memᴰ·not-nil}
 use Prim.Native.Nat.{ℕ, zero, suc, _+_, _-_, _≤_, _<_}
 use Prim.Native.String.{String}
 use native.Mathlib.Omega.{arith}
@@ -19,15 +19,17 @@ use Rattle.semantics.specs.Close.{Closed, report}
 use Rattle.semantics.specs.Calls.{Call, equate-els, close, settle, totals, Answer, number, says, done, closed, conflicting, summed, found, typed, els, refuse}
 use Rattle.semantics.specs.Calls.{isAccepted, mergesOf, mergesIn}
 use Rattle.semantics.proofs.WrongSettles.{lastMerges}
-use Rattle.semantics.proofs.ProvedCases.{typ, func, plainEl, markedEl, impose, app}
+use Rattle.semantics.proofs.ProvedCases.{typ, func, plainEl, markedEl, impose, app, downFrom, signature102, dom, cod, identity, composite}
 use Rattle.history.specs.Book.{Book, book, with-equalities, with-apps, elements, taken, fed, history, Together, none, more, Meet, AppNamed, Shared}
 use Rattle.history.specs.Laws.{Obeys}
-use Rattle.history.specs.Book.{Sharing, AppliesNeither, Classes, RanCloses, closes, settles, Conserved, Conservation}
+use Rattle.history.specs.Book.{Sharing, SharedByFits, AppliesNeither, Classes, RoundLimit, RanCloses, closes, settles, Conserved, Conservation}
 use Rattle.history.proofs.SecondClose.{noChange}
 use Rattle.history.proofs.Conservation.{conservation}
 use Rattle.history.proofs.Examples.{computed}
 use Rattle.history.proofs.Versions.{after, linksAfter, Feeds, bookBy, bookAfter, Meets, never, SharedBy, ConservedBy, ConservationBy, unmarked}
 use Rattle.history.proofs.Versions.{feeding, merges, roundLimit, closed-right}
+use Rattle.history.proofs.WrongLaws.{noIdCod, codOfFirst, noMiddle, maps, mapsBook, idApps, codApps, middleApps, exactBook, apart-by-fits}
+use Rattle.history.proofs.WrongLaws.{apart-no-id-cod, apart-cod-of-first, apart-no-middle, apart-exact}
 
 -- The lists.
 
@@ -212,6 +214,79 @@ functions-settled = record {
   book = plainBook (constants (constant ∷ constant ∷ [])) [] (func-app 1 [] [] 1 ∷ func-app 0 [] [] 0 ∷ []) 0;
   root = 1;
   ran = settles {t = totals 2 0} refl;
+  two = omega arith;
+  shows = refl;
+}
+
+-- Identities and composites (02, M-102).
+
+-- id(0) = 0, so that cod(0) = 0, and cod(0) = 1
+identity-cod : WorkedList
+unfolding computed shown
+identity-cod = record {
+  calls = signature102 ++ (plainEl ∷ plainEl ∷ identity 0 0 ∷ cod 0 1 ∷ []);
+  call = close;
+  answers = report true 1 3 ∷ [];
+  book = mapsBook idApps;
+  root = 0;
+  ran = closes refl;
+  two = omega arith;
+  shows = refl;
+}
+
+-- comp(0, 1) = 0, cod(1) = 0 and cod(0) = 1
+composite-cod : WorkedList
+unfolding computed shown
+composite-cod = record {
+  calls = signature102 ++ (plainEl ∷ plainEl ∷ composite 0 1 0 ∷ cod 1 0 ∷ cod 0 1 ∷ []);
+  call = close;
+  answers = report true 1 3 ∷ [];
+  book = mapsBook codApps;
+  root = 0;
+  ran = closes refl;
+  two = omega arith;
+  shows = refl;
+}
+
+-- comp(0, 0) = 0, cod(0) = 0 and dom(0) = 1
+composite-middle : WorkedList
+unfolding computed shown
+composite-middle = record {
+  calls = signature102 ++ (plainEl ∷ plainEl ∷ composite 0 0 0 ∷ cod 0 0 ∷ dom 0 1 ∷ []);
+  call = close;
+  answers = report true 1 3 ∷ [];
+  book = mapsBook middleApps;
+  root = 0;
+  ran = closes refl;
+  two = omega arith;
+  shows = refl;
+}
+
+-- comp(1, 1) = 0, dom(2) = 0 and dom(3) = 1, where 1 and 2 are one, and 0 and 3
+composite-replaced : WorkedList
+unfolding computed shown
+composite-replaced = record {
+  calls = signature102 ++ (downFrom 4 (λ n. plainEl) ++ (composite 1 1 0 ∷ dom 2 0 ∷ dom 3 1 ∷ equate-els 1 2 ∷ equate-els 0 3 ∷ []));
+  call = close;
+  answers = report true 3 3 ∷ [];
+  book = exactBook;
+  root = 0;
+  ran = closes refl;
+  two = omega arith;
+  shows = refl;
+}
+
+-- a chain of composites against the order of the table: each round carries dom one composite further
+composite-chain : WorkedList
+unfolding computed shown
+composite-chain = record {
+  calls = signature102 ++ (downFrom 6 (λ n. plainEl) ++ (composite 0 4 3 ∷ composite 1 4 0 ∷ composite 2 4 1 ∷ dom 2 5 ∷ []));
+  call = close;
+  answers = report true 0 4 ∷ [];
+  book = book maps (false ∷ false ∷ false ∷ false ∷ false ∷ false ∷ []) []
+      (func-app 0 [] (2 ∷ []) 5 ∷ func-app 3 [] (2 ∷ 4 ∷ []) 1 ∷ func-app 3 [] (1 ∷ 4 ∷ []) 0 ∷ func-app 3 [] (0 ∷ 4 ∷ []) 3 ∷ []) 0;
+  root = 1;
+  ran = closes refl;
   two = omega arith;
   shows = refl;
 }
@@ -441,7 +516,7 @@ pub record Refuted : Type 2 where
   pub wrong : version → ⊥
 
 pub table : List Refuted
-unfolding computed shown bookBy AppliesNeither apart equal equal-before refused-equal two-results two-parents two-functions two-lengths marked-parent equal-settled functions-settled
+unfolding computed shown bookBy AppliesNeither apart equal equal-before refused-equal two-results two-parents two-functions two-lengths marked-parent equal-settled functions-settled identity-cod composite-cod composite-middle composite-replaced composite-chain
 table =
     record {
       name = "refused equalities taken";
@@ -578,5 +653,47 @@ table =
       list = functions-settled;
       fact = conserved (right functions-settled refl);
       wrong = λ h. short-of-rounds h functions-settled (functions-settled .book) refl (omega arith) refl (λ l. omega (arith, l (refl, (refl, tt))));
+    }
+    ∷ record {
+      name = "the classes of 01, without the laws";
+      version = ConservationBy feeding unmarked SharedByFits elements merges _≤_ (roundLimit 2);
+      list = identity-cod;
+      fact = conserved (right identity-cod refl);
+      wrong = λ h. parts h identity-cod (identity-cod .book) refl (omega arith) refl refl apart-by-fits;
+    }
+    ∷ record {
+      name = "dom of an identity without its cod";
+      version = ConservationBy feeding unmarked (SharedBy Meet Meet noIdCod) elements merges _≤_ (roundLimit 2);
+      list = identity-cod;
+      fact = conserved (right identity-cod refl);
+      wrong = λ h. parts h identity-cod (identity-cod .book) refl (omega arith) refl refl apart-no-id-cod;
+    }
+    ∷ record {
+      name = "cod of a composite from the first map";
+      version = ConservationBy feeding unmarked (SharedBy Meet Meet codOfFirst) elements merges _≤_ (roundLimit 2);
+      list = composite-cod;
+      fact = conserved (right composite-cod refl);
+      wrong = λ h. parts h composite-cod (composite-cod .book) refl (omega arith) refl refl apart-cod-of-first;
+    }
+    ∷ record {
+      name = "no law of the middle";
+      version = ConservationBy feeding unmarked (SharedBy Meet Meet noMiddle) elements merges _≤_ (roundLimit 2);
+      list = composite-middle;
+      fact = conserved (right composite-middle refl);
+      wrong = λ h. parts h composite-middle (composite-middle .book) refl (omega arith) refl refl apart-no-middle;
+    }
+    ∷ record {
+      name = "laws of exact tuples";
+      version = ConservationBy feeding unmarked (SharedBy Meet never Obeys) elements merges _≤_ (roundLimit 2);
+      list = composite-replaced;
+      fact = conserved (right composite-replaced refl);
+      wrong = λ h. parts h composite-replaced (composite-replaced .book) refl (omega arith) refl refl apart-exact;
+    }
+    ∷ record {
+      name = "the round limit of every list";
+      version = ConservationBy feeding unmarked Shared elements merges _≤_ (λ b. RoundLimit);
+      list = composite-chain;
+      fact = conserved (right composite-chain refl);
+      wrong = λ h. short-of-rounds h composite-chain (composite-chain .book) refl (omega arith) refl (λ l. omega (arith, l .0));
     }
     ∷ []

@@ -120,16 +120,16 @@ module _ (L : Says) (xs : List FuncApp) (H : Quadruples) where
 
 -- the applications of the lists
 
-abbrev pub dom : ℕ → ℕ → FuncApp
+abbrev dom : ℕ → ℕ → FuncApp
 dom f a = func-app 0 [] (f ∷ []) a
 
-abbrev pub cod : ℕ → ℕ → FuncApp
+abbrev cod : ℕ → ℕ → FuncApp
 cod f a = func-app 1 [] (f ∷ []) a
 
-abbrev pub identity : ℕ → ℕ → FuncApp
+abbrev identity : ℕ → ℕ → FuncApp
 identity a r = func-app 2 [] (a ∷ []) r
 
-abbrev pub composite : ℕ → ℕ → ℕ → FuncApp
+abbrev composite : ℕ → ℕ → ℕ → FuncApp
 composite f g h = func-app 3 [] (f ∷ g ∷ []) h
 
 -- of an element below 2
