@@ -12,39 +12,8 @@ use Rattle.history.proofs.Elements.{neither-shared}
 use Rattle.history.proofs.Classes.{shared-if, only-shared, root-classes}
 use Rattle.history.proofs.Histories.{Returned, returned}
 
--- where a close or settle has returned, the classes are those of the roots
-returned-conserves : (h : History) (cs : List Closed) → Returned h cs → Conserved (h .book) (h .machine .structure .links) cs
-unfolding coreAtStart
-returned-conserves h cs r =
-    let b = h .book in
-    let v = h .machine .structure in
-    let w = coreAtStart v in
-    let z = r .closed-to in
-    let only = only-shared b w (v .func-apps) (r .named) (r .tied) (z .pairs) (z .sorted) (z .canon) (z .held) in
-    let shared = shared-if b w (v .func-apps) (r .named) (r .tied) in
-    record {
-      by-class = record {
-        long = r .long;
-        classes = _;
-        counted = root-classes b w (v .func-apps) (r .named) (r .tied) (z .pairs) (z .sorted) (z .canon) (z .held);
-        sum = sym (r .tied .sum);
-        one-root = λ x y hx hy. (shared x y hx, only x y);
-        of-class = λ x hx. (omega (arith, root-le (v .links) x), shared x (rootOf (v .links) x) hx (sym (root-root (v .links) x)));
-        lowest = λ x y hx hy z. omega (arith, root-le (v .links) y, only x y z);
-      };
-      few = z .few;
-    }
-
--- For every list of calls and every accepted close or settle in it with no element marked up to then: the elements added are the classes and all
--- merges that the accepted closes and settles so far reported; two elements have one root exactly when they share a class; the root is the
--- class's lowest number; and, where no application of id or comp was accepted, the rounds of that close, or of each close of that settle, are at most
--- its merges and two.
-pub conservation : Conservation
-unfolding Conservation
-conservation before k cs ran unmarked = returned-conserves (history (before ++ (k ∷ []))) cs (returned before k cs ran unmarked)
-
 -- where elements share a class by the one exactly when they do by the other
-shared-alike : (Share Other : Sharing) (b : Book) (links : List ℕ) → ((x y : ℕ) → x < elements b → Share b x y ↔ Other b x y)
+pub shared-alike : (Share Other : Sharing) (b : Book) (links : List ℕ) → ((x y : ℕ) → x < elements b → Share b x y ↔ Other b x y)
     → RootsByClass Share b links → RootsByClass Other b links
 shared-alike Share Other b links same c = record {
   long = c .long;
@@ -65,11 +34,41 @@ shared-alike Share Other b links same c = record {
   lowest = λ x y hx hy s. c .lowest x y hx hy (same x y hx .1 s);
 }
 
+-- where a close or settle has returned, the classes are those of the roots
+returned-conserves : (h : History) (cs : List Closed) → Returned h cs → Conserved (h .book) (h .machine .structure .links) cs
+unfolding coreAtStart
+returned-conserves h cs r =
+    let b = h .book in
+    let v = h .machine .structure in
+    let w = coreAtStart v in
+    let z = r .closed-to in
+    let only = only-shared b w (v .func-apps) (r .named) (r .tied) (z .pairs) (z .sorted) (z .canon) (z .held) in
+    let shared = shared-if b w (v .func-apps) (r .named) (r .tied) in
+    let by : RootsByClass Shared b (v .links) = record {
+      long = r .long;
+      classes = _;
+      counted = root-classes b w (v .func-apps) (r .named) (r .tied) (z .pairs) (z .sorted) (z .canon) (z .held);
+      sum = sym (r .tied .sum);
+      one-root = λ x y hx hy. (shared x y hx, only x y);
+      of-class = λ x hx. (omega (arith, root-le (v .links) x), shared x (rootOf (v .links) x) hx (sym (root-root (v .links) x)));
+      lowest = λ x y hx hy z. omega (arith, root-le (v .links) y, only x y z);
+    } in
+    record {
+      by-class = by;
+      plain = λ neither. shared-alike Shared SharedByFits b (v .links) (neither-shared b (r .named) neither) by;
+      few = z .few;
+    }
+
+-- For every list of calls and every accepted close or settle in it with no element marked up to then: the elements added are the classes and all
+-- merges that the accepted closes and settles so far reported; two elements have one root exactly when they share a class; the root is the
+-- class's lowest number; and, where no application of id or comp was accepted, the rounds of that close, or of each close of that settle, are at most
+-- its merges and two.
+pub conservation : Conservation
+unfolding Conservation
+conservation before k cs ran unmarked = returned-conserves (history (before ++ (k ∷ []))) cs (returned before k cs ran unmarked)
+
 -- The same with the classes and the round limit of 01, of the lists that apply neither id nor comp.
 pub plain-conservation : PlainConservation
-unfolding PlainConservation
+unfolding PlainConservation Conservation
 plain-conservation before k cs ran unmarked neither =
-    let h = history (before ++ (k ∷ [])) in
-    let r = returned before k cs ran unmarked in
-    let c = returned-conserves h cs r in
-    (shared-alike Shared SharedByFits (h .book) (h .machine .structure .links) (neither-shared (h .book) (r .named) neither) (c .by-class), c .few neither)
+    let c = conservation before k cs ran unmarked in (c .plain neither, c .few neither)

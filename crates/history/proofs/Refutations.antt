@@ -20,7 +20,7 @@ use Rattle.semantics.specs.Calls.{Call, equate-els, close, settle, totals, Answ
 use Rattle.semantics.specs.Calls.{isAccepted, mergesOf, mergesIn}
 use Rattle.semantics.proofs.WrongSettles.{lastMerges}
 use Rattle.semantics.proofs.ProvedCases.{typ, func, plainEl, markedEl, impose, app, downFrom, signature102, dom, cod, identity, composite}
-use Rattle.history.specs.Book.{Book, book, with-equalities, with-apps, elements, taken, fed, history, Together, none, more, Meet, AppNamed, Shared}
+use Rattle.history.specs.Book.{Book, book, with-sig, with-equalities, with-apps, elements, taken, fed, history, Together, none, more, Meet, AppNamed, Shared}
 use Rattle.history.specs.Laws.{Obeys}
 use Rattle.history.specs.Book.{Sharing, SharedByFits, AppliesNeither, Classes, RoundLimit, RanCloses, closes, settles, Conserved, Conservation}
 use Rattle.history.proofs.SecondClose.{noChange}
@@ -29,6 +29,7 @@ use Rattle.history.proofs.Examples.{computed}
 use Rattle.history.proofs.Versions.{after, linksAfter, Feeds, bookBy, bookAfter, Meets, never, SharedBy, ConservedBy, ConservationBy, unmarked}
 use Rattle.history.proofs.Versions.{feeding, merges, roundLimit, closed-right}
 use Rattle.history.proofs.WrongLaws.{noIdCod, codOfFirst, noMiddle, maps, mapsBook, idApps, codApps, middleApps, exactBook, apart-by-fits}
+use Rattle.history.proofs.WrongLaws.{undeclaredBook, apart-undeclared}
 use Rattle.history.proofs.WrongLaws.{apart-no-id-cod, apart-cod-of-first, apart-no-middle, apart-exact}
 
 -- The lists.
@@ -457,6 +458,9 @@ noEqualities k a b = with-equalities [] (feeding k a b)
 abbrev noApplications : Feeds
 noApplications k a b = with-apps [] (feeding k a b)
 
+abbrev noDeclarations : Feeds
+noDeclarations k a b = with-sig empty (feeding k a b)
+
 -- the merges of a close, and none of a settle
 abbrev closeMerges : Answer → ℕ
 closeMerges (number n) = 0
@@ -659,7 +663,14 @@ table =
       version = ConservationBy feeding unmarked SharedByFits elements merges _≤_ (roundLimit 2);
       list = identity-cod;
       fact = conserved (right identity-cod refl);
-      wrong = λ h. parts h identity-cod (identity-cod .book) refl (omega arith) refl refl apart-by-fits;
+      wrong = λ h. parts h identity-cod (identity-cod .book) refl (omega arith) refl refl (apart-by-fits maps);
+    }
+    ∷ record {
+      name = "declarations dropped";
+      version = ConservationBy noDeclarations unmarked Shared elements merges _≤_ (roundLimit 2);
+      list = identity-cod;
+      fact = conserved (right identity-cod refl);
+      wrong = λ h. parts h identity-cod undeclaredBook refl (omega arith) refl refl apart-undeclared;
     }
     ∷ record {
       name = "dom of an identity without its cod";

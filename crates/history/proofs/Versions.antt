@@ -16,7 +16,11 @@ use Rattle.semantics.specs.Close.{Closed}
 use Rattle.semantics.specs.Calls.{Call, Answer, isAccepted, mergesOf, Machine, start, step}
 use Rattle.history.specs.Book.{Book, blank, elements, fed, History, noted, next, run, begin, history}
 use Rattle.history.specs.Laws.{Obeys}
-use Rattle.history.specs.Book.{Partition, Meet, AppNamed, Sharing, Shared, AppliesNeither, RanCloses, Conserved, Conservation}
+use Rattle.history.specs.Book.{Partition, Meet, AppNamed, Sharing, Shared, SharedByFits, AppliesNeither, RanCloses, RootsByClass, Conserved}
+use Rattle.history.specs.Book.{Conservation}
+use Rattle.history.proofs.Elements.{Named, neither-shared}
+use Rattle.history.proofs.Histories.{history-named}
+use Rattle.history.proofs.Conservation.{shared-alike}
 
 -- where a list has come to when the close or settle after it returns
 abbrev pub after : List Call → Call → History
@@ -120,16 +124,20 @@ unfolding Conservation
 conservation-right = (
   λ h before k cs ran u.
       let r = h .says before k cs ran (rw (book-right before k) u) in
+      let b = bookAfter feeding before k in
+      let named = subst Named (sym (book-right before k)) (history-named (before ++ (k ∷ []))) in
+      let by : RootsByClass Shared b (linksAfter before k) = record {
+        long = r .long;
+        classes = r .classes;
+        counted = record { lowest = r .counted .lowest; is = r .counted .is; many = r .counted .many };
+        sum = r .sum;
+        one-root = r .one-root;
+        of-class = r .of-class;
+        lowest = r .lowest;
+      } in
       subst (λ (b : Book). Conserved b (linksAfter before k) cs) (book-right before k) (record {
-        by-class = record {
-          long = r .long;
-          classes = r .classes;
-          counted = record { lowest = r .counted .lowest; is = r .counted .is; many = r .counted .many };
-          sum = r .sum;
-          one-root = r .one-root;
-          of-class = r .of-class;
-          lowest = r .lowest;
-        };
+        by-class = by;
+        plain = λ neither. shared-alike Shared SharedByFits b (linksAfter before k) (neither-shared b named neither) by;
         few = r .few;
       }),
   λ h. record {

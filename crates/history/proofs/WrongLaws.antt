@@ -7,10 +7,12 @@ use mathlib.Core.List.{List, [], _∷_, List·Memᴰ·not-nil}
 use Prim.Native.Nat.{ℕ, zero, suc, _<_}
 use native.Mathlib.Omega.{arith}
 use Rattle.ids.proofs.Sorted.{All, all-at}
-use Rattle.signature.specs.Model.{Sig, sig, ModelM, model, mor, type-entry, func-entry, model-entry}
+use Rattle.signature.specs.Model.{Sig, sig, empty, ModelM, model, mor, type-entry, func-entry, model-entry}
 use Rattle.semantics.specs.Structure.{Pair, pair, FuncApp, func-app}
+use Rattle.semantics.specs.Calls.{isIdOrComp}
 use Rattle.history.specs.Laws.{Obeys}
-use Rattle.history.specs.Book.{Book, book, Together, none, more, Meet, AppNamed, SharedByFits}
+use Rattle.history.specs.Book.{Book, book, with-sig, Together, none, more, Meet, AppNamed, Shared, SharedByFits, AppliesNeither}
+use Rattle.history.proofs.Elements.{Named, neither-shared}
 use Rattle.history.proofs.Versions.{never, Says, SharedBy}
 
 -- The laws, one by one.
@@ -250,10 +252,10 @@ apart-no-middle = apart noMiddle middleApps Middle (record {
     at-second : (ps : List ℕ) (f g h x : ℕ) → Middle 3 ps (f ∷ g ∷ []) h → Middle 1 ps (g ∷ []) x ↔ Middle 1 ps (h ∷ []) x
     at-second ps f g h x comp₀₀ = (λ s. s, λ s. s)
 
--- The classes of 01: id(0) = 0 and cod(0) = 1 do not meet.
-pub apart-by-fits : SharedByFits (mapsBook idApps) 0 1 → ⊥
+-- The classes of 01, whatever is declared: id(0) = 0 and cod(0) = 1 do not meet.
+pub apart-by-fits : (g : Sig) → SharedByFits (with-sig g (mapsBook idApps)) 0 1 → ⊥
 unfolding SharedByFits
-apart-by-fits s =
+apart-by-fits g s =
     let z : _≡_ {A = ℕ} 0 1 = s (λ x y. x ≡ y) (record { same = λ x h. refl; flip = λ x y h k p. sym p; trans = λ x y z h k l p q. p ∙ q })
     (record {
       equal = λ p m. absurd (List·Memᴰ·not-nil m);
@@ -266,6 +268,20 @@ apart-by-fits s =
   where
     once : All (λ (v : FuncApp). All (λ (w : FuncApp). v .func ≡ w .func → v .result ≡ w .result) idApps) idApps
     once = ((λ e. refl, (λ e. absurd (omega (arith, e)), tt)), ((λ e. absurd (omega (arith, e)), (λ e. refl, tt)), tt))
+
+-- Without the declarations no law is known, and the classes are those of 01.
+
+abbrev pub undeclaredBook : Book
+undeclaredBook = with-sig empty (mapsBook idApps)
+
+pub apart-undeclared : Shared undeclaredBook 0 1 → ⊥
+unfolding empty AppliesNeither isIdOrComp
+apart-undeclared s =
+    let named : Named undeclaredBook = record {
+      equalities = tt;
+      apps = (one-named 1 0 1 (omega arith) (omega arith), (one-named 2 0 0 (omega arith) (omega arith), tt));
+    } in
+    apart-by-fits empty (neither-shared undeclaredBook named (refl, (refl, tt)) 0 1 (omega arith) .0 s)
 
 -- Premises that name exact tuples: elements may not be replaced by equal ones. 1 and 2 are one, and so are 0 and 3; comp(1, 1) = 0, dom(2) = 0 and
 -- dom(3) = 1, so that no law finds what it needs.

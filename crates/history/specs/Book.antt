@@ -65,7 +65,7 @@ blank = book signature.empty [] [] [] 0
 abbrev pub elements : Book → ℕ
 elements b = length (b .marks)
 
--- "it takes from an accepted call": of a close or settle that merged n, the merges
+-- "it takes from an accepted call": of kinds 1 to 5 the declaration, of a close or settle that merged n the merges
 unfoldable pub taken : Call → ℕ → Book → Book
 taken (push-type t) n b = with-sig (withType (b .sig) t) b
 taken (push-pred p) n b = with-sig (withPred (b .sig) p) b
@@ -141,20 +141,20 @@ pub record Meet (R : ℕ → ℕ → Type 0) (x y : FuncApp) : Type 0 where
   pub parents : Together R (x .parents) (y .parents)
   pub args : Together R (x .args) (y .args)
 
--- an application to elements, where there are n
+-- its parents, arguments and result are elements, of which there are n
 pub record AppNamed (n : ℕ) (x : FuncApp) : Type 0 where
   pub parents : Below n (x .parents)
   pub args : Below n (x .args)
   pub result : x .result < n
 
--- "set of applications and equalities closed under these laws too" (02, M-102): the applications that are in S, of elements that are equal as R says
+-- "set of applications and equalities closed under these laws too" (02, M-102): a set S of applications and an equality R of elements, closed together
 pub record ClosedSet (b : Book) (R : ℕ → ℕ → Type 0) (S : FuncApp → Type 0) : Type 0 where
   -- they are of the book's elements
   pub named : (x : FuncApp) → S x → AppNamed (elements b) x
   -- the book's equalities and applications are among them
   pub equal : (p : Pair) → List·Memᴰ p (b .equalities) → R (p .lhs) (p .rhs)
   pub given : (x : FuncApp) → List·Memᴰ x (b .apps) → S x
-  -- elements may be replaced by equal ones
+  -- equalities act on applications: what differs from one in S by equal elements is in S
   pub replaced : (x y : FuncApp) → S x → AppNamed (elements b) y → Meet R x y → R (x .result) (y .result) → S y
   -- functionality
   pub functional : (x y : FuncApp) → S x → S y → Meet R x y → R (x .result) (y .result)
@@ -223,6 +223,8 @@ RoundLimit cs = All (λ (c : Closed). c .rounds ≤ c .merges + 2) cs
 -- what holds at the return of an accepted close or settle whose closes answered cs
 pub record Conserved (b : Book) (links : List ℕ) (cs : List Closed) : Type 1 where
   pub by-class : RootsByClass Shared b links
+  -- where neither id nor comp was applied the classes are those of 01
+  pub plain : AppliesNeither b → RootsByClass SharedByFits b links
   -- "the round limit reads only for sheets that apply neither id nor comp" (02, M-102)
   pub few : AppliesNeither b → RoundLimit cs
 
@@ -234,7 +236,7 @@ Conservation =
     → anyMarked (history (before ++ (k ∷ [])) .book .marks) ≡ false
     → Conserved (history (before ++ (k ∷ [])) .book) (history (before ++ (k ∷ [])) .machine .structure .links) cs
 
--- The claim as 01 has it, with its classes and its round limit: of the lists that apply neither id nor comp.
+-- The claim as 01 and M-100 have it, with the classes and the round limit of 01: of the lists that apply neither id nor comp.
 unfoldable pub PlainConservation : Type 1
 PlainConservation =
     (before : List Call) (k : Call) (cs : List Closed) → RanCloses (history before .machine) k cs

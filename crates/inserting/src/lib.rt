@@ -159,7 +159,7 @@ fn is_id_or_comp(models: Models, func: FuncId) -> bool
     false
 }
 
-// Whether a function may not be applied: one of record 5, or id or comp where there is one.
+// Whether a function may not be applied: one of record 5, or id or comp where a record 5 stands.
 fn is_reserved(signature: Signature, func: FuncId) -> bool
     ensures { λ r. ⌜ r ≡ isReserved (sigOf signature) (func .0) ⌝ }
 {

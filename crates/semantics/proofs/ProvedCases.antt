@@ -363,6 +363,25 @@ mapRows =
       output = tells (closes 1 0 4 ∷ []);
       claims = key 0 [] (3 ∷ []) is result (some 5) ∷ [];
     }
+    -- what is looked up is looked up under the stored parents: typing merges the marked 1 into 0, and the law finds dom(1; 2) = 5 in that round. By
+    -- roots it would be found in the next one, and a third round would run
+    ∷ record {
+      source = calls
+          (typ model [] ∷ typ (mor 0) [] ∷ typ plain (0 ∷ []) ∷ downFrom 4 (λ n. func [] [] 0)
+          ++ (func (0 ∷ []) [] 2 ∷ modelOf 0 1 (0 ∷ 1 ∷ 2 ∷ 3 ∷ []) ∷ plainEl ∷ markedEl ∷ downFrom 5 (λ n. plainEl)
+          ++ (app 4 (0 ∷ []) [] 6 ∷ app 4 (1 ∷ []) [] 6 ∷ app 3 (1 ∷ []) (2 ∷ 3 ∷ []) 4 ∷ app 0 (1 ∷ []) (2 ∷ []) 5 ∷ close ∷ [])));
+      output = tells (closes 1 1 2 ∷ []);
+      claims = link 1 is el 0 ∷ key 0 (0 ∷ []) (4 ∷ []) is result (some 5) ∷ [];
+    }
+    -- a close shortens a path: typing merges 2 into 1 and 1 into 0, and then the law dom(4) = 0 meets the stored result 2, whose root it finds
+    ∷ record {
+      source = calls
+          (typ model [] ∷ typ (mor 0) [] ∷ typ plain (0 ∷ []) ∷ downFrom 4 (λ n. func [] [] 0)
+          ++ (func (0 ∷ []) [] 2 ∷ func (0 ∷ []) [] 2 ∷ modelOf 0 1 (0 ∷ 1 ∷ 2 ∷ 3 ∷ []) ∷ plainEl ∷ markedEl ∷ markedEl ∷ plainEl ∷ plainEl
+          ∷ app 4 (1 ∷ []) [] 3 ∷ app 4 (2 ∷ []) [] 3 ∷ app 5 (0 ∷ []) [] 3 ∷ app 0 [] (4 ∷ []) 2 ∷ app 2 [] (0 ∷ []) 4 ∷ close ∷ []));
+      output = tells (closes 1 2 2 ∷ []);
+      claims = link 1 is el 0 ∷ link 2 is el 0 ∷ [];
+    }
     ∷ arityRows
 
 -- The table.

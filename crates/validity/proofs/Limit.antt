@@ -34,7 +34,7 @@ use Rattle.semantics.proofs.Operations.{apply-cases}
 use Rattle.validity.specs.Numbers.{closeNumbers, MayMeet}
 use Rattle.validity.specs.Unlimited.{Insertions, imposeBy, imposeAllBy, imposedBy, typingBy, giveToBy, giveBy, equalizeBy, obeyBy, obeyAllBy}
 use Rattle.validity.specs.Unlimited.{operationBy, PassBy, passesBy, runPassesBy, roundBy, roundsFromBy, roundsBy, ranBy, withLimits, limited, notedIf}
-use Rattle.validity.specs.Unlimited.{insertAlways, grewOver, appliedIn, overLimits, applyAlways, withoutLimits, works, ranFree, unlimited, noted, closeOrNumber}
+use Rattle.validity.specs.Unlimited.{insertAlways, grewOver, appliedDuring, overLimits, applyAlways, withoutLimits, works, ranFree, unlimited, firstNoted, closeOrNumber}
 use Rattle.validity.proofs.Closing.{close-fuel}
 
 -- What merges and refinements keep: the number that is met, and no more facts than there were.
@@ -262,7 +262,7 @@ pub record Grown (a : Applied) (t : Turn) : Type 0 where
   pub apps : length (a .apps) ≤ suc (length (t .apps))
   pub pairs : length (a .pairs) ≤ suc (length (t .core .pairs))
 
-pub applied-grown : (x : FuncApp) (t : Turn) → Grown (appliedIn t x) t
+pub applied-grown : (x : FuncApp) (t : Turn) → Grown (appliedDuring t x) t
 unfolding insertFuncAppOrEquate applyAt appliedEqual equate overLimits
 applied-grown x t = go (lookupOf compareFuncApp key (t .apps)) refl
   where
@@ -315,7 +315,7 @@ apply-agrees x t m =
     subst (λ (o : Bool). Agree metTurn (applyTurn x t) (reports (notedIf o noRoom (coreOf a t)) (a .apps) (a .yes) t)) (applied-grown x t .full) (go (a .full))
   where
     a : Applied
-    a = appliedIn t x
+    a = appliedDuring t x
 
     go : (b : Bool) → Agree metTurn
         (elim b [ true ↦ turn (with-met noRoom (t .core)) (t .apps) (t .worked) | false ↦ reports (coreOf a t) (a .apps) (a .yes) t ])
@@ -327,7 +327,7 @@ apply-agrees x t m =
 pub first-app-over : (x : FuncApp) (t : Turn) → length (t .apps) ≤ maxFuncApps → ltb maxFuncApps (length (applyAlways x t .apps)) ≡ true
     → length (applyAlways x t .apps) ≡ suc maxFuncApps
 unfolding applyAlways
-first-app-over x t h o = omega (arith, h, applied-grown x t .apps, ltb-true maxFuncApps (length (appliedIn t x .apps)) o)
+first-app-over x t h o = omega (arith, h, applied-grown x t .apps, ltb-true maxFuncApps (length (appliedDuring t x .apps)) o)
 
 -- and so with the pairs, of which other passes leave at most `maxPairs` until a number is met (`close-fits`)
 pub first-pair-over : (x : FuncApp) (t : Turn) → length (t .core .pairs) ≤ maxPairs → ltb maxPairs (length (applyAlways x t .core .pairs)) ≡ true
@@ -336,7 +336,7 @@ unfolding applyAlways notedIf
 first-pair-over x t h = go (overLimits maxFuncApps maxPairs a t)
   where
     a : Applied
-    a = appliedIn t x
+    a = appliedDuring t x
 
     go : (b : Bool) → ltb maxPairs (length (notedIf b noRoom (coreOf a t) .pairs)) ≡ true → length (notedIf b noRoom (coreOf a t) .pairs) ≡ suc maxPairs
     go true o = omega (arith, h, applied-grown x t .pairs, ltb-true maxPairs (length (a .pairs)) o)
@@ -367,7 +367,7 @@ module _ (Q : Option ℕ → Type 0) (nine : (o : Option ℕ) → Q o → Q (fir
   unfolding insertAlways applyAlways notedIf
   free-keep = record {
     facts = λ f w h. fact-keeps f w h (present compareFact f (w .facts)) (ltb maxFacts (length (placed compareFact f (w .facts))));
-    apps = λ x t h. app-keeps (coreOf (appliedIn t x) t) h (overLimits maxFuncApps maxPairs (appliedIn t x) t);
+    apps = λ x t h. app-keeps (coreOf (appliedDuring t x) t) h (overLimits maxFuncApps maxPairs (appliedDuring t x) t);
   }
     where
       fact-keeps : (f : Fact) (w : Core) → OfNumber w → (t u : Bool) → OfNumber (always-by t u f w)
@@ -702,7 +702,7 @@ module _ (g : Sig) (s : Structure) where
 
   -- for any number of rounds
   pub limited-exactly : (n : ℕ) → limited withLimits n g s ≡ closeOrNumber n g s
-  unfolding limited unlimited noted closeBy outcome
+  unfolding limited unlimited firstNoted closeBy outcome
   limited-exactly n = go (ranBy withLimits goesOn n g s) (ranFree n g s) (ran-agrees n)
     where
       free : CloseRun → Outcome Closed Structure
@@ -725,48 +725,48 @@ module _ (g : Sig) (s : Structure) where
 
   -- The same in three parts.
 
-  pub number-if : (n : ℕ) → noted fuel g s ≡ some n → close g s ≡ refusing s n
+  pub number-if : (n : ℕ) → firstNoted fuel g s ≡ some n → close g s ≡ refusing s n
   number-if n e = numbers-exactly ∙ decided-refuses (refusing s) (unlimited fuel g s) e
 
-  pub number-else : noted fuel g s ≡ none → close g s ≡ unlimited fuel g s
+  pub number-else : firstNoted fuel g s ≡ none → close g s ≡ unlimited fuel g s
   number-else e = numbers-exactly ∙ decided-accepts (refusing s) (unlimited fuel g s) e
 
-  pub number-only : (n : ℕ) → close g s .answer ≡ refused n → noted fuel g s ≡ some n
-  number-only n e = go (noted fuel g s) refl
+  pub number-only : (n : ℕ) → close g s .answer ≡ refused n → firstNoted fuel g s ≡ some n
+  number-only n e = go (firstNoted fuel g s) refl
     where
       accepts : {X : Type 0} → unlimited fuel g s .answer ≡ refused n → X
       accepts h = let z : _≡_ {A = ℕ} 0 1 = (unfold unlimited in cc h) in absurd (omega arith)
 
-      go : (o : Option ℕ) → noted fuel g s ≡ o → o ≡ some n
+      go : (o : Option ℕ) → firstNoted fuel g s ≡ o → o ≡ some n
       go none m = accepts (sym (ap (λ (o : Outcome Closed Structure). o .answer) (number-else m)) ∙ e)
       go (some k) m =
           let same : refused k ≡ refused n = sym (ap (λ (o : Outcome Closed Structure). o .answer) (number-if k m)) ∙ e in
           ap some (let z : k ≡ n = cc same in z)
 
   -- refused with a number exactly if it is the one first noted
-  number-exactly : (n : ℕ) → (close g s .answer ≡ refused n) ↔ (noted fuel g s ≡ some n)
+  number-exactly : (n : ℕ) → (close g s .answer ≡ refused n) ↔ (firstNoted fuel g s ≡ some n)
   number-exactly n = (number-only n, (λ e. ap (λ (o : Outcome Closed Structure). o .answer) (number-if n e)))
 
   -- 11: without limits it would at some moment hold more than `maxFacts` facts, and did not need an entry in a full table before
-  pub eleven-exactly : (close g s .answer ≡ refused tooManyFacts) ↔ (noted fuel g s ≡ some tooManyFacts)
+  pub eleven-exactly : (close g s .answer ≡ refused tooManyFacts) ↔ (firstNoted fuel g s ≡ some tooManyFacts)
   eleven-exactly = number-exactly tooManyFacts
 
   -- 9: a law would at some moment need an entry in a full table, and no more than `maxFacts` facts were held before
-  pub nine-exactly : (close g s .answer ≡ refused noRoom) ↔ (noted fuel g s ≡ some noRoom)
+  pub nine-exactly : (close g s .answer ≡ refused noRoom) ↔ (firstNoted fuel g s ≡ some noRoom)
   nine-exactly = number-exactly noRoom
 
   -- "Of 9 and 11 in one close, the one met first is given": what is noted after some of the rounds is given, whatever the later ones do. No insertion
   -- drops a number (`free-met`), so it is the same inside a round.
   pub first-given : (j : ℕ) → j ≤ fuel → (n : ℕ) → roundsBy withoutLimits works j g s .core .met ≡ some n → close g s ≡ refusing s n
-  unfolding noted ranBy roundsBy
+  unfolding firstNoted ranBy roundsBy
   first-given j h n e =
       let t = roundBy withoutLimits g (s .pred-apps) (s .func-apps) (coreAtStart s) in
       let r = roundsFromBy withoutLimits works fuel g (s .pred-apps) t in
       number-if n (free-imposes s n r (rounds-stay g (s .pred-apps) j fuel h n t e))
 
   -- no other number is noted
-  pub noted-listed : (n : ℕ) → MayMeet (noted n g s)
-  unfolding noted coreAtStart
+  pub noted-listed : (n : ℕ) → MayMeet (firstNoted n g s)
+  unfolding firstNoted coreAtStart
   noted-listed n = ran-holds withoutLimits Listed listed-through free-listed works n g s tt
 
 -- and so the call

@@ -16,9 +16,9 @@ use Rattle.semantics.specs.Types.{Core, with-added, with-met, insertFact}
 use Rattle.semantics.specs.Applying.{applied}
 use Rattle.semantics.specs.Close.{Turn, appliedTurn, applyTurn, fuel, Closed, report, close}
 use Rattle.semantics.proofs.Computes.{everything}
-use Rattle.validity.specs.Unlimited.{inserting, imposeBy, imposeAllBy, imposedBy, typingBy, giveToBy, giveBy, equalizeBy, obeyBy, obeyAllBy}
+use Rattle.validity.specs.Unlimited.{insertions, imposeBy, imposeAllBy, imposedBy, typingBy, giveToBy, giveBy, equalizeBy, obeyBy, obeyAllBy}
 use Rattle.validity.specs.Unlimited.{operationBy, passesBy, runPassesBy, roundBy, roundsFromBy, roundsBy, ranBy, limited, notedIf, insertAlways}
-use Rattle.validity.specs.Unlimited.{grewOver, appliedIn, overLimits, applyAlways, unlimited, noted, closeOrNumber}
+use Rattle.validity.specs.Unlimited.{grewOver, appliedDuring, overLimits, applyAlways, unlimited, firstNoted, closeOrNumber}
 use Rattle.validity.proofs.Limit.{applied-grown, is-close}
 
 -- `insertFact` with the limit n
@@ -32,22 +32,22 @@ insertWithin n f w =
 -- `applyTurn` with the limits n of applications and p of pairs
 unfoldable pub applyWithin : ℕ → ℕ → FuncApp → Turn → Turn
 applyWithin n p x t =
-    let a = appliedIn t x in appliedTurn (applied (a .links) (a .pairs) (a .apps) (a .yes) (overLimits n p a t)) t
+    let a = appliedDuring t x in appliedTurn (applied (a .links) (a .pairs) (a .apps) (a .yes) (overLimits n p a t)) t
 
 -- the close with these limits
 abbrev pub closeWithin : ℕ → ℕ → ℕ → Sig → Structure → Outcome Closed Structure
-closeWithin facts apps pairs = limited (inserting (insertWithin facts) (applyWithin apps pairs)) fuel
+closeWithin facts apps pairs = limited (insertions (insertWithin facts) (applyWithin apps pairs)) fuel
 
 -- with the right ones it is the close
 pub right-limits : (g : Sig) (s : Structure) → close g s ≡ closeWithin maxFacts maxFuncApps maxPairs g s
-right-limits g s = is-close g s ∙ (λ i. limited (inserting (facts-alike i) (apps-alike i)) fuel g s)
+right-limits g s = is-close g s ∙ (λ i. limited (insertions (facts-alike i) (apps-alike i)) fuel g s)
   where
     facts-alike : insertFact ≡ insertWithin maxFacts
     facts-alike = (unfold insertFact insertWithin in refl)
 
     apps-alike : applyTurn ≡ applyWithin maxFuncApps maxPairs
     apps-alike = (unfold applyTurn applyWithin appliedTurn in λ i x t.
-        let a = appliedIn t x in appliedTurn (applied (a .links) (a .pairs) (a .apps) (a .yes) (applied-grown x t .full i)) t)
+        let a = appliedDuring t x in appliedTurn (applied (a .links) (a .pairs) (a .apps) (a .yes) (applied-grown x t .full i)) t)
 
 -- The structures.
 
@@ -85,7 +85,7 @@ manyPairs n =
 -- what the proofs below compute with
 unfoldable all : ℕ
 unfolding everything imposeBy imposeAllBy imposedBy typingBy giveToBy giveBy equalizeBy obeyBy obeyAllBy operationBy passesBy runPassesBy roundBy roundsFromBy
-    roundsBy ranBy limited notedIf insertAlways grewOver overLimits applyAlways unlimited noted insertWithin applyWithin copies manyFacts oneModel constants manyApps
+    roundsBy ranBy limited notedIf insertAlways grewOver overLimits applyAlways unlimited firstNoted insertWithin applyWithin copies manyFacts oneModel constants manyApps
     manyPairs
 all = 0
 

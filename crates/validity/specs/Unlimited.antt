@@ -24,8 +24,8 @@ pub record Insertions : Type 0 where
   pub fact : Fact → Core → Core
   pub app : FuncApp → Turn → Turn
 
-abbrev pub inserting : (Fact → Core → Core) → (FuncApp → Turn → Turn) → Insertions
-inserting fact app = record { fact = fact; app = app }
+abbrev pub insertions : (Fact → Core → Core) → (FuncApp → Turn → Turn) → Insertions
+insertions fact app = record { fact = fact; app = app }
 
 module _ (insert : Insertions) where
   -- `impose`
@@ -110,7 +110,7 @@ module _ (insert : Insertions) where
 
 -- the insertions of the close
 abbrev pub withLimits : Insertions
-withLimits = inserting insertFact applyTurn
+withLimits = insertions insertFact applyTurn
 
 unfoldable pub limited : Insertions → ℕ → Sig → Structure → Outcome Closed Structure
 limited insert n g s = closeBy (ranBy insert goesOn n g s) s
@@ -118,7 +118,8 @@ limited insert n g s = closeBy (ranBy insert goesOn n g s) s
 -- The close without limits: every fact that is not stored is inserted, every application that a law gives is inserted or queues its pair, rounds repeat
 -- until one in which none reports work, at most n after the first (of a valid structure any number from `fuel` on gives the same, `numbers-valid`), and
 -- nothing is refused. That a table is over its limit is only noted, and the number first noted stays (`with-met`). The note is taken where an entry
--- is inserted: the other passes make no fact and no application more, and 256 pairs are room enough for them (`close-fits`).
+-- is inserted: drains and `functionality` make no fact and no application more, and the pairs that `functionality` and imposing queue have room until a
+-- number is noted (`close-fits`).
 
 unfoldable pub notedIf : Bool → ℕ → Core → Core
 notedIf over n w = elim over [ true ↦ with-met n w | false ↦ w ]
@@ -134,8 +135,8 @@ unfoldable pub grewOver : ℕ → ℕ → ℕ → Bool
 grewOver limit before after = ltb before after && ltb limit after
 
 -- an application on the tables of a round
-abbrev pub appliedIn : Turn → FuncApp → Applied
-appliedIn t x = insertFuncAppOrEquate x (t .core .links) (t .core .pairs) (t .apps)
+abbrev pub appliedDuring : Turn → FuncApp → Applied
+appliedDuring t x = insertFuncAppOrEquate x (t .core .links) (t .core .pairs) (t .apps)
 
 -- it leaves more applications, or more pairs, than these limits
 unfoldable pub overLimits : ℕ → ℕ → Applied → Turn → Bool
@@ -146,12 +147,12 @@ overLimits apps pairs a t =
 -- (`first-app-over`, `first-pair-over`).
 unfoldable pub applyAlways : FuncApp → Turn → Turn
 applyAlways x t =
-    let a = appliedIn t x in
+    let a = appliedDuring t x in
     let w = with-links (a .links) (with-pairs (a .pairs) (t .core)) in
     reports (notedIf (overLimits maxFuncApps maxPairs a t) noRoom w) (a .apps) (a .yes) t
 
 abbrev pub withoutLimits : Insertions
-withoutLimits = inserting insertAlways applyAlways
+withoutLimits = insertions insertAlways applyAlways
 
 abbrev pub works : Turn → Bool
 works t = t .worked
@@ -163,9 +164,9 @@ unfoldable pub unlimited : ℕ → Sig → Structure → Outcome Closed Structur
 unlimited n g s = accepting (reportOf (ranFree n g s)) (afterClose (ranFree n g s) s)
 
 -- the number first noted. A structure that begins with a table over its limit, as no call leaves one, has its moment at the first insertion into it.
-unfoldable pub noted : ℕ → Sig → Structure → Option ℕ
-noted n g s = ranFree n g s .core .met
+unfoldable pub firstNoted : ℕ → Sig → Structure → Option ℕ
+firstNoted n g s = ranFree n g s .core .met
 
 -- "Of 9 and 11 in one close, the one met first is given", "with the structure as before the call"
 abbrev pub closeOrNumber : ℕ → Sig → Structure → Outcome Closed Structure
-closeOrNumber n g s = decided (noted n g s) (refusing s) (unlimited n g s)
+closeOrNumber n g s = decided (firstNoted n g s) (refusing s) (unlimited n g s)
