@@ -6,7 +6,7 @@ use Prim.Native.Nat.{ℕ, zero, suc, _+_, _*_, _-_, _≤_, _<_}
 use native.Mathlib.Omega.{arith}
 use Rattle.unification.specs.Roots.{maxEls}
 use Rattle.signature.specs.Model.{Sig}
-use Rattle.semantics.specs.Structure.{FuncApp, PredApp, maxFacts}
+use Rattle.semantics.specs.Structure.{FuncApp, PredApp, maxFacts, maxFuncApps}
 use Rattle.semantics.specs.Types as types
 use Rattle.semantics.specs.Close as closing
 use Rattle.semantics.specs.Close.{fuel, rounds-made, isNone, lastRound, oneMore, roundsFrom}
@@ -16,7 +16,7 @@ use Rattle.rounds.specs.View.{oneRound, LentAgain, RoundIs, RoundsAre}
 
 -- The rounds.
 
-pub fuel-is : fuel ≡ 2 * ((maxFacts + 2) * (maxEls + 1))
+pub fuel-is : fuel ≡ 2 * ((maxFacts + maxFuncApps + 2) * (maxEls + 1))
 unfolding fuel
 fuel-is = refl
 
