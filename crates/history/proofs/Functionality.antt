@@ -3,7 +3,7 @@ use mathlib.Core.Path.{_≡_, refl, subst, ap, ap₂}
 use mathlib.Core.List.{List, [], _∷_, map, List·Memᴰ}
 use mathlib.Core.Option.{some}
 use Prim.Native.Nat.{ℕ}
-use Rattle.ids.specs.Table.{placed, lookupOf}
+use Rattle.ids.specs.Table.{lookupOf}
 use Rattle.ids.proofs.Sorted.{All, all-at, Sorted, lookup-sound, lookup-none, placed-all, placed-own, placed-rest}
 use Rattle.unification.specs.Roots.{rootOf}
 use Rattle.semantics.specs.Structure.{FuncApp, compareFuncApp, canonicalFuncApp}

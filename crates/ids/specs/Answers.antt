@@ -1,4 +1,4 @@
--- What a call answers: a value, or the number of its refusal (01, the table of refusals).
+-- What a call answers: a value, or the number of its refusal (01, the table of refusals, and 02).
 use Prim.Native.Nat.{ℕ}
 use mathlib.Core.Bool.{Bool, true, false}
 use mathlib.Core.List.{List, [], _∷_}
@@ -69,7 +69,8 @@ infixl 70 _if_
 abbrev pub _if_ : ℕ → Bool → Cause
 n if b = record { number = n; applies = b }
 
--- "The lowest number that applies is given": the causes are listed in that order, and the number of the first that applies is given
+-- 01: "The lowest number that applies is given"; 02 gives later numbers their place ("with 12, directly after 7"): the causes are listed in the order of
+-- the papers, and the number of the first that applies is given
 unfoldable pub firstOf : List Cause → Option ℕ
 firstOf [] = none
 firstOf (c ∷ cs) = elim (c .applies) [ true ↦ some (c .number) | false ↦ firstOf cs ]

@@ -36,10 +36,10 @@ pub by-operation : (f : ℕ) → Search (λ (m : ModelM). eqb f (m .id) || eqb f
 unfolding isIdOrComp
 by-operation f = record { none = refl; more = λ y ys. refl }
 
--- a search for a model of which an application is misapplied
-pub by-misapplication : (x : model.FuncApp) → Search (λ (m : ModelM). misapplies m x) (isMisapplied x)
+-- a search for a model whose id or comp is applied to another number of arguments
+pub by-arity : (x : model.FuncApp) → Search (λ (m : ModelM). misapplies m x) (isMisapplied x)
 unfolding isMisapplied
-by-misapplication x = record { none = refl; more = λ y ys. refl }
+by-arity x = record { none = refl; more = λ y ys. refl }
 
 -- two lists that are held as they were given unless one of them is too long
 pub both-held : {A : Type 0} (f : List ℕ → List ℕ → A) (ps xs : ElIds) → length (ps .ids) ≡ maxList → length (xs .ids) ≡ maxList

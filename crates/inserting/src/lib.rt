@@ -55,10 +55,10 @@ pub fn insert_func_app_or_equate(
 {
     let parents = app.parents;
     let args = app.args;
-    let models = signature.models;
     let u = structure.unification;
     let pairs = structure.pending_equalities;
     let table = structure.func_apps;
+    let models = signature.models;
     let applied = applying::insert_func_app_or_equate(u, pairs, table, app);
     let long = ids::or(parents.is_too_long(), args.is_too_long());
     let declared = app_is_declared(structure, signature, app);
@@ -159,39 +159,37 @@ fn is_id_or_comp(models: Models, func: FuncId) -> bool
     false
 }
 
-// Whether a function may not be applied: a morphism application function, or id or comp where there is one.
+// Whether a function may not be applied: one of record 5, or id or comp where a record 5 stands.
 fn is_reserved(signature: Signature, func: FuncId) -> bool
     ensures { λ r. ⌜ r ≡ isReserved (sigOf signature) (func .0) ⌝ }
 {
-    let mor_app_funcs = signature.mor_app_funcs;
-    if mor_app_funcs.has_func(func) {
-        return true;
-    }
     let models = signature.models;
-    let named = is_id_or_comp(models, func);
-    ids::and(named, 0 < mor_app_funcs.size())
+    let mor_app_funcs = signature.mor_app_funcs;
+    let stands = 0 < mor_app_funcs.size();
+    let operation = ids::and(is_id_or_comp(models, func), stands);
+    ids::or(mor_app_funcs.has_func(func), operation)
 }
 
-// Whether an application of a model's id has not one argument, or one of its comp not two.
-fn misapplies(model: ModelIds, app: FuncApp) -> bool
-    ensures { λ r. ⌜ r ≡ misapplies (modelOf model) (funcAppOf app) ⌝ }
+// Whether it is an application of this model's id without exactly one argument, or of its comp without exactly two.
+fn misapplies(ids: ModelIds, app: FuncApp) -> bool
+    ensures { λ r. ⌜ r ≡ misapplies (modelOf ids) (funcAppOf app) ⌝ }
 {
     let args = app.args;
-    let n = args.size();
-    let id = ids::and(app.func.0 == model.id.0, n != 1);
-    let comp = ids::and(app.func.0 == model.comp.0, n != 2);
-    ids::or(id, comp)
+    let count = args.size();
+    let identity = ids::and(app.func.0 == ids.id.0, count != 1);
+    let composite = ids::and(app.func.0 == ids.comp.0, count != 2);
+    ids::or(identity, composite)
 }
 
-// Whether it is so in some model.
+// Whether it is so for some model.
 fn is_misapplied(models: Models, app: FuncApp) -> bool
     ensures { λ r. ⌜ r ≡ isMisapplied (funcAppOf app) (viewModels models) ⌝ }
 {
     let n = models.size();
     for i in 0..n {
         let at = i as usize;
-        let model = models.items[at];
-        if misapplies(model, app) {
+        let ids = models.items[at];
+        if misapplies(ids, app) {
             return true;
         }
     }

@@ -29,6 +29,16 @@ unfolding canonicalFuncApp
 canon-image ls x =
     λ i. func-app (x .func) (map-root ls (x .parents) i) (map-root ls (x .args) i) (root-root ls (x .result) i)
 
+pub canon-result : (ls : List ℕ) (x : FuncApp) → Canon ls x → rootOf ls (x .result) ≡ x .result
+unfolding canonicalFuncApp
+canon-result ls x c = ap (λ (y : FuncApp). y .result) c
+
+-- of the links only the roots count
+pub canonical-alike : (ls ks : List ℕ) → ((e : ℕ) → rootOf ks e ≡ rootOf ls e) → (x : FuncApp) → canonicalFuncApp ks x ≡ canonicalFuncApp ls x
+unfolding canonicalFuncApp
+canonical-alike ls ks roots x =
+    λ i. func-app (x .func) (map (λ e. roots e i) (x .parents)) (map (λ e. roots e i) (x .args)) (roots (x .result) i)
+
 module _ (l : List FuncApp) (sorted : Sorted compareFuncApp l) where
   -- two entries with one key are one
   pub same-entry : (x y : FuncApp) → List·Memᴰ x l → List·Memᴰ y l → SameKey x y → x ≡ y
@@ -76,11 +86,8 @@ entered-again ls l =
     entered-same ls (entered ls l .apps) (enterAll-sorted ls l fresh tt)
     (enterAll-all (Canon ls) ls l fresh (all-of (λ x. canon-image ls x) l) tt)
 
--- of the links only the roots count
 pub enterAll-alike : (ls ks : List ℕ) → ((e : ℕ) → rootOf ks e ≡ rootOf ls e) → (xs : List FuncApp) (t : Rewritten) → enterAll ks xs t ≡ enterAll ls xs t
-unfolding enterAll canonicalFuncApp
+unfolding enterAll
 enterAll-alike ls ks roots [] t = refl
 enterAll-alike ls ks roots (x ∷ xs) t =
-    ap (λ (y : FuncApp). enterAll ks xs (enter y t))
-    (λ i. func-app (x .func) (map (λ e. roots e i) (x .parents)) (map (λ e. roots e i) (x .args)) (roots (x .result) i))
-    ∙ enterAll-alike ls ks roots xs (enter (canonicalFuncApp ls x) t)
+    ap (λ (y : FuncApp). enterAll ks xs (enter y t)) (canonical-alike ls ks roots x) ∙ enterAll-alike ls ks roots xs (enter (canonicalFuncApp ls x) t)

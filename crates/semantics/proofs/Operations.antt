@@ -1,21 +1,26 @@
 -- The pass of identities and composites: what an application inserted in a round leaves, and what holds along its laws.
-use mathlib.Core.Path.{_≡_, refl}
+use mathlib.Core.Path.{_≡_, refl, ap}
 use mathlib.Core.Logic.{_≢_}
-use mathlib.Core.Bool.{Bool, true, false}
+use mathlib.Core.Bool.{Bool, true, false, _||_}
 use mathlib.Core.List.{List, [], _∷_}
 use mathlib.Core.Option.{Option, none, some}
-use Prim.Native.Nat.{ℕ, _≤_, _<_}
+use Prim.Native.Nat.{ℕ, _<_}
 use lib.ListN.{length}
 use lib.Dec.{eqb, leb}
 use borrow.Author.Tests.{eqb-true, eqb-false, leb-false}
 use Rattle.ids.specs.Answers.{noRoom}
 use Rattle.ids.specs.Table.{placed, lookupOf}
+use Rattle.ids.proofs.Sorted.{All, all-of, all-at, lookup-sound}
 use Rattle.unification.specs.Roots.{rootOf}
-use Rattle.semantics.specs.Structure.{FuncApp, func-app, Pair, pair, compareFuncApp, canonicalFuncApp, maxPairs, maxFuncApps}
+use Rattle.signature.specs.Model.{Sig, ModelM}
+use Rattle.semantics.specs.Structure.{FuncApp, func-app, PredApp, compareFuncApp, canonicalFuncApp, maxPairs, maxFuncApps}
 use Rattle.semantics.specs.Types as types
-use Rattle.semantics.specs.Applying.{Equated, equate, Applied, appliedEqual, applyAt, insertFuncAppOrEquate}
-use Rattle.semantics.specs.Laws.{Law, holds, agree}
+use Rattle.semantics.specs.Applying.{equate, appliedEqual, applyAt, insertFuncAppOrEquate}
+use Rattle.semantics.specs.Laws.{Side, Law, holds, agree, lawsIn, lawsOf, laws}
 use Rattle.semantics.specs.Close.{Turn, turn, reports, appliedTurn, applyTurn, giveTo, give, equalize, obey, obeyAll, keyOf}
+use Rattle.semantics.specs.Close.{operationPass}
+use Rattle.semantics.specs.Calls.{isIdOrComp}
+use Rattle.semantics.proofs.Cases.{or-first, or-second}
 
 -- An application inserted in a round: its key is new, or it has the result that is there, or it queues a pair, or there is no room.
 
@@ -77,25 +82,72 @@ apply-cases P x t new same other full = go (foundIn t x) refl
     go none e = inserted e (leb maxFuncApps (length (t .apps))) refl
     go (some y) e = by y e (eqb (y .result) (rootedIn t x .result)) refl
 
--- What every insertion keeps, a list of laws keeps.
-module _ {ℓ} (P : Turn → Type ℓ) (keeps : (x : FuncApp) (t : Turn) → P t → P (applyTurn x t)) where
-  give-keeps : (x y : FuncApp) (t : Turn) → P t → P (give x y t)
-  unfolding give giveTo
-  give-keeps x y t h = go (lookupOf compareFuncApp x (t .apps))
+-- What every insertion of an application that may be inserted keeps, a list of laws keeps: Q holds of each application that may be, and R of the results
+-- that are stored.
+
+-- the side's value, where it is one of those results, may be inserted
+abbrev pub MayGive : (FuncApp → Type 0) → (ℕ → Type 0) → List ℕ → Side → Type 0
+MayGive Q R ps x = (ls : List ℕ) (e : ℕ) → R e → Q (func-app (x .func) ps (rootOf ls (x .el) ∷ []) e)
+
+-- what the law says may be inserted
+abbrev pub MaySay : (FuncApp → Type 0) → (ℕ → Type 0) → Law → Type 0
+MaySay Q R (holds x) = Q x
+MaySay Q R (agree ps l r) = MayGive Q R ps l × MayGive Q R ps r
+
+module _ {ℓ} (P : Turn → Type ℓ) (Q : FuncApp → Type 0) (R : ℕ → Type 0) (results : (t : Turn) → P t → All (λ x. R (x .result)) (t .apps))
+    (keeps : (x : FuncApp) (t : Turn) → Q x → P t → P (applyTurn x t)) where
+  give-keeps : (x : FuncApp) (ls ps : List ℕ) (y : Side) (t : Turn) → MayGive Q R ps y → P t → P (give x (keyOf ls ps y) t)
+  unfolding give giveTo keyOf
+  give-keeps x ls ps y t may h = go (lookupOf compareFuncApp x (t .apps)) refl
     where
-      go : (o : Option FuncApp) → P (giveTo y o t)
-      go none = h
-      go (some z) = keeps (func-app (y .func) (y .parents) (y .args) (z .result)) t h
+      go : (o : Option FuncApp) → lookupOf compareFuncApp x (t .apps) ≡ o → P (giveTo (keyOf ls ps y) o t)
+      go none e = h
+      go (some z) e =
+          keeps _ t (may ls (z .result) (all-at (λ w. R (w .result)) (t .apps) (results t h) z (lookup-sound compareFuncApp x (t .apps) e .0))) h
 
-  obey-keeps : (l : Law) (t : Turn) → P t → P (obey l t)
+  obey-keeps : (l : Law) (t : Turn) → MaySay Q R l → P t → P (obey l t)
   unfolding obey equalize
-  obey-keeps (holds x) t h = keeps x t h
-  obey-keeps (agree ps l r) t h =
-      let x = keyOf (t .core .links) ps l in
-      let y = keyOf (t .core .links) ps r in
-      give-keeps y x (give x y t) (give-keeps x y t h)
+  obey-keeps (holds x) t may h = keeps x t may h
+  obey-keeps (agree ps l r) t may h =
+      let ls = t .core .links in
+      let x = keyOf ls ps l in
+      let y = keyOf ls ps r in
+      give-keeps y ls ps l (give x y t) (may .0) (give-keeps x ls ps r t (may .1) h)
 
-  pub obeyAll-keeps : (ls : List Law) (t : Turn) → P t → P (obeyAll ls t)
+  pub obeyAll-keeps-if : (ls : List Law) (t : Turn) → All (MaySay Q R) ls → P t → P (obeyAll ls t)
   unfolding obeyAll
-  obeyAll-keeps [] t h = h
-  obeyAll-keeps (l ∷ ls) t h = obeyAll-keeps ls (obey l t) (obey-keeps l t h)
+  obeyAll-keeps-if [] t may h = h
+  obeyAll-keeps-if (l ∷ ls) t may h = obeyAll-keeps-if ls (obey l t) (may .1) (obey-keeps l t (may .0) h)
+
+-- the same where every application may be inserted
+pub obeyAll-keeps {ℓ} : (P : Turn → Type ℓ) → ((x : FuncApp) (t : Turn) → P t → P (applyTurn x t)) → (ls : List Law) (t : Turn) → P t → P (obeyAll ls t)
+obeyAll-keeps P keeps ls t =
+    obeyAll-keeps-if P (λ x. Unit {0}) (λ e. Unit {0}) (λ u h. all-of (λ x. tt) (u .apps)) (λ x u _. keeps x u) ls t (all-of may ls)
+  where
+    may : (l : Law) → MaySay (λ x. Unit {0}) (λ e. Unit {0}) l
+    may (holds x) = tt
+    may (agree ps l r) = (λ ls e _. tt, λ ls e _. tt)
+
+-- Applications of neither id nor comp: they have no law, so that the pass leaves all as it was.
+
+-- it is no application of a model's id or comp
+abbrev pub NoOperation : List ModelM → FuncApp → Type 0
+NoOperation ms x = isIdOrComp (x .func) ms ≡ false
+
+lawsOf-none : (ms : List ModelM) (x : FuncApp) → NoOperation ms x → lawsOf ms x ≡ []
+unfolding isIdOrComp lawsOf lawsIn
+lawsOf-none [] x e = refl
+lawsOf-none (m ∷ ms) x e =
+    let id = eqb (x .func) (m .id) in
+    let comp = eqb (x .func) (m .comp) in
+    let here = or-first (id || comp) (isIdOrComp (x .func) ms) e in
+    rw (or-first id comp here, or-second id comp here) (lawsOf-none ms x (or-second (id || comp) (isIdOrComp (x .func) ms) e))
+
+pub laws-none : (ms : List ModelM) (xs : List FuncApp) → All (NoOperation ms) xs → laws ms xs ≡ []
+unfolding laws
+laws-none ms [] h = refl
+laws-none ms (x ∷ xs) h = rw (lawsOf-none ms x (h .0)) (laws-none ms xs (h .1))
+
+pub operations-none : (g : Sig) (preds : List PredApp) (t : Turn) → All (NoOperation (g .models)) (t .apps) → operationPass g preds t ≡ t
+unfolding operationPass obeyAll
+operations-none g preds t h = ap (λ (ls : List Law). obeyAll ls t) (laws-none (g .models) (t .apps) h)

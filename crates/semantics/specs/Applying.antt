@@ -1,4 +1,5 @@
--- Equalities declared, and function applications inserted (01, "Element types"): what kinds 7 and 9 do to links, pairs and applications.
+-- Equalities declared, and function applications inserted (01, "Element types"): what kinds 7 and 9, and in a close the laws of
+-- identities and composites, do to links, pairs and applications.
 use Prim.Native.Nat.{ℕ}
 use mathlib.Core.Bool.{Bool, true, false, not}
 use mathlib.Core.List.{List, _∷_}

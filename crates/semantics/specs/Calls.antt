@@ -99,6 +99,7 @@ isMisapplied x (m ∷ ms) = misapplies m x || isMisapplied x ms
 abbrev pub appliedTo : Structure → FuncApp → Applied
 appliedTo s x = insertFuncAppOrEquate x (s .links) (s .pairs) (s .func-apps)
 
+-- "with 12, directly after 7" (02, M-102)
 unfoldable pub applicationCauses : Sig → Structure → FuncApp → List Cause
 applicationCauses g s x =
     malformed if (tooLong (x .parents) || tooLong (x .args))
@@ -369,7 +370,8 @@ applicationRule a cs m = states cs (says (a .yes)) (withApplied a (m .structure)
 unfoldable pub closeRule : CloseRun → Machine → Rule
 closeRule c m = states (closeCauses c) (closed (reportOf c)) (afterClose c (m .structure)) m
 
--- "If a close meets number 11, settle returns 11 and the structure before the settle."
+-- "If a close meets number 11, settle returns 11 and the structure before the settle."; 02, M-102: "close and settle may now meet number 9, with the
+-- structure as before the call"
 unfoldable pub settleRule : SettleRun → Machine → Rule
 settleRule r m = states (metCauses (r .met)) (summed (sumsOf (r .reports))) (r .after) m
 

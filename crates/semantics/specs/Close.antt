@@ -116,7 +116,8 @@ unfoldable pub typingPass : Sig → List PredApp → Turn → Turn
 typingPass g preds t = typed (imposeAll (demands g (t .apps) preds) (t .core)) t
 
 -- `morphism_operation_constraints`, for id and comp (02, M-102): each law of the applications that the pass begins with, in order, is carried out on the
--- table as it is then. It reports an application that was inserted, or two results with different roots.
+-- table as it is then. It reports an application that was inserted, or two results with different roots. Where a record 5 stands no application of id
+-- or comp is accepted (7), and the pass does nothing.
 
 -- "may add applications, so close and settle may now meet number 9": where an entry is needed and its table is at its limit, the number is met
 unfoldable pub appliedTurn : Applied → Turn → Turn
@@ -129,7 +130,7 @@ appliedTurn a t =
 unfoldable pub applyTurn : FuncApp → Turn → Turn
 applyTurn x t = appliedTurn (insertFuncAppOrEquate x (t .core .links) (t .core .pairs) (t .apps)) t
 
--- what a side is looked up under: the parents as they are stored, the element's root
+-- what a side is looked up under: the parents as they are stored, the element's root (the result 0 is not read)
 unfoldable pub keyOf : List ℕ → List ℕ → Side → FuncApp
 keyOf ls ps x = func-app (x .func) ps (rootOf ls (x .el) ∷ []) 0
 
@@ -256,7 +257,7 @@ reportOf c = report (ltb 1 (c .rounds .count) || grew (c .rounds .core) (c .core
 unfoldable pub afterClose : CloseRun → Structure → Structure
 afterClose c s = canonicaliseRefs (c .core .links) (withCore (c .core) (c .rounds .apps) s)
 
--- the number first met refuses
+-- the number first met refuses: "Of 9 and 11 in one close, the one met first is given." (02, M-102)
 unfoldable pub metCauses : Option ℕ → List Cause
 metCauses none = []
 metCauses (some n) = n if true ∷ []

@@ -22,7 +22,7 @@ pub data Law : Type 0 where
   -- over these parents two sides are equal: the one has a value exactly when the other has it
   agree : List ℕ → Side → Side → Law
 
--- id(P; a) = r gives dom(P; r) = a and cod(P; r) = a
+-- id(P; a) = r gives dom(P; r) = a and cod(P; r) = a. With another number of arguments, which 12 refuses, it says nothing; so below.
 unfoldable pub identityLaws : ModelM → List ℕ → List ℕ → ℕ → List Law
 identityLaws m ps [] r = []
 identityLaws m ps (a ∷ []) r = holds (func-app (m .dom) ps (r ∷ []) a) ∷ holds (func-app (m .cod) ps (r ∷ []) a) ∷ []

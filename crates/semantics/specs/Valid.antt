@@ -1,5 +1,5 @@
--- What holds of every signature and structure that calls can make (`calls-valid`, crate validity): numbers, orders and limits, and what the
--- numbers 4, 6, 7, 8 and 12 keep out.
+-- What holds of every signature and structure that calls can make (`calls-valid`, crate validity): numbers, orders and limits, and, as far as
+-- theorems need it, what the numbers 4, 6, 7, 8 and 12 keep out.
 use Prim.Native.Nat.{ℕ, _≤_, _<_}
 use mathlib.Core.Path.{_≡_}
 use mathlib.Core.Bool.{true, false}
@@ -210,7 +210,7 @@ pub record ValidStructure (c : Counts) (s : Structure) : Type 0 where
   -- the impositions, in the order in which they were queued
   pub impositions : Queue (FactValid c) maxImpositions (s .impositions)
 
--- it is no application of a morphism application function, nor of id or comp where there is one, which number 7 refuses
+-- it is no application of a morphism application function, nor of id or comp where a record 5 stands, which number 7 refuses
 abbrev pub Unreserved : Sig → FuncApp → Type 0
 Unreserved g x = isReserved g (x .func) ≡ false
 
@@ -226,7 +226,7 @@ OfModel g a = isModel g (a .typ) ≡ true
 pub record Valid (g : Sig) (s : Structure) : Type 0 where
   pub sig : ValidSig g
   pub structure : ValidStructure (countsOf g s) s
-  -- no application names a morphism application function, nor a model's id or comp where there is one
+  -- no application names a morphism application function, nor a model's id or comp where a record 5 stands
   pub unreserved : All (Unreserved g) (s .func-apps)
   -- id is applied to one argument, comp to two
   pub well-applied : All (WellApplied g) (s .func-apps)

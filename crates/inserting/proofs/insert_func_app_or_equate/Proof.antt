@@ -73,8 +73,8 @@ so-far c =
     let s1 = judge malformed begin (first .refuse-if .ensures) long-list in
     let s2 = judge undeclared s1 (second .refuse-if2 .ensures) (ap not (first .before .app-is-declared .ensures)) in
     let s3 = judge reserved s2 (third .refuse-if3 .ensures) (third .before .is-reserved .ensures) in
-    let met = made c .insert-func-app-or-equate in
     let s4 = judge wrongArity s3 (fourth .refuse-if4 .ensures) (fourth .before .is-misapplied .ensures) in
+    let met = made c .insert-func-app-or-equate in
     let s5 = judge noRoom s4 (c .refuse-if5 .ensures) (met-full (a .structure) (met .result) _ (met .ensures)) in
     record {
       is = s5 .is ∙ behind malformed _ (givenFuncApp (a .app)) (funcAppOf (a .app)) (later (sigOf (a .signature)) (structureOf (a .structure))) (given (start c));

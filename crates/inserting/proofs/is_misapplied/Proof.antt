@@ -2,12 +2,12 @@
 use mathlib.Core.Path.{_≡_, refl}
 use Prim.Native.Nat.{_-_}
 use lib.ListN.{drop}
+use Rattle.signature.specs.Model.{modelOf, viewModels}
 use Rattle.ids.proofs.Counted.{found, passed, ended}
 use Rattle.ids.proofs.Tests.{told}
-use Rattle.signature.specs.Model.{modelOf, viewModels}
 use Rattle.semantics.specs.Calls.{isMisapplied}
 use Rattle.apps.specs.View.{funcAppOf}
-use Rattle.inserting.proofs.Laws.{by-misapplication}
+use Rattle.inserting.proofs.Laws.{by-arity}
 use borrow.Author.Needs.{needs}
 use Rattle.inserting.proofs.is_misapplied.Statement.{statement}
 use Rattle.inserting.proofs.is_misapplied.Tie as tie
@@ -26,22 +26,22 @@ returns c =
     let test = c .before .before .before in
     let sized = test .before .before in
     let t = sized .before .args .t1 in
-    found (by-misapplication _) modelOf (t .len) (t .items) (sized .size .ensures) _ (test .before .loop .inv) _ (test .loop-test .taken)
-    (told (c .before .misapplies .ensures) (c .if1 .taken))
+    let is = told (c .before .misapplies .ensures) (c .if1 .taken) in
+    found (by-arity _) modelOf (t .len) (t .items) (sized .size .ensures) _ (test .before .loop .inv) _ (test .loop-test .taken) is
 
 loop-again : tie.Need-loop-again Inv-loop μ-loop
 loop-again c =
     let test = c .before .before .before in
     let sized = test .before .before in
     let t = sized .before .args .t1 in
-    passed (by-misapplication _) modelOf (t .len) (t .items) (sized .size .ensures) _ (test .before .loop .inv) _ (test .loop-test .taken)
-    (told (c .before .misapplies .ensures) (c .if1 .left))
+    let is = told (c .before .misapplies .ensures) (c .if1 .left) in
+    passed (by-arity _) modelOf (t .len) (t .items) (sized .size .ensures) _ (test .before .loop .inv) _ (test .loop-test .taken) is
 
 returns-2 : tie.Need-returns-2 Inv-loop μ-loop
 returns-2 c =
     let sized = c .before .before in
     let t = sized .before .args .t1 in
-    ended (by-misapplication _) modelOf (t .len) (t .items) (sized .size .ensures) _ (c .before .loop .inv) (c .loop-test .left)
+    ended (by-arity _) modelOf (t .len) (t .items) (sized .size .ensures) _ (c .before .loop .inv) (c .loop-test .left)
 
 pub is-misapplied-spec : {M : Type 1} → statement M
 is-misapplied-spec =
