@@ -1,6 +1,6 @@
 -- Laws of the links and marks of rows: reads, stores, a path shortened, a merge, entries as roots.
 use mathlib.Core.Path.{_≡_, refl, sym, ap, _∙_}
-use mathlib.Core.Bool.{Bool, true, false, _&&_, _||_}
+use mathlib.Core.Bool.{Bool, true, false, _&&_, _||_, or-false}
 use mathlib.Core.List.{List, [], _∷_, _++_, map}
 use Prim.Native.Nat.{ℕ, zero, suc, _+_, _≤_, _<_}
 use native.Mathlib.Nat.{le-of-suc-le-suc, not-suc-le-zero}
@@ -166,13 +166,9 @@ app-roots ls x p q r = λ i. func-app (x .func) (p i) (q i) (r i)
 
 -- A mark more at the end.
 
-or-none : (b : Bool) → (b || false) ≡ b
-or-none true = refl
-or-none false = refl
-
 any-pushed : (ms : List Bool) (m : Bool) → anyMarked (ms ++ m ∷ []) ≡ (anyMarked ms || m)
 unfolding anyMarked
-any-pushed [] m = or-none m
+any-pushed [] m = or-false m
 any-pushed (true ∷ ms) m = refl
 any-pushed (false ∷ ms) m = any-pushed ms m
 

@@ -1,7 +1,7 @@
 -- An application inserted in a round, on rows, and values given from key to key. Of the application: its key is new, or it has the result that is there, or it queues a pair, or there is no room.
 use mathlib.Core.Path.{_≡_, refl, sym, ap, subst, _∙_}
 use mathlib.Core.Logic.{_≢_}
-use mathlib.Core.Bool.{Bool, true, false, not, _||_}
+use mathlib.Core.Bool.{Bool, true, not, _||_, or-true, or-false}
 use mathlib.Core.List.{List, [], _∷_, map, reverse, reverse-append}
 use mathlib.Core.Option.{Option, none, some}
 use Prim.Native.Nat.{ℕ, _+_, _≤_, _<_}
@@ -21,8 +21,7 @@ use Rattle.rows.proofs.Positions.{row-found}
 use Rattle.rows.proofs.Shifting.{inserted-before}
 use Rattle.unification.specs.Roots.{rootOf, shortOf}
 use Rattle.semantics.specs.Structure.{FuncApp, func-app, pair, compareFuncApp, canonicalFuncApp, maxPairs, maxFuncApps}
-use Rattle.semantics.specs.Types as types
-use Rattle.semantics.specs.Types.{core, anyMarked, firstMet}
+use Rattle.semantics.specs.Types.{core, anyMarked}
 use Rattle.semantics.specs.Applying.{equating, equate, appliedEqual, applyAt, insertFuncAppOrEquate}
 use Rattle.semantics.specs.Laws.{Side, agree}
 use Rattle.semantics.specs.Close as closing
@@ -36,14 +35,6 @@ use Rattle.merging.specs.View.{pairIn, pairsIn}
 use Rattle.operations.specs.declared.Turn.{Turn}
 use Rattle.operations.specs.View.{with-operations-counted, said, Tables, tables, turnOf, TablesHeld, TurnBy, Equates, Meets}
 use Rattle.operations.proofs.Turns.{follows-here}
-
-or-none : (b : Bool) → b ≡ (b || false)
-or-none true = refl
-or-none false = refl
-
-or-one : (b : Bool) → true ≡ (b || true)
-or-one true = refl
-or-one false = refl
 
 -- The application as roots, z, meets the entry with its key.
 module _ (x z : FuncApp) (t : closing.Turn) (is : z ≡ rootedIn t x) where
@@ -146,7 +137,7 @@ module _ {els apps pairs : List (List ℕ)} {t : Turn} (h : TablesHeld (tables e
         inserted-before compareFuncApp funcAppIn z (c .«func_apps») apps (omega (arith, h .apps-held .long)) (sym e) refl row-is p in
         record {
           is = λ facts.
-              (λ i. closing.turn (turnOf facts start .core) (put .is i) (or-one (t .worked) i))
+              (λ i. closing.turn (turnOf facts start .core) (put .is i) (sym (or-true (t .worked)) i))
               ∙ apply-new x z (turnOf facts start) is absent (omega (arith, apps-there));
           holds = record {
             els-held = record { long = h .els-held .long; few = h .els-held .few; unmarked = h .els-held .unmarked };
@@ -171,7 +162,7 @@ module _ {els apps pairs : List (List ℕ)} {t : Turn} (h : TablesHeld (tables e
 
     pub row-same : y .result ≡ z .result → TurnBy start start (applyTurn x)
     row-same same = record {
-      is = λ facts. ap (λ (b : Bool). closing.turn (turnOf facts start .core) (turnOf facts start .apps) b) (or-none (t .worked))
+      is = λ facts. ap (λ (b : Bool). closing.turn (turnOf facts start .core) (turnOf facts start .apps) b) (sym (or-false (t .worked)))
           ∙ apply-same x z (turnOf facts start) is y found same;
       holds = h;
       counts = refl;
