@@ -102,7 +102,7 @@ module _ (m : ModelM) (x : FuncApp) where
     as-identity e = e ∙ chosen [] (eq-eqb (x .func) (m .id) is)
 
     pub identity-of-one : (a : ℕ) → length (x .args) ≡ 1 → getD (x .args) 0 0 ≡ a
-        → holds (func-app (m .dom) (x .parents) (x .result ∷ []) a) ∷ holds (func-app (m .cod) (x .parents) (x .result ∷ []) a) ∷ [] ≡ identityLawsIn m x
+        → application (func-app (m .dom) (x .parents) (x .result ∷ []) a) ∷ application (func-app (m .cod) (x .parents) (x .result ∷ []) a) ∷ [] ≡ identityLawsIn m x
     unfolding identityLaws
     identity-of-one a n e =
         as-identity (ap (λ (l : List ℕ). identityLaws m (x .parents) l (x .result)) (sym (one-is (x .args) a n e)))
@@ -121,9 +121,9 @@ module _ (m : ModelM) (x : FuncApp) where
     as-composite e = e ∙ chosen [] (eq-eqb (x .func) (m .comp) is)
 
     pub composition-of-two : (f g : ℕ) → length (x .args) ≡ 2 → getD (x .args) 0 0 ≡ f → getD (x .args) 1 0 ≡ g
-        → agree (x .parents) (side (m .dom) f) (side (m .dom) (x .result))
-        ∷ agree (x .parents) (side (m .cod) g) (side (m .cod) (x .result))
-        ∷ agree (x .parents) (side (m .cod) f) (side (m .dom) g)
+        → equation (x .parents) (side (m .dom) f) (side (m .dom) (x .result))
+        ∷ equation (x .parents) (side (m .cod) g) (side (m .cod) (x .result))
+        ∷ equation (x .parents) (side (m .cod) f) (side (m .dom) g)
         ∷ []
         ≡ compositionLawsIn m x
     unfolding compositionLaws
