@@ -33,7 +33,7 @@ use Rattle.semantics.specs.Calls.{withVar, withAmbient, Call, push-type, push-p
 use Rattle.semantics.specs.Calls.{impose-type, apply-func, apply-pred, bind-var, bind-ambient, close, type-conflicts, settle, root, root-const}
 use Rattle.semantics.specs.Calls.{lookup-type, ambient-parents, isAccepted, mergesOf, Machine, machine, Step, equalityRule, impositionRule, applicationRule}
 use Rattle.semantics.specs.Calls.{closeRule, settleRule, rule, closed, mergesIn, sumsOf, leaves, acceptance, step}
-use Rattle.history.specs.Laws.{Obeys}
+use Rattle.history.specs.MapLaws.{Obeys}
 use Rattle.history.specs.Book.{Book, with-sig, with-merges, elements, taken, fed, AppliesNeither}
 use Rattle.semantics.proofs.Links.{length-push}
 use Rattle.semantics.proofs.Operations.{NoOperation}

@@ -14,7 +14,7 @@ use Rattle.unification.proofs.Numbers.{same-or}
 use Rattle.unification.proofs.Laws.{root-le, root-root}
 use Rattle.semantics.specs.Structure.{FuncApp, func-app, compareFuncApp, canonicalFuncApp}
 use Rattle.semantics.specs.Types.{Core}
-use Rattle.semantics.specs.Laws.{laws}
+use Rattle.semantics.specs.MapLaws.{mapLaws}
 use Rattle.history.specs.Book.{Book, elements, Sharing, Shared, Derived, Fits, AppliesNeither, Classes}
 use Rattle.history.proofs.Relation.{OneRoot, one-root, one-rooted, Respects, image-says, Like, like-self}
 use Rattle.history.proofs.Elements.{Named, In, ClosedAmongAll, shared-all, shared-among-all, derived-among-all, book-closed}
@@ -62,7 +62,7 @@ module _ (b : Book) (w : Core) (xs : List FuncApp) (named : Named b) (g : Tied b
 
   -- nothing remains to join, and the laws hold of what is stored
   module _ (none : w .pairs ≡ []) (sorted : Sorted compareFuncApp xs) (canon : All (Canon ls) xs)
-      (held : All (Held ls xs) (laws (b .sig .models) xs)) where
+      (held : All (Held ls xs) (mapLaws (b .sig .models) xs)) where
     respects : Respects (OneRoot ls) (Like (OneRoot ls) (In xs))
     respects = stored-respects ls xs sorted canon
 

@@ -13,7 +13,7 @@ use Rattle.semantics.specs.Structure.{Structure, compareFuncApp}
 use Rattle.semantics.specs.Types.{Core, imposeAll}
 use Rattle.semantics.specs.Close.{Rounds, rounds, fuel, Closed, coreAtStart, canonicaliseRefs, withCore, CloseRun, imposedAfter, closeRun, reportOf}
 use Rattle.semantics.specs.Close.{afterClose, metCauses, closeCauses, closeBy, close}
-use Rattle.semantics.specs.Laws.{laws}
+use Rattle.semantics.specs.MapLaws.{mapLaws}
 use Rattle.semantics.specs.Valid.{Valid}
 use Rattle.semantics.specs.Calls as calls
 use Rattle.semantics.specs.Calls.{closed, Machine, machine, Step, closeRule, acceptance, leaves}
@@ -75,7 +75,7 @@ pub record ClosedSoundly (g : Sig) (n total : ℕ) (s v : Structure) (c : Closed
   pub sorted : Sorted compareFuncApp (v .func-apps)
   pub canon : All (Canon (v .links)) (v .func-apps)
   -- the laws of identities and composites hold
-  pub held : All (Held (v .links) (v .func-apps)) (laws (g .models) (v .func-apps))
+  pub held : All (Held (v .links) (v .func-apps)) (mapLaws (g .models) (v .func-apps))
   pub sum : roots (v .links) + c .merges ≡ total
   -- where none of id or comp is applied
   pub few : All (NoOperation (g .models)) (s .func-apps) → c .rounds ≤ c .merges + 2
@@ -125,7 +125,7 @@ module _ (n total : ℕ) (g : Sig) (s : Structure) (valid : Valid g s) (ready : 
         pairs = grown .pairs ∙ ended .pairs;
         sorted = ended .sorted;
         canon = subst (λ ls. All (Canon ls) (r .apps)) (sym (grown .links)) (ended .canon);
-        held = subst (λ ls. All (Held ls (r .apps)) (laws (g .models) (r .apps))) (sym (grown .links)) (ended .held);
+        held = subst (λ ls. All (Held ls (r .apps)) (mapLaws (g .models) (r .apps))) (sym (grown .links)) (ended .held);
         sum = passed .ready .kept .sum;
         few = λ neither.
             omega (arith, rounds-few n total g (s .pred-apps) (s .func-apps) (coreAtStart s) ready refl enough neither, grown .merges);

@@ -15,7 +15,7 @@ use Rattle.semantics.proofs.Operations.{NoOperation}
 use Rattle.validity.proofs.Operating.{is-operation}
 use Rattle.history.specs.Book.{Book, elements, Partition, Together, none, more, Meet, AppNamed, ClosedSet, Sharing, Shared, Derived}
 use Rattle.history.specs.Book.{Fits, SharedByFits, AppliesNeither}
-use Rattle.history.specs.Laws.{Obeys}
+use Rattle.history.specs.MapLaws.{Obeys}
 use Rattle.history.proofs.Relation.{Equivalence, Respects, Like, like-self, like-respects}
 use Rattle.history.proofs.Drain.{HoldsOfPair}
 

@@ -16,7 +16,7 @@ use Rattle.unification.proofs.Laws.{root-stop}
 use Rattle.unification.proofs.Arrays.{link-past}
 use Rattle.semantics.specs.Structure.{Structure, empty, compareFuncApp}
 use Rattle.semantics.specs.Types.{anyMarked}
-use Rattle.semantics.specs.Laws.{laws}
+use Rattle.semantics.specs.MapLaws.{mapLaws}
 use Rattle.semantics.specs.Close.{Closed, coreAtStart}
 use Rattle.semantics.specs.Calls.{Call, push-el, close, number, closed, isAccepted, mergesOf, Machine, Step, start, leaves, rule, acceptance, step, afterCalls}
 use Rattle.history.specs.Book.{Book, with-merges, blank, elements, taken, fed, History, noted, next, run, begin, history, Shared, AppliesNeither}
@@ -132,7 +132,7 @@ pub record LeftBy (b : Book) (cs : List Closed) (s : Structure) : Type 0 where
   pub pairs : s .pairs ≡ []
   pub sorted : Sorted compareFuncApp (s .func-apps)
   pub canon : All (Canon (s .links)) (s .func-apps)
-  pub held : All (Held (s .links) (s .func-apps)) (laws (b .sig .models) (s .func-apps))
+  pub held : All (Held (s .links) (s .func-apps)) (mapLaws (b .sig .models) (s .func-apps))
   pub few : AppliesNeither b → RoundLimit cs
 
 pub record Returned (h : History) (cs : List Closed) : Type 1 where
@@ -184,7 +184,7 @@ close-leaves h c valid unmarked e =
       pairs = s .pairs;
       sorted = s .sorted;
       canon = s .canon;
-      held = subst (λ (g : Sig). All (Held (z .links) (z .func-apps)) (laws (g .models) (z .func-apps))) (sym sig) (s .held);
+      held = subst (λ (g : Sig). All (Held (z .links) (z .func-apps)) (mapLaws (g .models) (z .func-apps))) (sym sig) (s .held);
       few = λ neither. (
         subst (λ (d : Closed). d .rounds ≤ d .merges + 2) (sym (a .answer))
             (s .few (subst (λ (g : Sig). All (NoOperation (g .models)) (h .machine .structure .func-apps)) sig

@@ -21,7 +21,7 @@ use Rattle.semantics.specs.Structure.{Fact, FuncApp, PredApp, Pair, pair, Var, 
 use Rattle.semantics.specs.Structure.{canonicalFact, canonicalFuncApp, fact, with-links, with-marks, with-pairs, with-pred-apps, with-vars}
 use Rattle.semantics.specs.Structure.{with-ambients}
 use Rattle.semantics.specs.Types.{marked}
-use Rattle.semantics.specs.Laws.{laws}
+use Rattle.semantics.specs.MapLaws.{mapLaws}
 use Rattle.semantics.specs.Close.{Rewritten, funcArgs, predArgs, funcResults, demands, Closed, coreAtStart, closeRun, afterClose}
 use Rattle.semantics.specs.Applying.{equate, Applied, applied, appliedEqual}
 use Rattle.semantics.specs.Calls.{isEl, elCauses, withEl, equalityCauses, withEquality, withImposition}
@@ -100,7 +100,7 @@ module _ (g : Sig) (s : Structure) (v : Valid g s) (i : Idle g s) where
       agree = ap (λ (r : Rewritten). r .queued) same ∙ i .rounds .agree;
       safe = subst (λ (r : Rewritten). All (Safe ks ms (s .facts)) (demands g (r .apps) (s .pred-apps))) (sym same)
           (safe (demands g xs (s .pred-apps)) (demands-valid g (v .sig) n xs (s .pred-apps) valid (vs .pred-apps .each)) (i .rounds .safe));
-      held = subst (LawsHeld g ks) (sym same) (all-map (held-alike (s .links) ks roots xs) (laws (g .models) xs) (i .rounds .held));
+      held = subst (LawsHeld g ks) (sym same) (all-map (held-alike (s .links) ks roots xs) (mapLaws (g .models) xs) (i .rounds .held));
     };
     imposed = safe (s .impositions) (vs .impositions .each) (i .imposed);
   }
@@ -123,7 +123,7 @@ module _ (g : Sig) (s : Structure) (v : Valid g s) (i : Idle g s) where
   -- Kinds 1 to 5: they are accepted only while nothing is stored.
 
   declared-idle : (h : Sig) → s .started ≡ false → Idle h s
-  unfolding empty coreAtStart demands funcArgs predArgs funcResults laws
+  unfolding empty coreAtStart demands funcArgs predArgs funcResults mapLaws
   declared-idle h q =
       subst (Idle h) (sym (v .unstarted q)) (record { rounds = canonical-no-work h [] (coreAtStart empty) [] refl tt tt tt tt tt; imposed = tt })
 

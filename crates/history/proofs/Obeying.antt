@@ -15,7 +15,7 @@ use Rattle.semantics.specs.Structure.{FuncApp, func-app, pair, compareFuncApp, 
 use Rattle.semantics.specs.Types as types
 use Rattle.semantics.specs.Types.{firstMet}
 use Rattle.semantics.specs.Applying.{Equated, equating, equate, applied, appliedEqual, applyAt, insertFuncAppOrEquate}
-use Rattle.semantics.specs.Laws.{Side, Law, holds, agree}
+use Rattle.semantics.specs.MapLaws.{Side, MapLaw, application, equation}
 use Rattle.semantics.specs.Close.{Turn, turn, reports, appliedTurn, applyTurn, giveTo, give, equalize, obey, obeyAll, keyOf}
 use Rattle.semantics.proofs.Canonical.{Canon, canon-result, canon-image}
 use Rattle.semantics.proofs.Cases.{or-first, or-second, none-some}
@@ -77,7 +77,7 @@ apply-more t x u h =
     (λ y e n room. record { worked = λ q. h .worked (or-first (u .worked) _ q); met = h .met; merges = h .merges })
     (record { worked = h .worked; met = λ q. first-met _ (u .core .met) q; merges = h .merges })
 
-pub obeyAll-more : (ls : List Law) (t : Turn) → NoLess t (obeyAll ls t)
+pub obeyAll-more : (ls : List MapLaw) (t : Turn) → NoLess t (obeyAll ls t)
 obeyAll-more ls t = obeyAll-keeps (NoLess t) (apply-more t) ls t (record { worked = λ q. q; met = λ q. q; merges = refl })
 
 -- Where the laws are held.
@@ -138,16 +138,16 @@ give-same x y t c o h = go (lookupOf compareFuncApp x (t .apps)) refl
         ap resultOf (key-alike (t .apps) y (z .result)) ∙ sym h ∙ ap resultOf e ∙ (unfold resultOf in refl) in
         apply-same (givenTo y (z .result)) t (subst (λ (w : FuncApp). resultAt (t .apps) w ≡ some (w .result)) (sym is) at)
 
-law-same : (l : Law) (t : Turn) → AllCanon t → OverRoots (t .core .links) l → Held (t .core .links) (t .apps) l → obey l t ≡ t
+law-same : (l : MapLaw) (t : Turn) → AllCanon t → OverRoots (t .core .links) l → Held (t .core .links) (t .apps) l → obey l t ≡ t
 unfolding obey equalize OverRoots Held
-law-same (holds x) t c o h = (unfold canonicalFuncApp in apply-same x t h)
-law-same (agree ps l r) t c o h =
+law-same (application x) t c o h = (unfold canonicalFuncApp in apply-same x t h)
+law-same (equation ps l r) t c o h =
     let ls = t .core .links in
     let x = keyOf ls ps l in
     let y = keyOf ls ps r in
     ap (give y x) (give-same x y t c (key-of-roots ls ps r o) h) ∙ give-same y x t c (key-of-roots ls ps l o) (sym h)
 
-pub laws-same : (ls : List Law) (t : Turn) → AllCanon t → All (OverRoots (t .core .links)) ls → All (Held (t .core .links) (t .apps)) ls → obeyAll ls t ≡ t
+pub laws-same : (ls : List MapLaw) (t : Turn) → AllCanon t → All (OverRoots (t .core .links)) ls → All (Held (t .core .links) (t .apps)) ls → obeyAll ls t ≡ t
 unfolding obeyAll
 laws-same [] t c o h = refl
 laws-same (l ∷ ls) t c o h = ap (obeyAll ls) (law-same l t c (o .0) (h .0)) ∙ laws-same ls t c (o .1) (h .1)
@@ -202,10 +202,10 @@ give-more x y t = go (lookupOf compareFuncApp x (t .apps))
     go none = record { worked = λ q. q; met = λ q. q; merges = refl }
     go (some z) = apply-more t (givenTo y (z .result)) t (record { worked = λ q. q; met = λ q. q; merges = refl })
 
-law-unworked : (l : Law) (t : Turn) → AllCanon t → OverRoots (t .core .links) l → IfUnworked (Held (t .core .links) (t .apps) l) t (obey l t)
+law-unworked : (l : MapLaw) (t : Turn) → AllCanon t → OverRoots (t .core .links) l → IfUnworked (Held (t .core .links) (t .apps) l) t (obey l t)
 unfolding obey equalize OverRoots Held
-law-unworked (holds x) t c o q m = (unfold canonicalFuncApp in apply-unworked x t c q m)
-law-unworked (agree ps l r) t c o q m =
+law-unworked (application x) t c o q m = (unfold canonicalFuncApp in apply-unworked x t c q m)
+law-unworked (equation ps l r) t c o q m =
     let ls = t .core .links in
     let x = keyOf ls ps l in
     let y = keyOf ls ps r in
@@ -216,7 +216,7 @@ law-unworked (agree ps l r) t c o q m =
     (subst (λ (z : Turn). give y x z .core .met ≡ none) (one .same) m) in
     record { same = ap (give y x) (one .same) ∙ two .same; so = both-given (resultAt (t .apps) x) (resultAt (t .apps) y) (one .so) (two .so) }
 
-pub laws-unworked : (ls : List Law) (t : Turn) → AllCanon t → All (OverRoots (t .core .links)) ls → obeyAll ls t .worked ≡ false → obeyAll ls t .core .met ≡ none
+pub laws-unworked : (ls : List MapLaw) (t : Turn) → AllCanon t → All (OverRoots (t .core .links)) ls → obeyAll ls t .worked ≡ false → obeyAll ls t .core .met ≡ none
     → (obeyAll ls t ≡ t) × All (Held (t .core .links) (t .apps)) ls
 unfolding obeyAll
 laws-unworked [] t c o q m = (refl, tt)
@@ -230,9 +230,9 @@ laws-unworked (l ∷ ls) t c o q m =
 -- What each insertion of an application that has T keeps, where T holds of all that is stored.
 
 -- the law leads from applications that have T to such ones
-unfoldable pub Serves : List ℕ → (FuncApp → Type 0) → Law → Type 0
-Serves ls T (holds x) = T x
-Serves ls T (agree ps l r) = (v : ℕ) → T (func-app (l .func) ps (rootOf ls (l .el) ∷ []) v) ↔ T (func-app (r .func) ps (rootOf ls (r .el) ∷ []) v)
+unfoldable pub Serves : List ℕ → (FuncApp → Type 0) → MapLaw → Type 0
+Serves ls T (application x) = T x
+Serves ls T (equation ps l r) = (v : ℕ) → T (func-app (l .func) ps (rootOf ls (l .el) ∷ []) v) ↔ T (func-app (r .func) ps (rootOf ls (r .el) ∷ []) v)
 
 module _ {ℓ} (P : Turn → Type ℓ) (T : FuncApp → Type 0) (ls : List ℕ) (links : (t : Turn) → P t → t .core .links ≡ ls)
     (stored : (t : Turn) → P t → All T (t .apps)) (keeps : (x : FuncApp) (t : Turn) → P t → T x → P (applyTurn x t)) where
@@ -248,15 +248,15 @@ module _ {ℓ} (P : Turn → Type ℓ) (T : FuncApp → Type 0) (ls : List ℕ) 
           let is : _≡_ {A = FuncApp} z (givenTo x (z .result)) = λ i. func-app (k .func i) (k .parents i) (k .args i) (z .result) in
           keeps (givenTo y (z .result)) t h (f (z .result) (subst T is (all-at T (t .apps) (stored t h) z (found .0))))
 
-  obey-serves : (l : Law) (t : Turn) → Serves ls T l → P t → P (obey l t)
+  obey-serves : (l : MapLaw) (t : Turn) → Serves ls T l → P t → P (obey l t)
   unfolding obey equalize Serves keyOf
-  obey-serves (holds x) t f h = keeps x t h f
-  obey-serves (agree ps l r) t f h =
+  obey-serves (application x) t f h = keeps x t h f
+  obey-serves (equation ps l r) t f h =
       subst (λ (ks : List ℕ). P (equalize (keyOf ks ps l) (keyOf ks ps r) t)) (sym (links t h))
       (give-serves (keyOf ls ps r) (keyOf ls ps l) (give (keyOf ls ps l) (keyOf ls ps r) t) (λ v. f v .1)
       (give-serves (keyOf ls ps l) (keyOf ls ps r) t (λ v. f v .0) h))
 
-  pub obeyAll-serves : (xs : List Law) (t : Turn) → All (Serves ls T) xs → P t → P (obeyAll xs t)
+  pub obeyAll-serves : (xs : List MapLaw) (t : Turn) → All (Serves ls T) xs → P t → P (obeyAll xs t)
   unfolding obeyAll
   obeyAll-serves [] t f h = h
   obeyAll-serves (l ∷ xs) t f h = obeyAll-serves xs (obey l t) (f .1) (obey-serves l t (f .0) h)
@@ -277,7 +277,7 @@ apply-steady ls x t h =
     (record { links = h .links; canon = h .canon })
 
 -- what holds of the applications that the pass leaves held of those that it began with
-pub obeyAll-rest : (P : FuncApp → Type 0) (xs : List Law) (t : Turn) → All P (obeyAll xs t .apps) → All P (t .apps)
+pub obeyAll-rest : (P : FuncApp → Type 0) (xs : List MapLaw) (t : Turn) → All P (obeyAll xs t .apps) → All P (t .apps)
 obeyAll-rest P xs t =
     obeyAll-keeps (λ u. All P (u .apps) → All P (t .apps))
     (λ x u f. apply-cases (λ z. All P (z .apps) → All P (t .apps)) x u (λ e room a. f (placed-rest compareFuncApp (rootedIn u x) P (u .apps) a))

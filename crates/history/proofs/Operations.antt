@@ -13,13 +13,13 @@ use Rattle.signature.specs.Model.{ModelM}
 use Rattle.unification.specs.Roots.{rootOf}
 use Rattle.unification.proofs.Laws.{root-root}
 use Rattle.semantics.specs.Structure.{FuncApp, func-app, compareFuncApp, canonicalFuncApp}
-use Rattle.semantics.specs.Laws.{Side, side, Law, holds, agree, identityLaws, compositionLaws, lawsIn, lawsOf, laws}
+use Rattle.semantics.specs.MapLaws.{Side, side, MapLaw, application, equation, identityLaws, compositionLaws, mapLawsIn, mapLawsOf, mapLaws}
 use Rattle.semantics.specs.Close.{keyOf}
 use Rattle.semantics.proofs.Canonical.{Canon, canonical-alike}
 use Rattle.semantics.proofs.Cases.{none-some}
 use Rattle.semantics.proofs.Orders.{func-app-ordered, func-app-same, same-func-app, SameKey}
 use Rattle.history.specs.Book.{Together}
-use Rattle.history.specs.Laws.{Obeys}
+use Rattle.history.specs.MapLaws.{Obeys}
 use Rattle.history.proofs.Relation.{Respects, OneRoot, one-root, one-rooted, together-one, with-one, with-two, together-flip, Like}
 use Rattle.history.proofs.Relation.{like-respects, meet-key, says-image, image-says}
 use Rattle.history.proofs.Functionality.{meet-images, canonical-agree}
@@ -27,13 +27,13 @@ use Rattle.history.proofs.Functionality.{meet-images, canonical-agree}
 -- What holds of each law, from what holds of each application.
 
 -- where applications that have Q are ones of a model's id or comp, their laws have P
-pub record Gives (Q : FuncApp → Type 0) (P : Law → Type 0) (m : ModelM) : Type 0 where
+pub record Gives (Q : FuncApp → Type 0) (P : MapLaw → Type 0) (m : ModelM) : Type 0 where
   pub identity : (ps : List ℕ) (a r : ℕ) → Q (func-app (m .id) ps (a ∷ []) r)
-      → P (holds (func-app (m .dom) ps (r ∷ []) a)) × P (holds (func-app (m .cod) ps (r ∷ []) a))
+      → P (application (func-app (m .dom) ps (r ∷ []) a)) × P (application (func-app (m .cod) ps (r ∷ []) a))
   pub composite : (ps : List ℕ) (f g h : ℕ) → Q (func-app (m .comp) ps (f ∷ g ∷ []) h)
-      → P (agree ps (side (m .dom) f) (side (m .dom) h)) × P (agree ps (side (m .cod) g) (side (m .cod) h)) × P (agree ps (side (m .cod) f) (side (m .dom) g))
+      → P (equation ps (side (m .dom) f) (side (m .dom) h)) × P (equation ps (side (m .cod) g) (side (m .cod) h)) × P (equation ps (side (m .cod) f) (side (m .dom) g))
 
-module _ (Q : FuncApp → Type 0) (P : Law → Type 0) where
+module _ (Q : FuncApp → Type 0) (P : MapLaw → Type 0) where
   identity-laws : (m : ModelM) → Gives Q P m → (f : ℕ) (ps xs : List ℕ) (r : ℕ) → f ≡ m .id → Q (func-app f ps xs r) → All P (identityLaws m ps xs r)
   unfolding identityLaws
   identity-laws m gives f ps [] r e q = tt
@@ -50,14 +50,14 @@ module _ (Q : FuncApp → Type 0) (P : Law → Type 0) where
       let k = gives .composite ps a b r (subst (λ (i : ℕ). Q (func-app i ps (a ∷ b ∷ []) r)) e q) in (k .0, (k .1, (k .2, tt)))
   composition-laws m gives f ps (a ∷ b ∷ c ∷ xs) r e q = tt
 
-  laws-in : (m : ModelM) → Gives Q P m → (x : FuncApp) → Q x → All P (lawsIn m x)
-  unfolding lawsIn
+  laws-in : (m : ModelM) → Gives Q P m → (x : FuncApp) → Q x → All P (mapLawsIn m x)
+  unfolding mapLawsIn
   laws-in m gives x q = all-join P (ids (eqb (x .func) (m .id))) (comps (eqb (x .func) (m .comp))) (one (eqb (x .func) (m .id)) refl) (two (eqb (x .func) (m .comp)) refl)
     where
-      ids : Bool → List Law
+      ids : Bool → List MapLaw
       ids b = elim b [ true ↦ identityLaws m (x .parents) (x .args) (x .result) | false ↦ [] ]
 
-      comps : Bool → List Law
+      comps : Bool → List MapLaw
       comps b = elim b [ true ↦ compositionLaws m (x .parents) (x .args) (x .result) | false ↦ [] ]
 
       one : (b : Bool) → eqb (x .func) (m .id) ≡ b → All P (ids b)
@@ -68,25 +68,25 @@ module _ (Q : FuncApp → Type 0) (P : Law → Type 0) where
       two true e = composition-laws m gives (x .func) (x .parents) (x .args) (x .result) (eqb-true (x .func) (m .comp) e) q
       two false e = tt
 
-  laws-of : (ms : List ModelM) → All (Gives Q P) ms → (x : FuncApp) → Q x → All P (lawsOf ms x)
-  unfolding lawsOf
+  laws-of : (ms : List ModelM) → All (Gives Q P) ms → (x : FuncApp) → Q x → All P (mapLawsOf ms x)
+  unfolding mapLawsOf
   laws-of [] gives x q = tt
-  laws-of (m ∷ ms) gives x q = all-join P (lawsIn m x) (lawsOf ms x) (laws-in m (gives .0) x q) (laws-of ms (gives .1) x q)
+  laws-of (m ∷ ms) gives x q = all-join P (mapLawsIn m x) (mapLawsOf ms x) (laws-in m (gives .0) x q) (laws-of ms (gives .1) x q)
 
-  pub laws-all : (ms : List ModelM) → All (Gives Q P) ms → (xs : List FuncApp) → All Q xs → All P (laws ms xs)
-  unfolding laws
+  pub laws-all : (ms : List ModelM) → All (Gives Q P) ms → (xs : List FuncApp) → All Q xs → All P (mapLaws ms xs)
+  unfolding mapLaws
   laws-all ms gives [] h = tt
-  laws-all ms gives (x ∷ xs) h = all-join P (lawsOf ms x) (laws ms xs) (laws-of ms gives x (h .0)) (laws-all ms gives xs (h .1))
+  laws-all ms gives (x ∷ xs) h = all-join P (mapLawsOf ms x) (mapLaws ms xs) (laws-of ms gives x (h .0)) (laws-all ms gives xs (h .1))
 
 -- A claim on applications.
 
 -- it keeps a law
-unfoldable pub Keeps : (FuncApp → Type 0) → Law → Type 0
-Keeps S (holds x) = S x
-Keeps S (agree ps l r) = (v : ℕ) → S (func-app (l .func) ps (l .el ∷ []) v) ↔ S (func-app (r .func) ps (r .el ∷ []) v)
+unfoldable pub Keeps : (FuncApp → Type 0) → MapLaw → Type 0
+Keeps S (application x) = S x
+Keeps S (equation ps l r) = (v : ℕ) → S (func-app (l .func) ps (l .el ∷ []) v) ↔ S (func-app (r .func) ps (r .el ∷ []) v)
 
 -- one that is closed under the laws keeps those of its applications
-pub laws-kept : (ms : List ModelM) (S : FuncApp → Type 0) → All (Obeys S) ms → (xs : List FuncApp) → All S xs → All (Keeps S) (laws ms xs)
+pub laws-kept : (ms : List ModelM) (S : FuncApp → Type 0) → All (Obeys S) ms → (xs : List FuncApp) → All S xs → All (Keeps S) (mapLaws ms xs)
 unfolding Keeps
 laws-kept ms S obeys = laws-all S (Keeps S) ms (all-map gives ms obeys)
   where
@@ -107,9 +107,9 @@ abbrev pub resultAt : List FuncApp → FuncApp → Option ℕ
 resultAt xs x = resultOf (lookupOf compareFuncApp x xs)
 
 -- the table holds a law, for these links: the application is stored with its result, or both sides have one result, or none
-unfoldable pub Held : List ℕ → List FuncApp → Law → Type 0
-Held ls xs (holds x) = resultAt xs (canonicalFuncApp ls x) ≡ some (rootOf ls (x .result))
-Held ls xs (agree ps l r) = resultAt xs (keyOf ls ps l) ≡ resultAt xs (keyOf ls ps r)
+unfoldable pub Held : List ℕ → List FuncApp → MapLaw → Type 0
+Held ls xs (application x) = resultAt xs (canonicalFuncApp ls x) ≡ some (rootOf ls (x .result))
+Held ls xs (equation ps l r) = resultAt xs (keyOf ls ps l) ≡ resultAt xs (keyOf ls ps r)
 
 -- of the links only the roots count
 module _ (ls ks : List ℕ) (roots : (e : ℕ) → rootOf ks e ≡ rootOf ls e) where
@@ -117,18 +117,18 @@ module _ (ls ks : List ℕ) (roots : (e : ℕ) → rootOf ks e ≡ rootOf ls e) 
   unfolding keyOf
   side-alike ps x = λ i. func-app (x .func) ps (roots (x .el) i ∷ []) 0
 
-  pub held-alike : (xs : List FuncApp) (l : Law) → Held ls xs l → Held ks xs l
+  pub held-alike : (xs : List FuncApp) (l : MapLaw) → Held ls xs l → Held ks xs l
   unfolding Held
-  held-alike xs (holds x) h = ap (resultAt xs) (canonical-alike ls ks roots x) ∙ h ∙ ap (λ (v : ℕ). some v) (sym (roots (x .result)))
-  held-alike xs (agree ps l r) h = ap (resultAt xs) (side-alike ps l) ∙ h ∙ sym (ap (resultAt xs) (side-alike ps r))
+  held-alike xs (application x) h = ap (resultAt xs) (canonical-alike ls ks roots x) ∙ h ∙ ap (λ (v : ℕ). some v) (sym (roots (x .result)))
+  held-alike xs (equation ps l r) h = ap (resultAt xs) (side-alike ps l) ∙ h ∙ sym (ap (resultAt xs) (side-alike ps r))
 
 -- over parents that are roots
-unfoldable pub OverRoots : List ℕ → Law → Type 0
-OverRoots ls (holds x) = Unit {0}
-OverRoots ls (agree ps l r) = map (rootOf ls) ps ≡ ps
+unfoldable pub OverRoots : List ℕ → MapLaw → Type 0
+OverRoots ls (application x) = Unit {0}
+OverRoots ls (equation ps l r) = map (rootOf ls) ps ≡ ps
 
 -- the laws of applications that are rewritten already are over roots
-pub laws-over-roots : (ls : List ℕ) (ms : List ModelM) (xs : List FuncApp) → All (Canon ls) xs → All (OverRoots ls) (laws ms xs)
+pub laws-over-roots : (ls : List ℕ) (ms : List ModelM) (xs : List FuncApp) → All (Canon ls) xs → All (OverRoots ls) (mapLaws ms xs)
 unfolding OverRoots canonicalFuncApp
 laws-over-roots ls ms =
     laws-all (Canon ls) (OverRoots ls) ms
@@ -140,28 +140,28 @@ laws-over-roots ls ms =
 -- The claim that a table makes, by its roots.
 
 -- the laws of one of the applications are among all
-laws-at : (P : Law → Type 0) (ms : List ModelM) (xs : List FuncApp) → All P (laws ms xs) → (x : FuncApp) → List·Memᴰ x xs → All P (lawsOf ms x)
-unfolding laws
+laws-at : (P : MapLaw → Type 0) (ms : List ModelM) (xs : List FuncApp) → All P (mapLaws ms xs) → (x : FuncApp) → List·Memᴰ x xs → All P (mapLawsOf ms x)
+unfolding mapLaws
 laws-at P ms [] h x i = absurd (List·Memᴰ·not-nil i)
 laws-at P ms (y ∷ ys) h x i = elim (List·Memᴰ·cases-cons i) [
-  | inl q ↦ rw q (all-left P (lawsOf ms y) (laws ms ys) h)
-  | inr k ↦ laws-at P ms ys (all-right P (lawsOf ms y) (laws ms ys) h) x k
+  | inl q ↦ rw q (all-left P (mapLawsOf ms y) (mapLaws ms ys) h)
+  | inr k ↦ laws-at P ms ys (all-right P (mapLawsOf ms y) (mapLaws ms ys) h) x k
 ]
 
-module _ (P : Law → Type 0) (m : ModelM) (f : ℕ) (ps : List ℕ) where
-  abbrev ids : Bool → List ℕ → ℕ → List Law
+module _ (P : MapLaw → Type 0) (m : ModelM) (f : ℕ) (ps : List ℕ) where
+  abbrev ids : Bool → List ℕ → ℕ → List MapLaw
   ids b xs r = elim b [ true ↦ identityLaws m ps xs r | false ↦ [] ]
 
-  abbrev comps : Bool → List ℕ → ℕ → List Law
+  abbrev comps : Bool → List ℕ → ℕ → List MapLaw
   comps b xs r = elim b [ true ↦ compositionLaws m ps xs r | false ↦ [] ]
 
-  of-identity : (xs : List ℕ) (r : ℕ) → f ≡ m .id → All P (lawsIn m (func-app f ps xs r)) → All P (identityLaws m ps xs r)
-  unfolding lawsIn
+  of-identity : (xs : List ℕ) (r : ℕ) → f ≡ m .id → All P (mapLawsIn m (func-app f ps xs r)) → All P (identityLaws m ps xs r)
+  unfolding mapLawsIn
   of-identity xs r e h =
       subst (λ (b : Bool). All P (ids b xs r)) (eq-eqb f (m .id) e) (all-left P (ids (eqb f (m .id)) xs r) (comps (eqb f (m .comp)) xs r) h)
 
-  of-composite : (xs : List ℕ) (r : ℕ) → f ≡ m .comp → All P (lawsIn m (func-app f ps xs r)) → All P (compositionLaws m ps xs r)
-  unfolding lawsIn
+  of-composite : (xs : List ℕ) (r : ℕ) → f ≡ m .comp → All P (mapLawsIn m (func-app f ps xs r)) → All P (compositionLaws m ps xs r)
+  unfolding mapLawsIn
   of-composite xs r e h =
       subst (λ (b : Bool). All P (comps b xs r)) (eq-eqb f (m .comp) e) (all-right P (ids (eqb f (m .id)) xs r) (comps (eqb f (m .comp)) xs r) h)
 
@@ -224,18 +224,18 @@ module _ (ls : List ℕ) (xs : List FuncApp) (sorted : Sorted compareFuncApp xs)
         image-says R (one-root ls) Stored stored-respects ls (one-rooted ls) x
         (subst Stored (λ i. func-app f (sym roots i) (rootOf ls a ∷ []) (rootOf ls v)) (found-stored (keyOf ls ps (side f a)) (rootOf ls v) e))
 
-  held-kept : (l : Law) → OverRoots ls l → Held ls xs l → Keeps Stored l
+  held-kept : (l : MapLaw) → OverRoots ls l → Held ls xs l → Keeps Stored l
   unfolding OverRoots Held Keeps canonicalFuncApp
-  held-kept (holds x) o h =
+  held-kept (application x) o h =
       image-says R (one-root ls) Stored stored-respects ls (one-rooted ls) x (found-stored (canonicalFuncApp ls x) (rootOf ls (x .result)) h)
-  held-kept (agree ps l r) o h = λ v. (
+  held-kept (equation ps l r) o h = λ v. (
     λ s. stored-side ps o (r .func) (r .el) v (sym h ∙ side-stored ps o (l .func) (l .el) v s),
     λ s. stored-side ps o (l .func) (l .el) v (h ∙ side-stored ps o (r .func) (r .el) v s),
   )
 
   -- Where the table holds the laws of its applications, what is stored is closed under them.
 
-  module _ (m : ModelM) (kept : (x : FuncApp) → List·Memᴰ x xs → All (Keeps Stored) (lawsIn m x)) where
+  module _ (m : ModelM) (kept : (x : FuncApp) → List·Memᴰ x xs → All (Keeps Stored) (mapLawsIn m x)) where
     alike : (f : ℕ) (ps qs : List ℕ) (a b v w : ℕ) → Together R ps qs → R a b → R v w → Stored (func-app f ps (a ∷ []) v) → Stored (func-app f qs (b ∷ []) w)
     alike f ps qs a b v w p e r =
         stored-respects .alike (func-app f ps (a ∷ []) v) (func-app f qs (b ∷ []) w) (record { func = refl; parents = p; args = together-one e }) r
@@ -254,7 +254,7 @@ module _ (ls : List ℕ) (xs : List FuncApp) (sorted : Sorted compareFuncApp xs)
         )
 
     -- an equation of two sides, from the stored composite to one that is alike
-    sides : (ps qs : List ℕ) (j k a b c d : ℕ) → Together R ps qs → R a c → R b d → Keeps Stored (agree ps (side j a) (side k b))
+    sides : (ps qs : List ℕ) (j k a b c d : ℕ) → Together R ps qs → R a c → R b d → Keeps Stored (equation ps (side j a) (side k b))
         → (v : ℕ) → Stored (func-app j qs (c ∷ []) v) ↔ Stored (func-app k qs (d ∷ []) v)
     unfolding Keeps
     sides ps qs j k a b c d p e f h v =
@@ -288,16 +288,16 @@ module _ (ls : List ℕ) (xs : List FuncApp) (sorted : Sorted compareFuncApp xs)
       comp-middle = λ ps f g h x s. composites ps f g h x s .2;
     }
 
-  each-obeyed : (ms : List ModelM) → ((x : FuncApp) → List·Memᴰ x xs → All (Keeps Stored) (lawsOf ms x)) → All (Obeys Stored) ms
-  unfolding lawsOf
+  each-obeyed : (ms : List ModelM) → ((x : FuncApp) → List·Memᴰ x xs → All (Keeps Stored) (mapLawsOf ms x)) → All (Obeys Stored) ms
+  unfolding mapLawsOf
   each-obeyed [] kept = tt
   each-obeyed (m ∷ ms) kept = (
-    obeyed m (λ x i. all-left (Keeps Stored) (lawsIn m x) (lawsOf ms x) (kept x i)),
-    each-obeyed ms (λ x i. all-right (Keeps Stored) (lawsIn m x) (lawsOf ms x) (kept x i)),
+    obeyed m (λ x i. all-left (Keeps Stored) (mapLawsIn m x) (mapLawsOf ms x) (kept x i)),
+    each-obeyed ms (λ x i. all-right (Keeps Stored) (mapLawsIn m x) (mapLawsOf ms x) (kept x i)),
   )
 
-  pub held-obeyed : (ms : List ModelM) → All (Held ls xs) (laws ms xs) → All (Obeys Stored) ms
+  pub held-obeyed : (ms : List ModelM) → All (Held ls xs) (mapLaws ms xs) → All (Obeys Stored) ms
   held-obeyed ms held =
-      let kept = all-map (λ l h. held-kept l (h .0) (h .1)) (laws ms xs)
-      (all-both (OverRoots ls) (Held ls xs) (laws ms xs) (laws-over-roots ls ms xs canon) held) in
+      let kept = all-map (λ l h. held-kept l (h .0) (h .1)) (mapLaws ms xs)
+      (all-both (OverRoots ls) (Held ls xs) (mapLaws ms xs) (laws-over-roots ls ms xs canon) held) in
       each-obeyed ms (λ x i. laws-at (Keeps Stored) ms xs kept x i)

@@ -18,7 +18,7 @@ use Rattle.semantics.specs.Structure.{Fact, FuncApp, func-app, PredApp, Pair, c
 use Rattle.semantics.specs.Types as types
 use Rattle.semantics.specs.Types.{Core, drain, imposeAll, grew}
 use Rattle.semantics.specs.Close.{Rewritten, rewriting, enterAll, demands, Turn, turn, reports, drained, drainPass, rewrote, functionalityPass, typed}
-use Rattle.semantics.specs.Laws.{Law, holds, agree, laws}
+use Rattle.semantics.specs.MapLaws.{MapLaw, application, equation, mapLaws}
 use Rattle.semantics.specs.Close.{typingPass, applyTurn, obeyAll, operationPass, Pass, passes, runPasses, round}
 use Rattle.semantics.specs.Valid.{Below}
 use Rattle.semantics.proofs.Cases.{or-first, or-second}
@@ -30,7 +30,7 @@ use Rattle.semantics.proofs.Queues.{drain-pairs, fresh}
 use Rattle.semantics.proofs.Stages.{Stage, Along}
 use Rattle.validity.proofs.Drain.{TwoRoots, drain-merges}
 use Rattle.history.specs.Book.{Meet}
-use Rattle.history.specs.Laws.{Obeys}
+use Rattle.history.specs.MapLaws.{Obeys}
 use Rattle.history.proofs.Relation.{Equivalence, Rooted, Respects, together-same, together-one, meet-flip, says-image}
 use Rattle.history.proofs.Drain.{RootsAndMerges, HoldsOfPair, Inside, Unmarked, Joined, drain-law, drain-counted, WithinClass, drain-same}
 use Rattle.history.proofs.Drain.{drain-within}
@@ -77,7 +77,7 @@ DemandsSafe g preds w r = All (Safe (w .links) (w .marks) (w .facts)) (demands g
 
 -- the laws of the applications of r are held
 abbrev pub LawsHeld : Sig → List ℕ → Rewritten → Type 0
-LawsHeld g ls r = All (Held ls (r .apps)) (laws (g .models) (r .apps))
+LawsHeld g ls r = All (Held ls (r .apps)) (mapLaws (g .models) (r .apps))
 
 -- nothing was done and nothing remains to do, marks or not: pairs wait only within one class, no key has two results once the applications are rewritten,
 -- what these demand is stored, and their laws are held
@@ -92,7 +92,7 @@ pub record NoWork (g : Sig) (preds : List PredApp) (t : Turn) : Type 0 where
 -- where the applications are rewritten already
 pub canonical-no-work : (g : Sig) (preds : List PredApp) (w : Core) (xs : List FuncApp) → w .met ≡ none → All (WithinClass (w .links)) (w .pairs)
     → Sorted compareFuncApp xs → All (Canon (w .links)) xs → All (Safe (w .links) (w .marks) (w .facts)) (demands g xs preds)
-    → All (Held (w .links) xs) (laws (g .models) xs) → NoWork g preds (turn w xs false)
+    → All (Held (w .links) xs) (mapLaws (g .models) xs) → NoWork g preds (turn w xs false)
 canonical-no-work g preds w xs m joined sorted canon safe held =
     let own = entered-same (w .links) xs sorted canon in
     record {
@@ -162,7 +162,7 @@ AddedNone g t = (t .worked ≡ false) ⊎ All (NoOperation (g .models)) (t .apps
 pub record RoundDone (g : Sig) (preds : List PredApp) (w : Core) (t : Turn) : Type 0 where
   pub table : AfterFunctionality w t
   pub safe : AddedNone g t → t .core .met ≡ none → All (Safe (t .core .links) (t .core .marks) (t .core .facts)) (demands g (t .apps) preds)
-  pub held : AddedNone g t → t .core .met ≡ none → All (Held (t .core .links) (t .apps)) (laws (g .models) (t .apps))
+  pub held : AddedNone g t → t .core .met ≡ none → All (Held (t .core .links) (t .apps)) (mapLaws (g .models) (t .apps))
 
 -- The laws of a pass that leads from one stage to another.
 module _ (g : Sig) (preds : List PredApp) where
@@ -566,7 +566,7 @@ apply-table w x t h =
 
 module _ (ms : List ModelM) (t : Turn) (canon : AllCanon t) where
   abbrev obeyed : Turn
-  obeyed = obeyAll (laws ms (t .apps)) t
+  obeyed = obeyAll (mapLaws ms (t .apps)) t
 
   start : Steady (t .core .links) t
   start = record { links = refl; canon = canon }
@@ -596,18 +596,18 @@ module _ (ms : List ModelM) (t : Turn) (canon : AllCanon t) where
         let m : Meet R x y = record { func = refl; parents = together-same R q ps; args = together-one (r e) } in
         (law .alike x y m (q .same v), law .alike y x (meet-flip R q m) (q .same v))
 
-    kept-serves : (ls : List ℕ) → Rooted R ls → (l : Law) → Keeps S l → Serves ls S l
+    kept-serves : (ls : List ℕ) → Rooted R ls → (l : MapLaw) → Keeps S l → Serves ls S l
     unfolding Keeps Serves
-    kept-serves ls r (holds x) k = k
-    kept-serves ls r (agree ps x y) k = λ v.
+    kept-serves ls r (application x) k = k
+    kept-serves ls r (equation ps x y) k = λ v.
         let a = side-on ls r ps (x .func) (x .el) v in
         let b = side-on ls r ps (y .func) (y .el) v in
         (λ s. b .1 (k v .0 (a .0 s)), λ s. a .1 (k v .1 (b .0 s)))
 
     operations-on : All (Obeys S) ms → HoldsOfTurn t → HoldsOfTurn obeyed
     operations-on o f =
-        obeyAll-serves (λ u. Steady (t .core .links) u × HoldsOfTurn u) S (t .core .links) (λ u h. h .0 .links) (λ u h. h .1 .apps) apply-on (laws ms (t .apps)) t
-        (all-map (kept-serves (t .core .links) (f .rooted)) (laws ms (t .apps)) (laws-kept ms S o (t .apps) (f .apps))) (start, f) .1
+        obeyAll-serves (λ u. Steady (t .core .links) u × HoldsOfTurn u) S (t .core .links) (λ u h. h .0 .links) (λ u h. h .1 .apps) apply-on (mapLaws ms (t .apps)) t
+        (all-map (kept-serves (t .core .links) (f .rooted)) (mapLaws ms (t .apps)) (laws-kept ms S o (t .apps) (f .apps))) (start, f) .1
 
     -- the pass only adds applications and pairs
     operations-back : HoldsOfTurn obeyed → HoldsOfTurn t
@@ -619,7 +619,7 @@ module _ (ms : List ModelM) (t : Turn) (canon : AllCanon t) where
               (λ y e r f. h .1 f)
               (λ y e root n f. h .1 (record { rooted = f .rooted; pairs = f .pairs .1; apps = f .apps }))
               (λ f. h .1 (record { rooted = f .rooted; pairs = f .pairs; apps = f .apps })),
-        )) (laws ms (t .apps)) t (start, λ f. f) .1
+        )) (mapLaws ms (t .apps)) t (start, λ f. f) .1
 
   module _ (n total : ℕ) where
     -- its arguments and its result are elements
@@ -662,7 +662,7 @@ module _ (ms : List ModelM) (t : Turn) (canon : AllCanon t) where
               (record { kept = kept _ refl refl; pairs = r .pairs; args = r .args; results = r .results; plain = r .plain }),
         )
 
-    laws-of-elements : All OfElements (t .apps) → All (Serves (t .core .links) OfElements) (laws ms (t .apps))
+    laws-of-elements : All OfElements (t .apps) → All (Serves (t .core .links) OfElements) (mapLaws ms (t .apps))
     unfolding Serves
     laws-of-elements = laws-all OfElements (Serves (t .core .links) OfElements) ms (all-of (λ m. record {
       identity = λ ps a r i. (((i .1, tt), i .0 .0), ((i .1, tt), i .0 .0));
@@ -679,7 +679,7 @@ module _ (ms : List ModelM) (t : Turn) (canon : AllCanon t) where
     operations-ready : ReadyTurn t → ReadyTurn obeyed
     operations-ready r =
         obeyAll-serves (λ u. Steady (t .core .links) u × ReadyTurn u) OfElements (t .core .links) (λ u h. h .0 .links)
-        (λ u h. all-both (λ x. Below n (x .args)) (λ x. x .result < n) (u .apps) (h .1 .args) (h .1 .results)) apply-ready (laws ms (t .apps)) t
+        (λ u h. all-both (λ x. Below n (x .args)) (λ x. x .result < n) (u .apps) (h .1 .args) (h .1 .results)) apply-ready (mapLaws ms (t .apps)) t
         (laws-of-elements (all-both (λ x. Below n (x .args)) (λ x. x .result < n) (t .apps) (r .args) (r .results))) (start, r) .1
 
     operations-passed : ReadyTurn t → Passed ms n total (t .core) (t .apps) (obeyed .core) (obeyed .apps)
@@ -691,11 +691,11 @@ module _ (ms : List ModelM) (t : Turn) (canon : AllCanon t) where
 module _ (g : Sig) (preds : List PredApp) where
   -- where nothing was added, the pass did nothing, and the laws are held
   operations-none-added : (t : Turn) → AllCanon t → AddedNone g (operationPass g preds t) → operationPass g preds t .core .met ≡ none
-      → (operationPass g preds t ≡ t) × All (Held (t .core .links) (t .apps)) (laws (g .models) (t .apps))
+      → (operationPass g preds t ≡ t) × All (Held (t .core .links) (t .apps)) (mapLaws (g .models) (t .apps))
   unfolding operationPass
-  operations-none-added t c (inl q) m = laws-unworked (laws (g .models) (t .apps)) t c (laws-over-roots (t .core .links) (g .models) (t .apps) c) q m
+  operations-none-added t c (inl q) m = laws-unworked (mapLaws (g .models) (t .apps)) t c (laws-over-roots (t .core .links) (g .models) (t .apps) c) q m
   operations-none-added t c (inr plain) m =
-      let before = obeyAll-rest (NoOperation (g .models)) (laws (g .models) (t .apps)) t plain in (
+      let before = obeyAll-rest (NoOperation (g .models)) (mapLaws (g .models) (t .apps)) t plain in (
         operations-none g preds t before,
         subst (All (Held (t .core .links) (t .apps))) (sym (laws-none (g .models) (t .apps) before)) tt,
       )
@@ -708,19 +708,19 @@ module _ (g : Sig) (preds : List PredApp) where
         let c = h .table .canon in
         let u = operationPass g preds t in
         record {
-          table = obeyAll-keeps (AfterFunctionality w) (apply-table w) (laws (g .models) (t .apps)) t (h .table);
+          table = obeyAll-keeps (AfterFunctionality w) (apply-table w) (mapLaws (g .models) (t .apps)) t (h .table);
           safe = λ none-added m.
               let e = operations-none-added t c none-added m .0 in
               subst (λ (z : Turn). All (Safe (z .core .links) (z .core .marks) (z .core .facts)) (demands g (z .apps) preds)) (sym e)
               (h .safe (subst (λ (z : Turn). z .core .met ≡ none) e m));
           held = λ none-added m.
               let e = operations-none-added t c none-added m in
-              subst (λ (z : Turn). All (Held (z .core .links) (z .apps)) (laws (g .models) (z .apps))) (sym (e .0)) (e .1);
+              subst (λ (z : Turn). All (Held (z .core .links) (z .apps)) (mapLaws (g .models) (z .apps))) (sym (e .0)) (e .1);
         };
     idle = λ t h r.
         let c = h .table .canon in
         let own = entered-same (t .core .links) (t .apps) (h .table .sorted) c in
-        let is = laws-same (laws (g .models) (t .apps)) t c (laws-over-roots (t .core .links) (g .models) (t .apps) c) (subst (LawsHeld g (t .core .links)) own (r .held)) in
+        let is = laws-same (mapLaws (g .models) (t .apps)) t c (laws-over-roots (t .core .links) (g .models) (t .apps) c) (subst (LawsHeld g (t .core .links)) own (r .held)) in
         record {
           pairs = t .core .pairs;
           apps = t .apps;
@@ -731,10 +731,10 @@ module _ (g : Sig) (preds : List PredApp) where
         };
     was-idle = λ t h r.
         let c = h .table .canon in
-        subst (NoWork g preds) (laws-unworked (laws (g .models) (t .apps)) t c (laws-over-roots (t .core .links) (g .models) (t .apps) c) (r .unworked) (r .unmet) .0) r;
+        subst (NoWork g preds) (laws-unworked (mapLaws (g .models) (t .apps)) t c (laws-over-roots (t .core .links) (g .models) (t .apps) c) (r .unworked) (r .unmet) .0) r;
     neither = λ t h. subst (λ (z : Turn). All (NoOperation (g .models)) (z .apps)) (sym (operations-none g preds t h)) h;
-    more = λ t. let e = obeyAll-more (laws (g .models) (t .apps)) t .merges in omega (arith, e);
-    unworked = λ t e. let z = obeyAll-more (laws (g .models) (t .apps)) t in (z .worked e, z .merges);
+    more = λ t. let e = obeyAll-more (mapLaws (g .models) (t .apps)) t .merges in omega (arith, e);
+    unworked = λ t e. let z = obeyAll-more (mapLaws (g .models) (t .apps)) t in (z .worked e, z .merges);
   }
 
   -- The round.

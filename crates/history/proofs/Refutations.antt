@@ -21,7 +21,7 @@ use Rattle.semantics.specs.Calls.{isAccepted, mergesOf, mergesIn}
 use Rattle.semantics.proofs.WrongSettles.{lastMerges}
 use Rattle.semantics.proofs.ProvedCases.{typ, func, plainEl, markedEl, impose, app, downFrom, signature102, dom, cod, identity, composite}
 use Rattle.history.specs.Book.{Book, book, with-sig, with-equalities, with-apps, elements, taken, fed, history, Together, none, more, Meet, AppNamed, Shared}
-use Rattle.history.specs.Laws.{Obeys}
+use Rattle.history.specs.MapLaws.{Obeys}
 use Rattle.history.specs.Book.{Sharing, SharedByFits, AppliesNeither, Classes, RoundLimit, RanCloses, closes, settles, Conserved, Conservation}
 use Rattle.history.proofs.SecondClose.{noChange}
 use Rattle.history.proofs.Conservation.{conservation}

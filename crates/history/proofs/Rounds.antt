@@ -11,7 +11,7 @@ use Rattle.ids.proofs.Sorted.{All, Sorted, no-test}
 use Rattle.signature.specs.Model.{Sig}
 use Rattle.semantics.specs.Structure.{FuncApp, PredApp, Pair, compareFuncApp}
 use Rattle.semantics.specs.Types.{Core}
-use Rattle.semantics.specs.Laws.{laws}
+use Rattle.semantics.specs.MapLaws.{mapLaws}
 use Rattle.semantics.specs.Close.{demands, Turn, round, Rounds, isNone, lastRound, oneMore, goesOn, roundsFrom, rounds, fuel}
 use Rattle.semantics.proofs.Cases.{and-second}
 use Rattle.semantics.proofs.Canonical.{Canon}
@@ -117,7 +117,7 @@ pub record RoundsEnded (g : Sig) (preds : List PredApp) (r : Rounds) : Type 0 wh
   pub canon : All (Canon (r .core .links)) (r .apps)
   pub pairs : r .core .pairs ≡ []
   pub safe : All (Safe (r .core .links) (r .core .marks) (r .core .facts)) (demands g (r .apps) preds)
-  pub held : All (Held (r .core .links) (r .apps)) (laws (g .models) (r .apps))
+  pub held : All (Held (r .core .links) (r .apps)) (mapLaws (g .models) (r .apps))
 
 turn-ended : (g : Sig) (preds : List PredApp) (w : Core) (t : Turn) → RoundDone g preds w t → t .worked ≡ false → t .core .met ≡ none
     → RoundsEnded g preds (lastRound t)
@@ -144,5 +144,5 @@ rounds-ended g preds r l m =
       canon = subst₂ (λ (w : Core) (xs : List FuncApp). All (Canon (w .links)) xs) (sym (l .core)) (sym (l .apps)) (e .canon);
       pairs = ap (λ (w : Core). w .pairs) (l .core) ∙ e .pairs;
       safe = subst₂ (λ (w : Core) (xs : List FuncApp). All (Safe (w .links) (w .marks) (w .facts)) (demands g xs preds)) (sym (l .core)) (sym (l .apps)) (e .safe);
-      held = subst₂ (λ (w : Core) (xs : List FuncApp). All (Held (w .links) xs) (laws (g .models) xs)) (sym (l .core)) (sym (l .apps)) (e .held);
+      held = subst₂ (λ (w : Core) (xs : List FuncApp). All (Held (w .links) xs) (mapLaws (g .models) xs)) (sym (l .core)) (sym (l .apps)) (e .held);
     }

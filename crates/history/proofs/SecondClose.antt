@@ -23,7 +23,7 @@ use Rattle.semantics.specs.Types.{Core, imposeAll, grew}
 use Rattle.semantics.specs.Close.{demanded, demandedAt, demandedArgs, funcArgs, predArgs, funcResults, demands, Turn, round, Rounds, goesOn, close-run}
 use Rattle.semantics.specs.Close.{lastRound, oneMore, roundsFrom, rounds, fuel, Closed, coreAtStart, canonicaliseRefs, withCore, imposedAfter, closeRun}
 use Rattle.semantics.specs.Close.{reportOf, afterClose, closeBy, close, turn, report}
-use Rattle.semantics.specs.Laws.{laws}
+use Rattle.semantics.specs.MapLaws.{mapLaws}
 use Rattle.semantics.specs.Valid.{Valid}
 use Rattle.semantics.specs.Calls as calls
 use Rattle.semantics.specs.Calls.{closed, summed, totals, Machine, Step, leaves, SettleRun, settle-run, reportedFirst, settleAfter, settleBy, settleFrom}
@@ -237,7 +237,7 @@ module _ (g : Sig) (s : Structure) where
               (subst (All (WithinClass ls)) (sym (grown .pairs ∙ ended .pairs)) tt) (ended .sorted)
               (subst (λ k. All (Canon k) (r .apps)) (sym (grown .links)) (ended .canon))
               (demands-rewritten (Safe ls ms fs) g ls image (r .apps) (s .pred-apps) (now ds (imposed .0)))
-              (subst (λ k. All (Held k (r .apps)) (laws (g .models) (r .apps))) (sym (grown .links)) (ended .held));
+              (subst (λ k. All (Held k (r .apps)) (mapLaws (g .models) (r .apps))) (sym (grown .links)) (ended .held));
           imposed = all-image (Safe ls ms fs) (canonicalFact ls) (s .impositions)
               (all-map image (s .impositions) (now (s .impositions) (imposed .1)));
         }

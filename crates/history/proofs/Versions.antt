@@ -15,7 +15,7 @@ use Rattle.semantics.specs.Types.{anyMarked}
 use Rattle.semantics.specs.Close.{Closed}
 use Rattle.semantics.specs.Calls.{Call, Answer, isAccepted, mergesOf, Machine, start, step}
 use Rattle.history.specs.Book.{Book, blank, elements, fed, History, noted, next, run, begin, history}
-use Rattle.history.specs.Laws.{Obeys}
+use Rattle.history.specs.MapLaws.{Obeys}
 use Rattle.history.specs.Book.{Partition, Meet, AppNamed, Sharing, Shared, SharedByFits, AppliesNeither, RanCloses, RootsByClass, Conserved}
 use Rattle.history.specs.Book.{Conservation}
 use Rattle.history.proofs.Elements.{Named, neither-shared}

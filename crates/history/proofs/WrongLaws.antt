@@ -10,7 +10,7 @@ use Rattle.ids.proofs.Sorted.{All, all-at}
 use Rattle.signature.specs.Model.{Sig, sig, empty, ModelM, model, mor, type-entry, func-entry, model-entry}
 use Rattle.semantics.specs.Structure.{Pair, pair, FuncApp, func-app}
 use Rattle.semantics.specs.Calls.{isIdOrComp}
-use Rattle.history.specs.Laws.{Obeys}
+use Rattle.history.specs.MapLaws.{Obeys}
 use Rattle.history.specs.Book.{Book, book, with-sig, Together, none, more, Meet, AppNamed, Shared, SharedByFits, AppliesNeither}
 use Rattle.history.proofs.Elements.{Named, neither-shared}
 use Rattle.history.proofs.Versions.{never, Says, SharedBy}

@@ -20,7 +20,7 @@ use Rattle.semantics.specs.Calls.{Call, push-type, push-pred, push-func, push-m
 use Rattle.semantics.specs.Calls.{apply-func, apply-pred, bind-var, bind-ambient, close, type-conflicts, settle, root, root-const}
 use Rattle.semantics.specs.Calls.{lookup-type, ambient-parents, Totals, closed, summed, isAccepted, mergesOf, Machine, settleRun, Step, start, step}
 use Rattle.semantics.specs.Calls.{isIdOrComp}
-use Rattle.history.specs.Laws.{Obeys}
+use Rattle.history.specs.MapLaws.{Obeys}
 
 -- The book: "it reads no structure".
 

@@ -1,3 +1,3 @@
-pub mod Laws
+pub mod MapLaws
 pub mod Book
 pub mod Settled

@@ -52,8 +52,8 @@ abbrev pub tooManyFacts : ℕ
 tooManyFacts = 11
 
 -- 02, M-102: "an id application without exactly one argument, or a comp without exactly two"
-abbrev pub wrongArity : ℕ
-wrongArity = 12
+abbrev pub wrongArgCount : ℕ
+wrongArgCount = 12
 
 -- a value, or the number of the refusal
 pub data Answered (A : Type 0) : Type 0 where

@@ -43,7 +43,7 @@ impl Refusal {
 
     pub const TOO_MANY_FACTS: u16 = 11;
 
-    pub const WRONG_ARITY: u16 = 12;
+    pub const WRONG_ARG_COUNT: u16 = 12;
 }
 
 // Whether a call is refused, and with which number.

@@ -37,9 +37,9 @@ unfolding isIdOrComp
 by-operation f = record { none = refl; more = λ y ys. refl }
 
 -- a search for a model whose id or comp is applied to another number of arguments
-pub by-arity : (x : model.FuncApp) → Search (λ (m : ModelM). misapplies m x) (isMisapplied x)
+pub by-arg-count : (x : model.FuncApp) → Search (λ (m : ModelM). misapplies m x) (isMisapplied x)
 unfolding isMisapplied
-by-arity x = record { none = refl; more = λ y ys. refl }
+by-arg-count x = record { none = refl; more = λ y ys. refl }
 
 -- two lists that are held as they were given unless one of them is too long
 pub both-held : {A : Type 0} (f : List ℕ → List ℕ → A) (ps xs : ElIds) → length (ps .ids) ≡ maxList → length (xs .ids) ≡ maxList

@@ -66,7 +66,7 @@ pub fn insert_func_app_or_equate(
     let verdict = verdict.refuse_if(Refusal::MALFORMED, long);
     let verdict = verdict.refuse_if(Refusal::UNDECLARED, !declared);
     let verdict = verdict.refuse_if(Refusal::RESERVED, is_reserved(signature, app.func));
-    let verdict = verdict.refuse_if(Refusal::WRONG_ARITY, is_misapplied(models, app));
+    let verdict = verdict.refuse_if(Refusal::WRONG_ARG_COUNT, is_misapplied(models, app));
     let verdict = verdict.refuse_if(Refusal::NO_ROOM, applied.full);
     if let Verdict::Refused(number) = verdict {
         return structure.refuse(number);

@@ -23,7 +23,7 @@ use Rattle.unification.specs.Roots.{rootOf, shortOf}
 use Rattle.semantics.specs.Structure.{FuncApp, func-app, pair, compareFuncApp, canonicalFuncApp, maxPairs, maxFuncApps}
 use Rattle.semantics.specs.Types.{core, anyMarked}
 use Rattle.semantics.specs.Applying.{equating, equate, appliedEqual, applyAt, insertFuncAppOrEquate}
-use Rattle.semantics.specs.Laws.{Side, agree}
+use Rattle.semantics.specs.MapLaws.{Side, equation}
 use Rattle.semantics.specs.Close as closing
 use Rattle.semantics.specs.Close.{appliedTurn, applyTurn, keyOf, giveTo, give, equalize, obey}
 use Rattle.semantics.proofs.Operations.{insertedTurn, keptTurn, queuedTurn, fullTurn, rootedIn}
@@ -228,6 +228,6 @@ value-given {before} x y e is p = record {
 -- there and back
 pub agreed : (ps : List ℕ) (l r : Side) {before now after : Tables} {x y : FuncApp}
     → x ≡ keyOf (linksIn (before .turn .counts .els) (before .els)) ps l → y ≡ keyOf (linksIn (before .turn .counts .els) (before .els)) ps r
-    → TurnBy before now (give x y) → TurnBy now after (give y x) → TurnBy before after (obey (agree ps l r))
+    → TurnBy before now (give x y) → TurnBy now after (give y x) → TurnBy before after (obey (equation ps l r))
 unfolding obey equalize
 agreed ps l r {before} x-is y-is p q = follows-here p q (λ facts. λ i. equalize (x-is i) (y-is i) (turnOf facts before))

@@ -1,18 +1,17 @@
 -- What the pass of identities and composites works on, as the definitions speak of it.
 use Prim.Native.Nat.{ℕ, _+_, _≤_}
 use mathlib.Core.Path.{_≡_}
-use mathlib.Core.Bool.{Bool, true, false}
-use mathlib.Core.List.{List, []}
+use mathlib.Core.Bool.{Bool}
+use mathlib.Core.List.{List}
 use lib.ListN.{length}
-use lib.Dec.{eqb}
 use Rattle.ids.specs.Ids.{elsOf}
 use Rattle.ids.specs.Sorted.{Sorted}
-use Rattle.signature.specs.Model.{Sig, ModelM}
-use Rattle.semantics.specs.Structure.{FuncApp, PredApp, compareFuncApp, maxFuncApps}
+use Rattle.signature.specs.Model.{Sig}
+use Rattle.semantics.specs.Structure.{PredApp, compareFuncApp, maxFuncApps}
 use Rattle.semantics.specs.Types.{firstMet}
 use Rattle.semantics.specs.Applying.{equating, equate}
-use Rattle.semantics.specs.Laws as semantics
-use Rattle.semantics.specs.Laws.{Law, agree, identityLaws, compositionLaws}
+use Rattle.semantics.specs.MapLaws as semantics
+use Rattle.semantics.specs.MapLaws.{MapLaw, equation}
 use Rattle.semantics.specs.Close as closing
 use Rattle.semantics.specs.Close.{operationPass}
 use Rattle.app_rows.specs.View.{funcAppsIn}
@@ -84,16 +83,8 @@ abbrev pub sideOf : Side → semantics.Side
 sideOf x = semantics.side (x .func .0) (x .el .0)
 
 -- what an equation says
-abbrev pub lawOf : Equation → Law
-lawOf e = agree (elsOf (e .parents)) (sideOf (e .left)) (sideOf (e .right))
-
--- the laws of one application in one model: as one of id, and as one of comp
-
-abbrev pub identityLawsIn : ModelM → FuncApp → List Law
-identityLawsIn m x = elim (eqb (x .func) (m .id)) [ true ↦ identityLaws m (x .parents) (x .args) (x .result) | false ↦ [] ]
-
-abbrev pub compositionLawsIn : ModelM → FuncApp → List Law
-compositionLawsIn m x = elim (eqb (x .func) (m .comp)) [ true ↦ compositionLaws m (x .parents) (x .args) (x .result) | false ↦ [] ]
+abbrev pub lawOf : Equation → MapLaw
+lawOf e = equation (elsOf (e .parents)) (sideOf (e .left)) (sideOf (e .right))
 
 -- the whole pass, whatever the predicate applications, which it does not read
 abbrev pub ObeysLaws : Sig → Tables → Tables → Type 0

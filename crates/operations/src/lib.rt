@@ -22,13 +22,13 @@ ghost use lib.ListN.{length};
 ghost use Rattle.ids.specs.Ids.{elsOf};
 ghost use Rattle.signature.specs.Model.{modelOf, viewModels, sigOf};
 ghost use Rattle.semantics.specs.Structure.{func-app, maxFuncApps, maxPairs};
-ghost use Rattle.semantics.specs.Laws.{lawsIn, lawsOf};
+ghost use Rattle.semantics.specs.MapLaws.{identityLawsIn, compositionLawsIn, mapLawsIn, mapLawsOf};
 ghost use Rattle.semantics.specs.Close.{applyTurn, keyOf, give, obey, obeyAll};
 ghost use Rattle.apps.specs.View.{funcAppOf};
 ghost use Rattle.app_rows.specs.View.{funcAppsIn};
 ghost use Rattle.el_rows.specs.View.{linksIn};
 ghost use Rattle.merging.specs.View.{ElsHeld};
-ghost use Rattle.operations.specs.View.{tables, TablesHeld, TurnBy, Equates, Meets, sideOf, lawOf, identityLawsIn, compositionLawsIn, ObeysLaws};
+ghost use Rattle.operations.specs.View.{tables, TablesHeld, TurnBy, Equates, Meets, sideOf, lawOf, ObeysLaws};
 
 // The counts so far, and whether a pass of the round reported work.
 pub struct Turn {
@@ -290,7 +290,7 @@ fn laws_in(
 ) -> Turn
     requires { ⌜ TablesHeld (tables (now els) (now apps) (now pairs) turn) ⌝ }
     ensures { λ r. ⌜ TurnBy (tables (now (els .entry)) (now (apps .entry)) (now (pairs .entry)) turn)
-        (tables (now (els .exit)) (now (apps .exit)) (now (pairs .exit)) r) (obeyAll (lawsIn (modelOf ids) (funcAppOf app))) ⌝ }
+        (tables (now (els .exit)) (now (apps .exit)) (now (pairs .exit)) r) (obeyAll (mapLawsIn (modelOf ids) (funcAppOf app))) ⌝ }
 {
     let next = identity_laws(els, apps, pairs, turn, ids, app);
     composition_laws(els, apps, pairs, next, ids, app)
@@ -307,7 +307,7 @@ fn laws_of(
 ) -> Turn
     requires { ⌜ TablesHeld (tables (now els) (now apps) (now pairs) turn) ⌝ }
     ensures { λ r. ⌜ TurnBy (tables (now (els .entry)) (now (apps .entry)) (now (pairs .entry)) turn)
-        (tables (now (els .exit)) (now (apps .exit)) (now (pairs .exit)) r) (obeyAll (lawsOf (viewModels models) (funcAppOf app))) ⌝ }
+        (tables (now (els .exit)) (now (apps .exit)) (now (pairs .exit)) r) (obeyAll (mapLawsOf (viewModels models) (funcAppOf app))) ⌝ }
 {
     let n = models.size() as usize;
     let mut now = turn;

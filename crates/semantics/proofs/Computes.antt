@@ -9,7 +9,7 @@ use Rattle.signature.specs.Calls as signature
 use Rattle.semantics.specs.Structure as structure
 use Rattle.semantics.specs.Types as types
 use Rattle.semantics.specs.Applying as applying
-use Rattle.semantics.specs.Laws as laws
+use Rattle.semantics.specs.MapLaws as map-laws
 use Rattle.semantics.specs.Close as close
 use Rattle.semantics.specs.Conflicts as conflicts
 use Rattle.semantics.specs.Calls as calls
@@ -31,7 +31,7 @@ unfolding answers.firstOf answers.decided answers.outcome
     types.refineRoots types.refine types.refineParents types.refineAll types.insertFact types.insertCanonical types.impose types.grew
     types.imposeAll
     applying.equate applying.appliedEqual applying.applyAt applying.insertFuncAppOrEquate
-    laws.identityLaws laws.compositionLaws laws.lawsIn laws.lawsOf laws.laws
+    map-laws.identityLaws map-laws.compositionLaws map-laws.mapLawsIn map-laws.mapLawsOf map-laws.mapLaws
     close.enterAt close.enter close.enterAll close.demanded close.demandedAt close.demandedArgs close.funcArgs close.predArgs close.funcResults
     close.demands close.drained close.drainPass close.rewrote close.functionalityPass close.typed close.typingPass close.appliedTurn close.applyTurn
     close.keyOf close.giveTo close.give close.equalize close.obey close.obeyAll close.operationPass close.passes close.runPasses

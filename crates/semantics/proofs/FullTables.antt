@@ -86,23 +86,23 @@ unfolding everything stated answersOf outputOf machineOf look shownBy statedBy d
 eleven-before-nine-holds = refl
 
 -- 12 comes before 9
-pub arity-before-room : Row
-arity-before-room = record {
+pub arg-count-before-room : Row
+arg-count-before-room = record {
   source = callsFrom (applying maxFuncApps) (app 2 [] [] 0 ∷ app 3 [] (0 ∷ []) 0 ∷ identity 0 1 ∷ []);
   output = tells (refuses 12 ∷ refuses 12 ∷ refuses 9 ∷ []);
   claims = [];
 }
 
-arity-before-room-holds : Holds arity-before-room
-unfolding everything stated answersOf outputOf machineOf look shownBy statedBy downFrom factsBefore appsBefore arity-before-room
-arity-before-room-holds = refl
+arg-count-before-room-holds : Holds arg-count-before-room
+unfolding everything stated answersOf outputOf machineOf look shownBy statedBy downFrom factsBefore appsBefore arg-count-before-room
+arg-count-before-room-holds = refl
 
 -- these rows
 abbrev pub fullRows : List Row
-fullRows = room-for-both ∷ room-for-one ∷ identities-of-one ∷ nine-before-eleven ∷ eleven-before-nine ∷ arity-before-room ∷ []
+fullRows = room-for-both ∷ room-for-one ∷ identities-of-one ∷ nine-before-eleven ∷ eleven-before-nine ∷ arg-count-before-room ∷ []
 
 pub fullRowHolds : (r : Row) → List·Memᴰ r fullRows → Holds r
 fullRowHolds r m =
     all-at Holds fullRows
-    (room-for-both-holds, (room-for-one-holds, (identities-of-one-holds, (nine-before-eleven-holds, (eleven-before-nine-holds, (arity-before-room-holds, tt))))))
+    (room-for-both-holds, (room-for-one-holds, (identities-of-one-holds, (nine-before-eleven-holds, (eleven-before-nine-holds, (arg-count-before-room-holds, tt))))))
     r m

@@ -1,8 +1,8 @@
 -- The pass of identities and composites: what an application inserted in a round leaves, and what holds along its laws.
-use mathlib.Core.Path.{_≡_, refl, ap}
+use mathlib.Core.Path.{_≡_, refl, ap, _∙_}
 use mathlib.Core.Logic.{_≢_}
 use mathlib.Core.Bool.{Bool, true, false, _||_}
-use mathlib.Core.List.{List, [], _∷_}
+use mathlib.Core.List.{List, [], _∷_, _++_}
 use mathlib.Core.Option.{Option, none, some}
 use Prim.Native.Nat.{ℕ, _<_}
 use lib.ListN.{length}
@@ -16,7 +16,8 @@ use Rattle.signature.specs.Model.{Sig, ModelM}
 use Rattle.semantics.specs.Structure.{FuncApp, func-app, PredApp, compareFuncApp, canonicalFuncApp, maxPairs, maxFuncApps}
 use Rattle.semantics.specs.Types as types
 use Rattle.semantics.specs.Applying.{equate, appliedEqual, applyAt, insertFuncAppOrEquate}
-use Rattle.semantics.specs.Laws.{Side, Law, holds, agree, lawsIn, lawsOf, laws}
+use Rattle.semantics.specs.MapLaws.{Side, MapLaw, application, equation, identityLaws, compositionLaws, identityLawsIn, compositionLawsIn}
+use Rattle.semantics.specs.MapLaws.{mapLawsIn, mapLawsOf, mapLaws}
 use Rattle.semantics.specs.Close.{Turn, turn, reports, appliedTurn, applyTurn, giveTo, give, equalize, obey, obeyAll, keyOf}
 use Rattle.semantics.specs.Close.{operationPass}
 use Rattle.semantics.specs.Calls.{isIdOrComp}
@@ -90,9 +91,9 @@ abbrev pub MayGive : (FuncApp → Type 0) → (ℕ → Type 0) → List ℕ → 
 MayGive Q R ps x = (ls : List ℕ) (e : ℕ) → R e → Q (func-app (x .func) ps (rootOf ls (x .el) ∷ []) e)
 
 -- what the law says may be inserted
-abbrev pub MaySay : (FuncApp → Type 0) → (ℕ → Type 0) → Law → Type 0
-MaySay Q R (holds x) = Q x
-MaySay Q R (agree ps l r) = MayGive Q R ps l × MayGive Q R ps r
+abbrev pub MaySay : (FuncApp → Type 0) → (ℕ → Type 0) → MapLaw → Type 0
+MaySay Q R (application x) = Q x
+MaySay Q R (equation ps l r) = MayGive Q R ps l × MayGive Q R ps r
 
 module _ {ℓ} (P : Turn → Type ℓ) (Q : FuncApp → Type 0) (R : ℕ → Type 0) (results : (t : Turn) → P t → All (λ x. R (x .result)) (t .apps))
     (keeps : (x : FuncApp) (t : Turn) → Q x → P t → P (applyTurn x t)) where
@@ -105,28 +106,28 @@ module _ {ℓ} (P : Turn → Type ℓ) (Q : FuncApp → Type 0) (R : ℕ → Typ
       go (some z) e =
           keeps _ t (may ls (z .result) (all-at (λ w. R (w .result)) (t .apps) (results t h) z (lookup-sound compareFuncApp x (t .apps) e .0))) h
 
-  obey-keeps : (l : Law) (t : Turn) → MaySay Q R l → P t → P (obey l t)
+  obey-keeps : (l : MapLaw) (t : Turn) → MaySay Q R l → P t → P (obey l t)
   unfolding obey equalize
-  obey-keeps (holds x) t may h = keeps x t may h
-  obey-keeps (agree ps l r) t may h =
+  obey-keeps (application x) t may h = keeps x t may h
+  obey-keeps (equation ps l r) t may h =
       let ls = t .core .links in
       let x = keyOf ls ps l in
       let y = keyOf ls ps r in
       give-keeps y ls ps l (give x y t) (may .0) (give-keeps x ls ps r t (may .1) h)
 
-  pub obeyAll-keeps-if : (ls : List Law) (t : Turn) → All (MaySay Q R) ls → P t → P (obeyAll ls t)
+  pub obeyAll-keeps-if : (ls : List MapLaw) (t : Turn) → All (MaySay Q R) ls → P t → P (obeyAll ls t)
   unfolding obeyAll
   obeyAll-keeps-if [] t may h = h
   obeyAll-keeps-if (l ∷ ls) t may h = obeyAll-keeps-if ls (obey l t) (may .1) (obey-keeps l t (may .0) h)
 
 -- the same where every application may be inserted
-pub obeyAll-keeps {ℓ} : (P : Turn → Type ℓ) → ((x : FuncApp) (t : Turn) → P t → P (applyTurn x t)) → (ls : List Law) (t : Turn) → P t → P (obeyAll ls t)
+pub obeyAll-keeps {ℓ} : (P : Turn → Type ℓ) → ((x : FuncApp) (t : Turn) → P t → P (applyTurn x t)) → (ls : List MapLaw) (t : Turn) → P t → P (obeyAll ls t)
 obeyAll-keeps P keeps ls t =
     obeyAll-keeps-if P (λ x. Unit {0}) (λ e. Unit {0}) (λ u h. all-of (λ x. tt) (u .apps)) (λ x u _. keeps x u) ls t (all-of may ls)
   where
-    may : (l : Law) → MaySay (λ x. Unit {0}) (λ e. Unit {0}) l
-    may (holds x) = tt
-    may (agree ps l r) = (λ ls e _. tt, λ ls e _. tt)
+    may : (l : MapLaw) → MaySay (λ x. Unit {0}) (λ e. Unit {0}) l
+    may (application x) = tt
+    may (equation ps l r) = (λ ls e _. tt, λ ls e _. tt)
 
 -- Applications of neither id nor comp: they have no law, so that the pass leaves all as it was.
 
@@ -134,20 +135,24 @@ obeyAll-keeps P keeps ls t =
 abbrev pub NoOperation : List ModelM → FuncApp → Type 0
 NoOperation ms x = isIdOrComp (x .func) ms ≡ false
 
-lawsOf-none : (ms : List ModelM) (x : FuncApp) → NoOperation ms x → lawsOf ms x ≡ []
-unfolding isIdOrComp lawsOf lawsIn
+lawsOf-none : (ms : List ModelM) (x : FuncApp) → NoOperation ms x → mapLawsOf ms x ≡ []
+unfolding isIdOrComp mapLawsOf mapLawsIn
 lawsOf-none [] x e = refl
 lawsOf-none (m ∷ ms) x e =
     let id = eqb (x .func) (m .id) in
     let comp = eqb (x .func) (m .comp) in
     let here = or-first (id || comp) (isIdOrComp (x .func) ms) e in
-    rw (or-first id comp here, or-second id comp here) (lawsOf-none ms x (or-second (id || comp) (isIdOrComp (x .func) ms) e))
+    let ids : identityLawsIn m x ≡ [] =
+    ap (λ (b : Bool). elim b [ true ↦ identityLaws m (x .parents) (x .args) (x .result) | false ↦ [] ]) (or-first id comp here) in
+    let comps : compositionLawsIn m x ≡ [] =
+    ap (λ (b : Bool). elim b [ true ↦ compositionLaws m (x .parents) (x .args) (x .result) | false ↦ [] ]) (or-second id comp here) in
+    (λ i. (ids i ++ comps i) ++ mapLawsOf ms x) ∙ lawsOf-none ms x (or-second (id || comp) (isIdOrComp (x .func) ms) e)
 
-pub laws-none : (ms : List ModelM) (xs : List FuncApp) → All (NoOperation ms) xs → laws ms xs ≡ []
-unfolding laws
+pub laws-none : (ms : List ModelM) (xs : List FuncApp) → All (NoOperation ms) xs → mapLaws ms xs ≡ []
+unfolding mapLaws
 laws-none ms [] h = refl
 laws-none ms (x ∷ xs) h = rw (lawsOf-none ms x (h .0)) (laws-none ms xs (h .1))
 
 pub operations-none : (g : Sig) (preds : List PredApp) (t : Turn) → All (NoOperation (g .models)) (t .apps) → operationPass g preds t ≡ t
 unfolding operationPass obeyAll
-operations-none g preds t h = ap (λ (ls : List Law). obeyAll ls t) (laws-none (g .models) (t .apps) h)
+operations-none g preds t h = ap (λ (ls : List MapLaw). obeyAll ls t) (laws-none (g .models) (t .apps) h)

@@ -11,7 +11,7 @@ use Rattle.ids.proofs.Sorted.{placed-absent, lookup-none}
 use Rattle.signature.specs.Model.{Sig}
 use Rattle.semantics.specs.Structure.{Fact, FuncApp, PredApp, Pair, Structure, maxPairs, maxFuncApps, compareFuncApp}
 use Rattle.semantics.specs.Applying.{equate}
-use Rattle.semantics.specs.Laws.{Law, laws}
+use Rattle.semantics.specs.MapLaws.{MapLaw, mapLaws}
 use Rattle.semantics.specs.Types.{Core, refineParents, refineAll, imposeAll}
 use Rattle.semantics.specs.Close.{Turn, turn, Pass, drained, drainPass, rewriting, enterAll, rewrote, functionalityPass, demands, typed}
 use Rattle.semantics.specs.Close.{typingPass, applyTurn, obeyAll, operationPass, passes, round, coreAtStart}
@@ -108,9 +108,9 @@ apply-waiting x t h =
 unfoldable pub operation-queue : QueueLaw operationPass Roomy Waiting
 unfolding operationPass
 operation-queue = record {
-  Moments = λ t. (ls : List Law) → length (obeyAll ls t .core .pairs) ≤ maxPairs;
+  Moments = λ t. (ls : List MapLaw) → length (obeyAll ls t .core .pairs) ≤ maxPairs;
   fits = λ t h ls. obeyAll-keeps Waiting apply-waiting ls t (start t h) .most;
-  leads = λ g preds t h. obeyAll-keeps Waiting apply-waiting (laws (g .models) (t .apps)) t (start t h);
+  leads = λ g preds t h. obeyAll-keeps Waiting apply-waiting (mapLaws (g .models) (t .apps)) t (start t h);
 }
   where
     start : (t : Turn) → Roomy t → Waiting t

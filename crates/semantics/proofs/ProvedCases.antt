@@ -302,8 +302,8 @@ lawRow f x g y = record {
 }
 
 -- 02's numbers in the order of a record 9, where the application of id or comp has one argument too few
-abbrev pub arityRows : List Row
-arityRows =
+abbrev pub argCountRows : List Row
+argCountRows =
     -- 12 for id without exactly one argument, and comp without exactly two; the machine is as it was
     record {
       source = calls
@@ -382,7 +382,7 @@ mapRows =
       output = tells (closes 1 2 2 ∷ []);
       claims = link 1 is el 0 ∷ link 2 is el 0 ∷ [];
     }
-    ∷ arityRows
+    ∷ argCountRows
 
 -- The table.
 

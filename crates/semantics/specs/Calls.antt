@@ -8,7 +8,7 @@ use mathlib.Core.Option.{Option, none, some}
 use lib.ListN.{length, take}
 use lib.Dec.{eqb, leb, ltb}
 use Rattle.ids.specs.declared.Ordering.the-variants.{Less, Equal, Greater}
-use Rattle.ids.specs.Answers.{Cause, Answered, accepted, refused, Outcome, firstOf, decided, _if_, malformed, undeclared, wrongKind, reserved, wrongArity, givenAgain, noRoom, noAmbient}
+use Rattle.ids.specs.Answers.{Cause, Answered, accepted, refused, Outcome, firstOf, decided, _if_, malformed, undeclared, wrongKind, reserved, wrongArgCount, givenAgain, noRoom, noAmbient}
 use Rattle.ids.specs.Ids.{tooLong, allBelow}
 use Rattle.ids.specs.Table.{present, placed, lookupOf}
 use Rattle.unification.specs.Roots.{maxEls, rootOf, shortOf, addedOf, FindM, findOf, findCauses}
@@ -105,7 +105,7 @@ applicationCauses g s x =
     malformed if (tooLong (x .parents) || tooLong (x .args))
     ∷ undeclared if not (isFunc g (x .func) && (areEls s (x .parents) && (areEls s (x .args) && isEl s (x .result))))
     ∷ reserved if isReserved g (x .func)
-    ∷ wrongArity if isMisapplied x (g .models)
+    ∷ wrongArgCount if isMisapplied x (g .models)
     ∷ noRoom if appliedTo s x .full
     ∷ []
 

@@ -17,7 +17,7 @@ use Rattle.semantics.specs.Structure.{with-impositions}
 use Rattle.semantics.specs.Types as types
 use Rattle.semantics.specs.Types.{Core, core, drain, imposeAll, grew}
 use Rattle.semantics.specs.Applying.{Applied, insertFuncAppOrEquate}
-use Rattle.semantics.specs.Laws.{Side, Law, holds, agree, laws}
+use Rattle.semantics.specs.MapLaws.{Side, MapLaw, application, equation, mapLaws}
 
 -- `functionality`: "rewrites keys and results in order of function, parents, arguments; the first result stays, a different one is queued".
 
@@ -146,16 +146,16 @@ give x y t = giveTo y (lookupOf compareFuncApp x (t .apps)) t
 unfoldable pub equalize : FuncApp → FuncApp → Turn → Turn
 equalize l r t = give r l (give l r t)
 
-unfoldable pub obey : Law → Turn → Turn
-obey (holds x) t = applyTurn x t
-obey (agree ps l r) t = equalize (keyOf (t .core .links) ps l) (keyOf (t .core .links) ps r) t
+unfoldable pub obey : MapLaw → Turn → Turn
+obey (application x) t = applyTurn x t
+obey (equation ps l r) t = equalize (keyOf (t .core .links) ps l) (keyOf (t .core .links) ps r) t
 
-unfoldable pub obeyAll : List Law → Turn → Turn
+unfoldable pub obeyAll : List MapLaw → Turn → Turn
 obeyAll [] t = t
 obeyAll (x ∷ xs) t = obeyAll xs (obey x t)
 
 unfoldable pub operationPass : Sig → List PredApp → Turn → Turn
-operationPass g preds t = obeyAll (laws (g .models) (t .apps)) t
+operationPass g preds t = obeyAll (mapLaws (g .models) (t .apps)) t
 
 abbrev pub Pass : Type 0
 Pass = Sig → List PredApp → Turn → Turn

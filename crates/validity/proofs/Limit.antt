@@ -21,7 +21,7 @@ use Rattle.semantics.specs.Structure.{factAt, maxFacts, maxFuncApps, maxPairs}
 use Rattle.semantics.specs.Types.{Core, with-links, with-pairs, with-added, firstMet, with-met, marked, movedFacts, merge, joinRoots, join, drainPairs, drain}
 use Rattle.semantics.specs.Types.{concreteTypesOf, refineRoots, refine, refineParents, refineAll, insertFact, insertCanonical, impose, imposeAll}
 use Rattle.semantics.specs.Applying.{equate, Applied, applied, appliedEqual, applyAt, insertFuncAppOrEquate}
-use Rattle.semantics.specs.Laws.{Law, holds, agree, laws}
+use Rattle.semantics.specs.MapLaws.{MapLaw, application, equation, mapLaws}
 use Rattle.semantics.specs.Calls as calls
 use Rattle.semantics.specs.Calls.{Machine, step}
 use Rattle.semantics.specs.Close.{Turn, turn, reports, Pass, drained, drainPass, rewrote, functionalityPass, typed, typingPass, demands, passes, runPasses}
@@ -143,15 +143,15 @@ module _ (insert : Insertions) (P : Core → Type 0) (inserts : Inserts P insert
       go none = h
       go (some z) = inserts .apps (func-app (y .func) (y .parents) (y .args) (z .result)) t h
 
-  obey-holds : (l : Law) (t : Turn) → P (t .core) → P (obeyBy insert l t .core)
+  obey-holds : (l : MapLaw) (t : Turn) → P (t .core) → P (obeyBy insert l t .core)
   unfolding obeyBy equalizeBy
-  obey-holds (holds x) t h = inserts .apps x t h
-  obey-holds (agree ps l r) t h =
+  obey-holds (application x) t h = inserts .apps x t h
+  obey-holds (equation ps l r) t h =
       let x = keyOf (t .core .links) ps l in
       let y = keyOf (t .core .links) ps r in
       give-holds y x (giveBy insert x y t) (give-holds x y t h)
 
-  pub obeyAll-holds : (ls : List Law) (t : Turn) → P (t .core) → P (obeyAllBy insert ls t .core)
+  pub obeyAll-holds : (ls : List MapLaw) (t : Turn) → P (t .core) → P (obeyAllBy insert ls t .core)
   unfolding obeyAllBy
   obeyAll-holds [] t h = h
   obeyAll-holds (l ∷ ls) t h = obeyAll-holds ls (obeyBy insert l t) (obey-holds l t h)
@@ -432,17 +432,17 @@ give-agrees x y t m = go (lookupOf compareFuncApp x (t .apps))
     go none = inl (refl, m)
     go (some z) = apply-agrees (func-app (y .func) (y .parents) (y .args) (z .result)) t m
 
-obey-agrees : (l : Law) (t : Turn) → t .core .met ≡ none → Agree metTurn (obeyBy withLimits l t) (obeyBy withoutLimits l t)
+obey-agrees : (l : MapLaw) (t : Turn) → t .core .met ≡ none → Agree metTurn (obeyBy withLimits l t) (obeyBy withoutLimits l t)
 unfolding obeyBy equalizeBy
-obey-agrees (holds x) t m = apply-agrees x t m
-obey-agrees (agree ps l r) t m =
+obey-agrees (application x) t m = apply-agrees x t m
+obey-agrees (equation ps l r) t m =
     let x = keyOf (t .core .links) ps l in
     let y = keyOf (t .core .links) ps r in
     agree-then metTurn metTurn (giveBy withLimits y x) (giveBy withoutLimits y x) (give-agrees y x)
     (λ n. give-holds withLimits (Met n) (limits-met n) y x) (λ n. give-holds withoutLimits (Met n) (free-met n) y x) (giveBy withLimits x y t)
     (giveBy withoutLimits x y t) (give-agrees x y t m)
 
-pub obeyAll-agree : (ls : List Law) (t : Turn) → t .core .met ≡ none → Agree metTurn (obeyAllBy withLimits ls t) (obeyAllBy withoutLimits ls t)
+pub obeyAll-agree : (ls : List MapLaw) (t : Turn) → t .core .met ≡ none → Agree metTurn (obeyAllBy withLimits ls t) (obeyAllBy withoutLimits ls t)
 unfolding obeyAllBy
 obeyAll-agree [] t m = inl (refl, m)
 obeyAll-agree (l ∷ ls) t m =
@@ -465,15 +465,15 @@ is-give x y t = go (lookupOf compareFuncApp x (t .apps))
     go none = refl
     go (some z) = refl
 
-is-obey : (l : Law) (t : Turn) → obeyBy withLimits l t ≡ obey l t
+is-obey : (l : MapLaw) (t : Turn) → obeyBy withLimits l t ≡ obey l t
 unfolding obeyBy equalizeBy obey equalize
-is-obey (holds x) t = refl
-is-obey (agree ps l r) t =
+is-obey (application x) t = refl
+is-obey (equation ps l r) t =
     let x = keyOf (t .core .links) ps l in
     let y = keyOf (t .core .links) ps r in
     ap (giveBy withLimits y x) (is-give x y t) ∙ is-give y x (give x y t)
 
-pub is-obeyAll : (ls : List Law) (t : Turn) → obeyAllBy withLimits ls t ≡ obeyAll ls t
+pub is-obeyAll : (ls : List MapLaw) (t : Turn) → obeyAllBy withLimits ls t ≡ obeyAll ls t
 unfolding obeyAllBy obeyAll
 is-obeyAll [] t = refl
 is-obeyAll (l ∷ ls) t = ap (obeyAllBy withLimits ls) (is-obey l t) ∙ is-obeyAll ls (obey l t)
@@ -521,9 +521,9 @@ typing-limit = record {
 operation-limit : LimitLaw operationBy operationPass
 unfolding operationBy operationPass
 operation-limit = record {
-  is = λ g preds t. is-obeyAll (laws (g .models) (t .apps)) t;
-  holds = λ insert P through inserts g preds t. obeyAll-holds insert P inserts (laws (g .models) (t .apps)) t;
-  agrees = λ g preds t m. obeyAll-agree (laws (g .models) (t .apps)) t m;
+  is = λ g preds t. is-obeyAll (mapLaws (g .models) (t .apps)) t;
+  holds = λ insert P through inserts g preds t. obeyAll-holds insert P inserts (mapLaws (g .models) (t .apps)) t;
+  agrees = λ g preds t m. obeyAll-agree (mapLaws (g .models) (t .apps)) t m;
 }
 
 data AllLimited : List PassBy → List Pass → Type 1 where

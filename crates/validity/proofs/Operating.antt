@@ -14,7 +14,7 @@ use Rattle.unification.proofs.Laws.{root-le}
 use Rattle.signature.specs.Model.{Sig, ModelM, MorAppM}
 use Rattle.signature.specs.Calls.{inMorApps}
 use Rattle.semantics.specs.Structure.{FuncApp, func-app}
-use Rattle.semantics.specs.Laws.{Law, identityLaws, compositionLaws, lawsIn, lawsOf, laws}
+use Rattle.semantics.specs.MapLaws.{MapLaw, identityLaws, compositionLaws, mapLawsIn, mapLawsOf, mapLaws}
 use Rattle.semantics.specs.Calls.{isIdOrComp, isReserved, misapplies, isMisapplied}
 use Rattle.semantics.specs.Valid.{Counts, countsAt, FuncAppValid, Listed, ModelValid, ValidSig, Unreserved, WellApplied}
 use Rattle.semantics.proofs.Cases.{and-fails, or-first, or-second}
@@ -110,7 +110,7 @@ module _ (g : Sig) (v : ValidSig g) (n : ℕ) where
         comp = own .1;
       })
 
-  abbrev May : Law → Type 0
+  abbrev May : MapLaw → Type 0
   May = MaySay (Admitted g c) (λ e. e < n)
 
   module _ (ps : List ℕ) (parents : Listed n ps) (free : g .mor-apps ≡ []) where
@@ -145,8 +145,8 @@ module _ (g : Sig) (v : ValidSig g) (n : ℕ) where
       composition-may (f ∷ h ∷ k ∷ xs) l = tt
 
   module _ (x : FuncApp) (a : FuncAppValid c x) (u : Unreserved g x) where
-    lawsIn-may : (m : ModelM) → Operates m → All May (lawsIn m x)
-    unfolding lawsIn
+    lawsIn-may : (m : ModelM) → Operates m → All May (mapLawsIn m x)
+    unfolding mapLawsIn
     lawsIn-may m o =
         all-join May (elim (eqb (x .func) (m .id)) [ true ↦ identityLaws m (x .parents) (x .args) (x .result) | false ↦ [] ])
         (elim (eqb (x .func) (m .comp)) [ true ↦ compositionLaws m (x .parents) (x .args) (x .result) | false ↦ [] ])
@@ -168,13 +168,13 @@ module _ (g : Sig) (v : ValidSig g) (n : ℕ) where
             (a .args .below)
         comps false e = tt
 
-    lawsOf-may : (ms : List ModelM) → All Operates ms → All May (lawsOf ms x)
-    unfolding lawsOf
+    lawsOf-may : (ms : List ModelM) → All Operates ms → All May (mapLawsOf ms x)
+    unfolding mapLawsOf
     lawsOf-may [] o = tt
-    lawsOf-may (m ∷ ms) o = all-join May (lawsIn m x) (lawsOf ms x) (lawsIn-may m (o .0)) (lawsOf-may ms (o .1))
+    lawsOf-may (m ∷ ms) o = all-join May (mapLawsIn m x) (mapLawsOf ms x) (lawsIn-may m (o .0)) (lawsOf-may ms (o .1))
 
-  pub laws-may : (xs : List FuncApp) → All (FuncAppValid c) xs → All (Unreserved g) xs → All (MaySay (Admitted g c) (λ e. e < n)) (laws (g .models) xs)
-  unfolding laws
+  pub laws-may : (xs : List FuncApp) → All (FuncAppValid c) xs → All (Unreserved g) xs → All (MaySay (Admitted g c) (λ e. e < n)) (mapLaws (g .models) xs)
+  unfolding mapLaws
   laws-may [] a u = tt
   laws-may (x ∷ xs) a u =
-      all-join May (lawsOf (g .models) x) (laws (g .models) xs) (lawsOf-may x (a .0) (u .0) (g .models) operates) (laws-may xs (a .1) (u .1))
+      all-join May (mapLawsOf (g .models) x) (mapLaws (g .models) xs) (lawsOf-may x (a .0) (u .0) (g .models) operates) (laws-may xs (a .1) (u .1))

@@ -17,7 +17,7 @@ use Rattle.signature.specs.Model.{Sig}
 use Rattle.semantics.specs.Structure.{FuncApp, PredApp, Pair, pair, compareFuncApp, maxFuncApps, maxPairs}
 use Rattle.semantics.specs.Types.{Core, drain, imposeAll, grew}
 use Rattle.semantics.specs.Applying.{equate}
-use Rattle.semantics.specs.Laws.{laws}
+use Rattle.semantics.specs.MapLaws.{mapLaws}
 use Rattle.semantics.specs.Close.{Rewritten, rewriting, enterAll, demands, Turn, turn, drained, drainPass, rewrote, functionalityPass, typed}
 use Rattle.semantics.specs.Close.{typingPass, applyTurn, operationPass, Pass, passes, round}
 use Rattle.semantics.specs.Valid.{Counts, countsAt, FuncAppValid, PredAppValid, Table, ValidSig, Unreserved, WellApplied}
@@ -391,7 +391,7 @@ module _ (g : Sig) (v : ValidSig g) (n : ℕ) (preds : List PredApp) (pv : All (
           let b = h .after .begins in
           obeyAll-keeps-if (Within g c w xs) (Admitted g c) (λ e. e < n)
           (λ u k. all-map (λ x z. z .result) (u .apps) (k .after .begins .apps .each)) (λ x u new k. apply-within x u new k)
-          (laws (g .models) (t .apps)) t (laws-may g v n (t .apps) (b .apps .each) (b .unreserved)) h;
+          (mapLaws (g .models) (t .apps)) t (laws-may g v n (t .apps) (b .apps .each) (b .unreserved)) h;
     }
 
     all-within : Along RoundLaw passes (Begun g c w xs) (Within g c w xs)

@@ -15,7 +15,7 @@ use Rattle.signature.specs.Model.{Sig}
 use Rattle.semantics.specs.Structure.{Fact, FuncApp, func-app, PredApp, Structure, compareFact, compareFuncApp, canonicalFact, maxFacts, maxFuncApps, maxPairs}
 use Rattle.semantics.specs.Types.{Core, with-links, with-pairs, with-added, with-met, concreteTypesOf, refineAll, insertFact}
 use Rattle.semantics.specs.Applying.{Applied, insertFuncAppOrEquate}
-use Rattle.semantics.specs.Laws.{Law, holds, agree, laws}
+use Rattle.semantics.specs.MapLaws.{MapLaw, application, equation, mapLaws}
 use Rattle.semantics.specs.Close.{Turn, turn, reports, Pass, drainPass, functionalityPass, typed, demands, applyTurn, keyOf, Rounds, lastRound, oneMore}
 use Rattle.semantics.specs.Close.{goesOn, Closed, coreAtStart, CloseRun, close-run, closeBy, reportOf, afterClose}
 
@@ -61,18 +61,18 @@ module _ (insert : Insertions) where
   equalizeBy l r t = giveBy r l (giveBy l r t)
 
   -- `obey`
-  unfoldable pub obeyBy : Law → Turn → Turn
-  obeyBy (holds x) t = insert .app x t
-  obeyBy (agree ps l r) t = equalizeBy (keyOf (t .core .links) ps l) (keyOf (t .core .links) ps r) t
+  unfoldable pub obeyBy : MapLaw → Turn → Turn
+  obeyBy (application x) t = insert .app x t
+  obeyBy (equation ps l r) t = equalizeBy (keyOf (t .core .links) ps l) (keyOf (t .core .links) ps r) t
 
   -- `obeyAll`
-  unfoldable pub obeyAllBy : List Law → Turn → Turn
+  unfoldable pub obeyAllBy : List MapLaw → Turn → Turn
   obeyAllBy [] t = t
   obeyAllBy (x ∷ xs) t = obeyAllBy xs (obeyBy x t)
 
   -- `operationPass`
   unfoldable pub operationBy : Pass
-  operationBy g preds t = obeyAllBy (laws (g .models) (t .apps)) t
+  operationBy g preds t = obeyAllBy (mapLaws (g .models) (t .apps)) t
 
 -- a pass with the insertions that it makes
 abbrev pub PassBy : Type 0

@@ -3,7 +3,7 @@ use mathlib.Core.Path.{_≡_, ap, _∙_}
 use mathlib.Core.Bool.{false, not, _||_}
 use mathlib.Core.List.{List, [], _∷_}
 use lib.ListN.{length}
-use Rattle.ids.specs.Answers.{Cause, _if_, malformed, undeclared, reserved, wrongArity, noRoom}
+use Rattle.ids.specs.Answers.{Cause, _if_, malformed, undeclared, reserved, wrongArgCount, noRoom}
 use Rattle.ids.specs.Limits.{maxList}
 use Rattle.ids.specs.Ids.{tooLong, givenEls}
 use Rattle.ids.specs.Judge.{verdictOf}
@@ -54,7 +54,7 @@ abbrev later : Sig → model.Structure → model.FuncApp → List Cause
 later g s x =
     undeclared if not (appDeclared g s x)
     ∷ reserved if isReserved g (x .func)
-    ∷ wrongArity if isMisapplied x (g .models)
+    ∷ wrongArgCount if isMisapplied x (g .models)
     ∷ noRoom if appliedTo s x .full
     ∷ []
 
@@ -73,7 +73,7 @@ so-far c =
     let s1 = judge malformed begin (first .refuse-if .ensures) long-list in
     let s2 = judge undeclared s1 (second .refuse-if2 .ensures) (ap not (first .before .app-is-declared .ensures)) in
     let s3 = judge reserved s2 (third .refuse-if3 .ensures) (third .before .is-reserved .ensures) in
-    let s4 = judge wrongArity s3 (fourth .refuse-if4 .ensures) (fourth .before .is-misapplied .ensures) in
+    let s4 = judge wrongArgCount s3 (fourth .refuse-if4 .ensures) (fourth .before .is-misapplied .ensures) in
     let met = made c .insert-func-app-or-equate in
     let s5 = judge noRoom s4 (c .refuse-if5 .ensures) (met-full (a .structure) (met .result) _ (met .ensures)) in
     record {

@@ -7,7 +7,7 @@ use Rattle.ids.proofs.Counted.{found, passed, ended}
 use Rattle.ids.proofs.Tests.{told}
 use Rattle.semantics.specs.Calls.{isMisapplied}
 use Rattle.apps.specs.View.{funcAppOf}
-use Rattle.inserting.proofs.Laws.{by-arity}
+use Rattle.inserting.proofs.Laws.{by-arg-count}
 use borrow.Author.Needs.{needs}
 use Rattle.inserting.proofs.is_misapplied.Statement.{statement}
 use Rattle.inserting.proofs.is_misapplied.Tie as tie
@@ -27,7 +27,7 @@ returns c =
     let sized = test .before .before in
     let t = sized .before .args .t1 in
     let is = told (c .before .misapplies .ensures) (c .if1 .taken) in
-    found (by-arity _) modelOf (t .len) (t .items) (sized .size .ensures) _ (test .before .loop .inv) _ (test .loop-test .taken) is
+    found (by-arg-count _) modelOf (t .len) (t .items) (sized .size .ensures) _ (test .before .loop .inv) _ (test .loop-test .taken) is
 
 loop-again : tie.Need-loop-again Inv-loop μ-loop
 loop-again c =
@@ -35,13 +35,13 @@ loop-again c =
     let sized = test .before .before in
     let t = sized .before .args .t1 in
     let is = told (c .before .misapplies .ensures) (c .if1 .left) in
-    passed (by-arity _) modelOf (t .len) (t .items) (sized .size .ensures) _ (test .before .loop .inv) _ (test .loop-test .taken) is
+    passed (by-arg-count _) modelOf (t .len) (t .items) (sized .size .ensures) _ (test .before .loop .inv) _ (test .loop-test .taken) is
 
 returns-2 : tie.Need-returns-2 Inv-loop μ-loop
 returns-2 c =
     let sized = c .before .before in
     let t = sized .before .args .t1 in
-    ended (by-arity _) modelOf (t .len) (t .items) (sized .size .ensures) _ (c .before .loop .inv) (c .loop-test .left)
+    ended (by-arg-count _) modelOf (t .len) (t .items) (sized .size .ensures) _ (c .before .loop .inv) (c .loop-test .left)
 
 pub is-misapplied-spec : {M : Type 1} → statement M
 is-misapplied-spec =

@@ -4,7 +4,7 @@ use Prim.Native.Nat.{_-_}
 use native.Mathlib.Omega.{arith}
 use lib.ListN.{drop}
 use Rattle.signature.specs.Model.{viewModels}
-use Rattle.semantics.specs.Laws.{lawsOf}
+use Rattle.semantics.specs.MapLaws.{mapLawsOf}
 use Rattle.semantics.specs.Close.{obeyAll}
 use Rattle.apps.specs.View.{funcAppOf}
 use Rattle.operations.specs.View.{tables, TurnToward}
@@ -15,8 +15,8 @@ use Rattle.operations.proofs.laws_of.Tie as tie
 
 abbrev Inv-loop : tie.InvT-loop
 Inv-loop els₀ apps₀ pairs₀ app models n now₀ i₀ els apps pairs now i =
-    TurnToward (tables els₀ apps₀ pairs₀ now₀) (tables els apps pairs now) (obeyAll (lawsOf (drop i (viewModels models)) (funcAppOf app)))
-    (obeyAll (lawsOf (viewModels models) (funcAppOf app)))
+    TurnToward (tables els₀ apps₀ pairs₀ now₀) (tables els apps pairs now) (obeyAll (mapLawsOf (drop i (viewModels models)) (funcAppOf app)))
+    (obeyAll (mapLawsOf (viewModels models) (funcAppOf app)))
 
 abbrev μ-loop : tie.MeasureT-loop
 μ-loop els₀ apps₀ pairs₀ app models n now₀ i₀ els apps pairs now i = n - i

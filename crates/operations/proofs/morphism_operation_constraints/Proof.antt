@@ -5,7 +5,7 @@ use native.Mathlib.Omega.{arith}
 use lib.ListN.{drop}
 use Rattle.signature.specs.Model.{viewModels, sigOf}
 use Rattle.semantics.specs.Structure.{maxFuncApps}
-use Rattle.semantics.specs.Laws.{laws}
+use Rattle.semantics.specs.MapLaws.{mapLaws}
 use Rattle.semantics.specs.Close.{obeyAll}
 use Rattle.app_rows.specs.View.{funcAppsIn}
 use Rattle.operations.specs.View.{tables, TurnToward}
@@ -16,8 +16,8 @@ use Rattle.operations.proofs.morphism_operation_constraints.Tie as tie
 
 abbrev Inv-loop : tie.InvT-loop
 Inv-loop els₀ apps₀ pairs₀ models n rows now₀ i₀ els apps pairs now i =
-    TurnToward (tables els₀ apps₀ pairs₀ now₀) (tables els apps pairs now) (obeyAll (laws (viewModels models) (drop i (funcAppsIn n rows))))
-    (obeyAll (laws (viewModels models) (funcAppsIn n rows)))
+    TurnToward (tables els₀ apps₀ pairs₀ now₀) (tables els apps pairs now) (obeyAll (mapLaws (viewModels models) (drop i (funcAppsIn n rows))))
+    (obeyAll (mapLaws (viewModels models) (funcAppsIn n rows)))
 
 abbrev μ-loop : tie.MeasureT-loop
 μ-loop els₀ apps₀ pairs₀ models n rows now₀ i₀ els apps pairs now i = n - i
