@@ -12,7 +12,7 @@ use crate::compare::{first_difference, stream_of, Subject};
 use crate::history::History;
 use crate::rng::Rng;
 use crate::settled::{self, Calls};
-use crate::{edges, histories, proved, random, settles, shrink, SAMPLE};
+use crate::{edges, histories, maps, proved, random, settles, shrink, SAMPLE};
 
 /// What an entry prints, without the line that begins it.
 fn answers(entry: &Entry) -> Vec<String> {
@@ -335,13 +335,13 @@ const NUMBERS: [(u16, &[u16]); 19] = [
     (6, &[3, 9]),
     (7, &[3, 5, 9]),
     (8, &[3, 5, 9]),
-    (9, &[3, 5, 7, 9]),
+    (9, &[3, 5, 7, 9, 12]),
     (10, &[3, 5, 9]),
     (11, &[3, 5, 8]),
     (12, &[3, 5, 6, 8]),
-    (13, &[3, 11]),
+    (13, &[3, 9, 11]),
     (14, &[3]),
-    (15, &[3, 11]),
+    (15, &[3, 9, 11]),
     (101, &[5]),
     (102, &[5]),
     (103, &[3, 5]),
@@ -432,4 +432,25 @@ fn the_sample_is_what_the_oracle_answers() {
     let output = fs::read_to_string(directory.join("stdout")).expect("the sample is there");
     assert!(input == stream_of(&histories(SAMPLE.0, SAMPLE.1)), "make the sample again");
     assert!(output == stream::answer(&input), "make the sample again");
+}
+
+#[test]
+fn zz_show() {
+    for (name, h) in [
+        ("second false", maps::nine_in_a_second_close(false)),
+        ("second true", maps::nine_in_a_second_close(true)),
+        ("two long", maps::chains_in_boxes(4, 30)),
+        ("rev", maps::reversed_chain(127)),
+        ("fwd", maps::forward_chain(127)),
+        ("more", maps::one_more_than_elements()),
+        ("beside", maps::beside_the_book()),
+        ("builder", maps::builder()),
+    ] {
+        let lines: Vec<String> = list(&h).into_iter().filter(|l| !l.starts_with("number") && !l.starts_with("answer")).collect();
+        println!("{name}: {lines:?}");
+    }
+    for h in maps::limits() {
+        let lines: Vec<String> = list(&h).into_iter().filter(|l| !l.starts_with("number") && !l.starts_with("answer")).collect();
+        println!("limit: {lines:?}");
+    }
 }
