@@ -68,7 +68,8 @@ pub fn all() -> Vec<Entry> {
         entries.extend([history.list_with_flags(), history.without_finds().sheet()]);
         entries.push(history.with_settles().list_with_flags());
     }
-    for history in [maps::reversed_chain(127), maps::forward_chain(127), maps::chains_in_boxes(4, 30)]
+    for history in
+        [maps::reversed_chain(127), maps::forward_chain(127), maps::chains_in_boxes(4, 30)]
     {
         entries.extend([history.list(), history.with_settles().sheet()]);
     }

@@ -334,7 +334,7 @@ fn composites(count: u16) -> History {
 }
 
 /// Applications that give no fact and no law.
-fn fill(h: &mut History, count: u16) -> &mut History {
+pub fn fill(h: &mut History, count: u16) -> &mut History {
     for number in 0..count {
         h.apply(FILL, &[], &[number / 16, number % 16], 0);
     }
@@ -408,7 +408,7 @@ pub fn limits() -> Vec<History> {
 
 /// Four types for each of 255 elements and one for the last; a dom that gives a fact to
 /// its argument and to its value; a cod that gives none.
-fn many_facts() -> History {
+pub fn many_facts() -> History {
     let mut h = History::new();
     h.model(&[]).mor(0, &[]).plain(&[0]).plain(&[]).plain(&[]).plain(&[]).plain(&[]).plain(&[]);
     h.func(&[], &[7], 7).func(&[], &[], 2).func(&[], &[0], 1).func(&[], &[1, 1], 1);
