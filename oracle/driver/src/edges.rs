@@ -73,6 +73,7 @@ pub fn all() -> Vec<Entry> {
     {
         entries.extend([history.list(), history.with_settles().sheet()]);
     }
+    entries.push(maps::one_more_than_elements(31).list());
     let refused = [maps::refused_in_full(), maps::nine_in_a_second_close(true)];
     entries.extend(refused.iter().map(History::list_with_dumps));
     entries.push(refused_close_in_full().list_with_dumps());

@@ -3,6 +3,7 @@
 
 use crate::edges::Numbered;
 use crate::history::{record, History};
+use crate::settles::as_many_closes;
 
 /// The functions of the model in the signatures here.
 pub const DOM: u16 = 0;
@@ -15,7 +16,7 @@ pub const FILL: u16 = 4;
 
 /// A function that gives a box one part; two boxes with one part join where one is
 /// marked.
-const PART: u16 = 5;
+pub const PART: u16 = 5;
 
 /// A Model 0 with its Mor 1 and functions.
 pub fn signature() -> History {
@@ -53,7 +54,7 @@ pub fn small() -> Vec<History> {
     cases.extend([reversed_chain(6), forward_chain(6), squares(5), chains_in_boxes(2, 3)]);
     cases.extend(parents());
     cases.extend(stale());
-    cases.extend([one_more_than_elements(), no_law_to_obey()]);
+    cases.extend([one_more_than_elements(2), one_more_than_elements(4), no_law_to_obey()]);
     cases
 }
 
@@ -292,12 +293,25 @@ pub fn stale() -> Vec<History> {
     cases
 }
 
-/// A settle of one close more than there are elements: the first merges, the second
-/// adds an application.
-pub fn one_more_than_elements() -> History {
-    let mut h = with_marks(under_boxes(), 2, &[1]);
-    h.apply(COMP, &[1], &[0, 0], 0).apply(DOM, &[0], &[0], 0);
-    h.impose(0, 1, &[0]).impose(0, 1, &[1]).settle();
+/// A settle of one close more than there are elements, which are 2 to 31: all but the
+/// last two merge one element each with 0, the last of them element 1, and then the
+/// laws add an application.
+pub fn one_more_than_elements(els: u16) -> History {
+    let mut h = with_marks(under_boxes(), els, &[1]);
+    if els == 2 {
+        h.impose(0, 1, &[0]).impose(0, 1, &[1]);
+    } else {
+        let slow = as_many_closes(els).records;
+        let types = usize::from(els) - 1;
+        let (model, mor) = (types as u16, types as u16 + 1);
+        h.records = slow[..types].to_vec();
+        h.model(&[]).mor(model, &[]);
+        h.func(&[0], &[mor], model).func(&[0], &[mor], model);
+        h.func(&[0], &[model], mor).func(&[0], &[mor, mor], mor);
+        h.model_ids(model, mor, [DOM, COD, ID, COMP]);
+        h.records.extend(&slow[types..slow.len() - 1]);
+    }
+    h.apply(COMP, &[1], &[0, 0], 0).apply(DOM, &[0], &[0], 0).settle();
     h
 }
 
@@ -323,7 +337,7 @@ pub fn identities(count: u16) -> History {
 
 /// Composites of one map whose dom is not that of the results. Each queues two pairs:
 /// 128 of them close, 129 have no room.
-fn composites(count: u16) -> History {
+pub fn composites(count: u16) -> History {
     let mut h = signature();
     let (f, first) = (2, 4);
     h.els(usize::from(first + count)).apply(DOM, &[], &[f], 0).apply(DOM, &[], &[3], 1);
@@ -403,6 +417,7 @@ pub fn limits() -> Vec<History> {
         h.close().root_const(5).close().conflicts();
     }
     cases.extend([nine_in_a_second_close(false), nine_in_a_second_close(true)]);
+    cases.extend([pairs_in_a_second_close(128), pairs_in_a_second_close(129)]);
     cases
 }
 
@@ -456,6 +471,17 @@ pub fn nine_in_a_second_close(one_more: bool) -> History {
     fill(&mut h, 253 + u16::from(one_more));
     h.apply(COMP, &[17], &[4, 5], 6).apply(DOM, &[16], &[4], 7);
     h.impose(2, 1, &[16]).impose(2, 1, &[17]).settle().root_const(17).close().close().settle();
+    h
+}
+
+/// The same with pairs: each composite queues two.
+fn pairs_in_a_second_close(count: u16) -> History {
+    let mut h = with_marks(under_boxes(), 10 + count, &[1]);
+    h.apply(DOM, &[0], &[3], 4).apply(DOM, &[0], &[5], 6);
+    for g in 10..10 + count {
+        h.apply(COMP, &[1], &[3, g], 5);
+    }
+    h.impose(2, 1, &[0]).impose(2, 1, &[1]).settle().root_const(1).close().close().settle();
     h
 }
 

@@ -92,8 +92,12 @@ impl<'a> Maker<'a> {
                 self.settle_slowly();
                 self.rng.between(0, 10)
             }
-            25..=28 => {
+            25..=31 => {
                 self.fill_with_maps();
+                self.rng.between(0, 12)
+            }
+            32..=61 => {
+                self.join_boxes();
                 self.rng.between(0, 12)
             }
             _ => {
@@ -210,22 +214,27 @@ impl<'a> Maker<'a> {
         self.funcs = vec![(0, 1), (0, 1), (0, 1), (0, 2), (0, 0)];
         let mut parents = 0;
         let fill = |h: &mut History, count: usize| _ = maps::fill(h, count as u16);
-        match self.rng.below(5) {
+        match self.rng.below(7) {
             0 => {
-                let count = self.rng.between(126, 131);
+                let count = self.rng.between(127, 131);
                 self.history = maps::identities(count as u16);
                 self.els = count + 1;
             }
+            5 => {
+                let count = self.rng.between(125, 130);
+                self.history = maps::composites(count as u16);
+                self.els = count + 4;
+            }
             1 => {
-                let count = self.rng.between(70, 120);
+                let count = self.rng.between(103, 128);
                 self.history = maps::identities(count as u16);
                 self.history.els(255 - count);
                 self.els = 256;
                 // Pairs of functionality.
-                let others = self.rng.between(254, 259).saturating_sub(2 * count).clamp(2, 50);
+                let others = self.rng.between(254, 259) - 2 * (count - 1);
                 for el in 0..=others as u16 {
-                    self.history.apply(maps::FILL, &[], &[150 + el], 200 + el);
-                    self.history.equal(150, 150 + el);
+                    self.history.apply(maps::FILL, &[], &[130 + el], 190 + el);
+                    self.history.equal(130, 130 + el);
                 }
             }
             2 => {
@@ -238,11 +247,22 @@ impl<'a> Maker<'a> {
                 self.types = vec![(0, 1), (0, 3), (1, 0), (0, 0), (0, 0), (0, 0), (0, 0), (0, 0)];
                 self.preds = vec![(0, 4)];
                 self.els = 256;
-                fill(&mut self.history, self.rng.between(246, 254));
-                for _ in 0..self.rng.between(0, 3) {
-                    let arity = self.rng.between(0, 4);
+                fill(&mut self.history, self.rng.between(250, 254));
+                self.history.apply(maps::ID, &[], &[16], 17);
+                for _ in 0..self.rng.between(0, 2) {
+                    let arity = self.rng.between(0, 3);
                     self.history.holds(0, &[], &[255; 4][..arity]);
                 }
+            }
+            6 => {
+                let (chains, count) = (self.rng.between(2, 4), self.rng.between(3, 14));
+                self.history = maps::chains_in_boxes(chains as u16, count as u16);
+                self.history.records.truncate(self.history.records.len() - 3);
+                self.types = vec![(0, 1), (1, 0), (0, 1), (0, 3)];
+                self.funcs = vec![(2, 1), (2, 1), (2, 1), (2, 2)];
+                self.preds = vec![(1, 1)];
+                parents = 2;
+                self.els = 4 * chains + count + 2;
             }
             _ => {
                 self.history = maps::under_boxes();
@@ -253,7 +273,7 @@ impl<'a> Maker<'a> {
                 self.history.els(17);
                 self.history.marked_el().marked_el().els(2);
                 self.els = 21;
-                fill(&mut self.history, self.rng.between(244, 253));
+                fill(&mut self.history, self.rng.between(248, 253));
                 // Boxes 16, 17 and 18 join at the end of a close, some maps are in one
                 // and some in another.
                 for _ in 0..self.rng.between(2, 4) {
@@ -271,13 +291,43 @@ impl<'a> Maker<'a> {
         }
         self.maps = vec![([maps::DOM, maps::COD, maps::ID, maps::COMP], parents)];
         self.near = self.rng.pick(&[6, 30]);
-        for _ in 0..self.rng.between(0, 5) {
+        for _ in 0..self.rng.between(0, 2) {
             self.add_map();
         }
-        if self.rng.percent(30) {
+        if self.rng.percent(20) {
             self.add_call();
         }
         self.add_close();
+    }
+
+    /// Maps in boxes that join in typing, so that the laws of that round find keys and
+    /// results that are no roots. The boxes may be maps themselves.
+    fn join_boxes(&mut self) {
+        self.history = maps::under_boxes();
+        self.types = vec![(0, 1), (1, 0), (0, 1), (0, 3)];
+        self.funcs = vec![(1, 1), (1, 1), (1, 1), (1, 2), (0, 0), (1, 0)];
+        self.preds = vec![(1, 1)];
+        self.maps = vec![([maps::DOM, maps::COD, maps::ID, maps::COMP], 1)];
+        self.marks = self.rng.pick(&[30, 60]);
+        self.near = self.rng.between(3, 6);
+        self.add_els(6, 12);
+        for _ in 0..self.rng.between(1, 2) {
+            let part = self.an_el();
+            for _ in 0..self.rng.between(2, 4) {
+                let parent = self.an_el();
+                match self.rng.below(5) {
+                    0..=1 => _ = self.history.holds(0, &[parent], &[part]),
+                    2..=3 => _ = self.history.apply(maps::PART, &[parent], &[], part),
+                    _ => _ = self.history.impose(part, 1, &[parent]),
+                }
+            }
+        }
+        for _ in 0..self.rng.between(2, 7) {
+            self.add_map();
+        }
+        if self.rng.percent(70) {
+            self.add_close();
+        }
     }
 
     fn add_els(&mut self, least: usize, most: usize) {
@@ -503,6 +553,7 @@ impl<'a> Maker<'a> {
                 81..=88 => self.add_close(),
                 89..=90 => _ = self.history.equal(a, self.els as u16 - 1),
                 91..=93 => self.add_imposition(a),
+                94..=97 if !self.maps.is_empty() && self.rng.percent(70) => self.add_map(),
                 94..=97 => self.add_application(),
                 98..=99 => self.add_predicate(),
                 100..=104 => _ = self.history.root(a),

@@ -333,12 +333,13 @@ fn a_settle_meets_nine_after_an_accepted_close() {
     assert_eq!(structure_after(&refused, settle), structure_after(&refused, settle + 1));
 }
 
-/// With a law that adds an application a settle of two elements takes three closes.
 #[test]
-fn a_settle_of_one_close_more_than_elements() {
-    let h = maps::one_more_than_elements();
-    assert_eq!(list(&h).last(), Some(&"settle 3 1".to_string()));
-    assert_eq!(tagged(&structure(&h), "e ").len(), 2);
+fn settles_of_one_close_more_than_elements() {
+    for els in 2..=31 {
+        let h = maps::one_more_than_elements(els);
+        assert_eq!(list(&h).last(), Some(&format!("settle {} {}", els + 1, els - 1)));
+        assert_eq!(tagged(&structure(&h), "e ").len(), els.into());
+    }
 }
 
 /// A history that may grow by `limit` records of one kind and no more.

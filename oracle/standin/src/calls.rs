@@ -113,6 +113,7 @@ impl State {
             (YesSettles, _) => is_yes,
             (NoSettles, Said(false)) => true,
             (ElevenSettles, Refused(11)) => true,
+            (NineSettles, Refused(9)) => [13, 15].contains(&w[1]),
             _ => false,
         };
         let is_taken = is_yes && !stays;

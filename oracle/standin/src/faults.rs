@@ -210,6 +210,7 @@ faults! {
     RefusedLookupUnsettles: "a refused find or lookup takes settled away",
     NineUnsettles: "a call refused with 9 takes settled away",
     ElevenSettles: "a call refused with 11 settles",
+    NineSettles: "a close or settle refused with 9 settles",
     QuietCloseLeavesTaken: "what a yes took away only a close after one with a change gives back",
     SettleLeavesTaken: "a settle does not give back what a yes took away",
 
