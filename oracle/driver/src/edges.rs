@@ -65,8 +65,11 @@ pub fn all() -> Vec<Entry> {
     }
     entries.push(fact_limits()[0].without_finds().sheet());
     for history in maps::limits() {
-        entries.extend([history.list_with_flags(), history.without_finds().sheet()]);
-        entries.push(history.with_settles().list_with_flags());
+        let settling = history.with_settles();
+        entries.extend([history.list_with_flags(), settling.without_finds().sheet()]);
+    }
+    for count in [129, 130] {
+        entries.push(maps::identities(count).close().sheet());
     }
     for history in
         [maps::reversed_chain(127), maps::forward_chain(127), maps::chains_in_boxes(4, 30)]
