@@ -1,5 +1,5 @@
 -- Rows on number 9 inside a close (02, M-102), each computed by itself.
-use mathlib.Core.Path.{_≡_, refl}
+use mathlib.Core.Path.{refl}
 use mathlib.Core.List.{List, [], _∷_, _++_, List·Memᴰ}
 use Prim.Native.Nat.{ℕ, zero, suc, _-_, _/_, _%_}
 use Rattle.ids.proofs.Sorted.{all-at}

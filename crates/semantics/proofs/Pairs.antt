@@ -2,7 +2,7 @@
 -- until a number is met; of the rounds also after it. The bound is met: of `maxFuncApps` applications that become one key, all but the first queue
 -- a pair, and a refinement queues one more.
 use mathlib.Core.Path.{_≡_, refl, sym, subst, ap}
-use mathlib.Core.Bool.{Bool, true, false, _&&_}
+use mathlib.Core.Bool.{false}
 use mathlib.Core.List.{List, [], _∷_, _++_}
 use Prim.Native.Nat.{ℕ, zero, suc, _≤_, _<_}
 use native.Mathlib.Omega.{arith}

@@ -11,15 +11,15 @@ use Rattle.ids.specs.declared.Ordering.the-variants.{Less, Equal, Greater}
 use Rattle.ids.specs.Answers.{Cause, Answered, accepted, refused, Outcome, firstOf, decided, _if_, malformed, undeclared, wrongKind, reserved, wrongArgCount, givenAgain, noRoom, noAmbient}
 use Rattle.ids.specs.Ids.{tooLong, allBelow}
 use Rattle.ids.specs.Table.{present, placed, lookupOf}
-use Rattle.unification.specs.Roots.{maxEls, rootOf, shortOf, addedOf, FindM, findOf, findCauses}
+use Rattle.unification.specs.Roots.{maxEls, shortOf, addedOf, FindM, findOf, findCauses}
 use Rattle.signature.specs.Model as signature
 use Rattle.signature.specs.Model.{Sig, TypeM, PredM, FuncM, ModelM, MorAppM}
 use Rattle.signature.specs.Calls.{isType, areTypes, isFunc, isModel, inMorApps, TypedM, at, absent, concreteTypeAt, lookupTypeCauses}
 use Rattle.signature.specs.Calls.{typeCauses, withType, predCauses, withPred, funcCauses, withFunc, modelCauses, withModel}
 use Rattle.signature.specs.Calls.{morAppCauses, withMorApp}
-use Rattle.semantics.specs.Structure.{Fact, FuncApp, PredApp, Pair, pair, Var, Ambient, ambient, Structure, empty, maxPairs}
-use Rattle.semantics.specs.Structure.{maxImpositions, maxFuncApps, maxPredApps, maxVars, compareFact, compareFuncApp, comparePredApp}
-use Rattle.semantics.specs.Structure.{compareVar, compareAmbient, canonicalFact, canonicalFuncApp, with-links, with-marks}
+use Rattle.semantics.specs.Structure.{Fact, FuncApp, PredApp, Var, Ambient, ambient, Structure, empty, maxPairs}
+use Rattle.semantics.specs.Structure.{maxImpositions, maxPredApps, maxVars, compareFact, comparePredApp}
+use Rattle.semantics.specs.Structure.{compareVar, compareAmbient, canonicalFact, with-links, with-marks}
 use Rattle.semantics.specs.Structure.{with-func-apps, with-pred-apps, with-vars, with-ambients, with-pairs, with-impositions, with-flags}
 use Rattle.semantics.specs.Applying.{Equated, equate, Applied, insertFuncAppOrEquate}
 use Rattle.semantics.specs.Close as closing
