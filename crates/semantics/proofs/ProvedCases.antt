@@ -281,6 +281,12 @@ signature102 =
     typ model [] ∷ typ (mor 0) [] ∷ func [] (1 ∷ []) 0 ∷ func [] (1 ∷ []) 0 ∷ func [] (0 ∷ []) 1 ∷ func [] (1 ∷ 1 ∷ []) 1 ∷ func [] [] 0
     ∷ modelOf 0 1 (0 ∷ 1 ∷ 2 ∷ 3 ∷ []) ∷ []
 
+-- the same, with a type 2 of one parent, functions 4 and 5 over one parent whose results are of that type, and no types demanded of maps
+abbrev pub boxed102 : List Call
+boxed102 =
+    typ model [] ∷ typ (mor 0) [] ∷ typ plain (0 ∷ []) ∷ downFrom 4 (λ n. func [] [] 0)
+    ++ (func (0 ∷ []) [] 2 ∷ func (0 ∷ []) [] 2 ∷ modelOf 0 1 (0 ∷ 1 ∷ 2 ∷ 3 ∷ []) ∷ [])
+
 abbrev pub dom : ℕ → ℕ → Call
 dom f a = app 0 [] (f ∷ []) a
 
@@ -318,10 +324,13 @@ argCountRows =
       output = tells (refuses 3 ∷ refuses 5 ∷ refuses 5 ∷ []);
       claims = key 0 [] [] is result (some 0) ∷ [];
     }
-    -- with a record 5, 7 comes before 12
+    -- with a record 5, of whichever model, 7 comes before 12
     ∷ record {
-      source = calls (signature7 ++ (plainEl ∷ app 2 [] [] 0 ∷ app 2 [] (0 ∷ []) 0 ∷ app 3 [] (0 ∷ 0 ∷ []) 0 ∷ []));
-      output = tells (refuses 7 ∷ refuses 7 ∷ refuses 7 ∷ []);
+      source = calls
+          (signature7
+          ++ (modelOf 1 3 (5 ∷ 6 ∷ 7 ∷ 8 ∷ []) ∷ plainEl ∷ app 2 [] [] 0 ∷ app 2 [] (0 ∷ []) 0 ∷ app 3 [] (0 ∷ 0 ∷ []) 0 ∷ app 7 [] (0 ∷ []) 0
+          ∷ app 8 [] (0 ∷ 0 ∷ []) 0 ∷ []));
+      output = tells (refuses 7 ∷ refuses 7 ∷ refuses 7 ∷ refuses 7 ∷ refuses 7 ∷ []);
       claims = [];
     }
     ∷ []
@@ -363,24 +372,74 @@ mapRows =
       output = tells (closes 1 0 4 ∷ []);
       claims = key 0 [] (3 ∷ []) is result (some 5) ∷ [];
     }
+    -- the laws of a composite in their order: the middle one, last, gives dom(0) = 2, which the next round gives to the composite
+    ∷ record {
+      source = calls (signature102 ++ (plainEl ∷ plainEl ∷ plainEl ∷ composite 0 0 1 ∷ cod 0 2 ∷ close ∷ []));
+      output = tells (closes 1 0 3 ∷ []);
+      claims = key 0 [] (1 ∷ []) is result (some 2) ∷ key 1 [] (1 ∷ []) is result (some 2) ∷ [];
+    }
+    -- an application that a law adds is a change, and so is a pair that it queues
+    ∷ record {
+      source = calls (signature102 ++ (plainEl ∷ plainEl ∷ dom 1 0 ∷ close ∷ identity 0 1 ∷ close ∷ []));
+      output = tells (closes 1 0 2 ∷ closes 1 0 2 ∷ []);
+      claims = settled is flag false ∷ [];
+    }
+    ∷ record {
+      source = calls (signature102 ++ (plainEl ∷ plainEl ∷ plainEl ∷ dom 1 0 ∷ cod 1 2 ∷ close ∷ identity 0 1 ∷ close ∷ []));
+      output = tells (closes 1 0 2 ∷ closes 1 1 3 ∷ []);
+      claims = link 2 is el 0 ∷ [];
+    }
+    -- the laws of every model
+    ∷ record {
+      source = calls
+          (typesAndFuncs
+          ++ (modelOf 0 2 (0 ∷ 1 ∷ 2 ∷ 3 ∷ []) ∷ modelOf 1 3 (4 ∷ 5 ∷ 6 ∷ 7 ∷ []) ∷ plainEl ∷ plainEl ∷ plainEl
+          ∷ app 6 [] (0 ∷ []) 2 ∷ app 6 [] (1 ∷ []) 2 ∷ close ∷ []));
+      output = tells (closes 1 1 3 ∷ []);
+      claims = link 1 is el 0 ∷ key 4 [] (2 ∷ []) is result (some 0) ∷ [];
+    }
     -- what is looked up is looked up under the stored parents: typing merges the marked 1 into 0, and the law finds dom(1; 2) = 5 in that round. By
     -- roots it would be found in the next one, and a third round would run
     ∷ record {
       source = calls
-          (typ model [] ∷ typ (mor 0) [] ∷ typ plain (0 ∷ []) ∷ downFrom 4 (λ n. func [] [] 0)
-          ++ (func (0 ∷ []) [] 2 ∷ modelOf 0 1 (0 ∷ 1 ∷ 2 ∷ 3 ∷ []) ∷ plainEl ∷ markedEl ∷ downFrom 5 (λ n. plainEl)
+          (boxed102 ++ (plainEl ∷ markedEl ∷ downFrom 5 (λ n. plainEl)
           ++ (app 4 (0 ∷ []) [] 6 ∷ app 4 (1 ∷ []) [] 6 ∷ app 3 (1 ∷ []) (2 ∷ 3 ∷ []) 4 ∷ app 0 (1 ∷ []) (2 ∷ []) 5 ∷ close ∷ [])));
       output = tells (closes 1 1 2 ∷ []);
       claims = link 1 is el 0 ∷ key 0 (0 ∷ []) (4 ∷ []) is result (some 5) ∷ [];
     }
+    -- .. and the root of the argument: typing merges the marked 2 into 1, and the law of the composite of 2 finds dom(1) = 5
+    ∷ record {
+      source = calls
+          (boxed102 ++ (plainEl ∷ plainEl ∷ markedEl ∷ downFrom 4 (λ n. plainEl)
+          ++ (app 4 (1 ∷ []) [] 6 ∷ app 4 (2 ∷ []) [] 6 ∷ composite 2 3 4 ∷ dom 1 5 ∷ close ∷ [])));
+      output = tells (closes 1 1 2 ∷ []);
+      claims = link 2 is el 1 ∷ key 0 [] (4 ∷ []) is result (some 5) ∷ [];
+    }
+    -- what is added is added as roots: typing merges the marked 1 into 0, and the identity over 1 meets dom(0; 3) = 4
+    ∷ record {
+      source = calls
+          (boxed102 ++ (plainEl ∷ markedEl ∷ downFrom 4 (λ n. plainEl)
+          ++ (app 4 (0 ∷ []) [] 5 ∷ app 4 (1 ∷ []) [] 5 ∷ app 2 (1 ∷ []) (2 ∷ []) 3 ∷ app 0 (0 ∷ []) (3 ∷ []) 4 ∷ close ∷ [])));
+      output = tells (closes 1 2 3 ∷ []);
+      claims = link 4 is el 2 ∷ [];
+    }
     -- a close shortens a path: typing merges 2 into 1 and 1 into 0, and then the law dom(4) = 0 meets the stored result 2, whose root it finds
     ∷ record {
       source = calls
-          (typ model [] ∷ typ (mor 0) [] ∷ typ plain (0 ∷ []) ∷ downFrom 4 (λ n. func [] [] 0)
-          ++ (func (0 ∷ []) [] 2 ∷ func (0 ∷ []) [] 2 ∷ modelOf 0 1 (0 ∷ 1 ∷ 2 ∷ 3 ∷ []) ∷ plainEl ∷ markedEl ∷ markedEl ∷ plainEl ∷ plainEl
-          ∷ app 4 (1 ∷ []) [] 3 ∷ app 4 (2 ∷ []) [] 3 ∷ app 5 (0 ∷ []) [] 3 ∷ app 0 [] (4 ∷ []) 2 ∷ app 2 [] (0 ∷ []) 4 ∷ close ∷ []));
+          (boxed102
+          ++ (plainEl ∷ markedEl ∷ markedEl ∷ plainEl ∷ plainEl
+          ∷ app 4 (1 ∷ []) [] 3 ∷ app 4 (2 ∷ []) [] 3 ∷ app 5 (0 ∷ []) [] 3 ∷ dom 4 2 ∷ identity 0 4 ∷ close ∷ []));
       output = tells (closes 1 2 2 ∷ []);
       claims = link 1 is el 0 ∷ link 2 is el 0 ∷ [];
+    }
+    -- two elements in three closes, "the element count plus one": the first merges them in its impositions, the second finds by a law what that brought
+    -- together and adds cod(0; 0) = 0, and the third reports no change
+    ∷ record {
+      source = calls
+          (boxed102
+          ++ (plainEl ∷ markedEl ∷ app 3 (1 ∷ []) (0 ∷ 0 ∷ []) 0 ∷ app 0 (0 ∷ []) (0 ∷ []) 0 ∷ impose 0 2 (0 ∷ []) ∷ impose 0 2 (1 ∷ []) ∷ settle ∷ []));
+      output = tells (settles 3 1 ∷ []);
+      claims = link 1 is el 0 ∷ key 1 (0 ∷ []) (0 ∷ []) is result (some 0) ∷ settled is flag true ∷ [];
     }
     ∷ argCountRows
 
