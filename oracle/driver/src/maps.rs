@@ -104,7 +104,7 @@ pub fn disagreeing() -> Vec<History> {
     cases
 }
 
-/// Laws whose premises name exact elements would miss this: the close joins 4 and 5.
+/// The close joins 4 and 5: 0 and 3 are equal, and so are the doms of 0 and 2.
 pub fn beside_the_book() -> History {
     let mut h = signature();
     h.els(6).apply(COMP, &[], &[0, 1], 2).apply(DOM, &[], &[3], 4).apply(DOM, &[], &[2], 5);

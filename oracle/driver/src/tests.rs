@@ -283,10 +283,21 @@ fn each_law_alone() {
 }
 
 #[test]
-fn laws_reach_past_the_elements_given() {
+fn laws_beside_equalities() {
     let h = maps::beside_the_book();
     assert_eq!(list(&h)[h.records.len() - 2..], ["close 1 2 3", "close 0 0 1"]);
     assert_eq!(tagged(&structure(&h), "e ")[3..], ["e 3 0 0", "e 4 4 0", "e 5 4 0"]);
+}
+
+/// Laws whose premises name exact elements would find nothing here, and leave 0 and 1
+/// apart.
+#[test]
+fn laws_reach_past_the_elements_given() {
+    let mut h = maps::signature();
+    h.els(4).apply(maps::COMP, &[], &[1, 1], 0);
+    h.apply(maps::DOM, &[], &[2], 0).apply(maps::DOM, &[], &[3], 1);
+    h.equal(1, 2).equal(0, 3).close();
+    assert_eq!(tagged(&structure(&h), "e "), ["e 0 0 0", "e 1 0 0", "e 2 1 0", "e 3 0 0"]);
 }
 
 #[test]
