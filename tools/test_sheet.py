@@ -175,6 +175,28 @@ class Assembling(unittest.TestCase):
         records = words_of("element a next 2\nelement b\nelement c next 0\nequal b c")
         self.assertEqual(records[3], record(7, 2, 1))
 
+    def test_maps(self):
+        """The text on maps in README.md, record by record."""
+        readme = (TOOL.parent / "README.md").read_text(encoding="utf-8")
+        text = re.search(r"## Maps.*?```\n(.*?)```", readme, re.DOTALL).group(1)
+        expected = [record(1, 1), record(1, 3, 0), record(3, 0, 0, [], [1]), record(3, 0, 0, [], [1]),
+                    record(3, 0, 1, [], [0]), record(3, 0, 1, [], [1, 1]),
+                    record(4, 0, 1, [], [0, 1, 2, 3]), *[record(6)] * 5,
+                    record(9, 0, 0, [], [2]), record(9, 2, 3, [], [1]), record(9, 3, 4, [], [2, 3]),
+                    record(13)]
+        self.assertEqual([words[1:] for words in words_of(text)], [words[1:] for words in expected])
+
+    def test_maps_with_other_counts(self):
+        """What is refused with 12, or with 7, can be written."""
+        start = ("type Set model\ntype Drive mor Set\n" + "function -> Set\n" * 2
+                 + "function id -> Drive\nfunction comp -> Drive\nfunction act -> Set\n"
+                 "model Set Drive (0 1 id comp)\nelement a\nelement b\n")
+        records = words_of(start + "apply id = a\napply id (a b) = a\napply comp (a) = b\n"
+                           "apply comp (a b a) = b\napply act (a b) = b")
+        expected = [record(9, 2, 0), record(9, 2, 0, [], [0, 1]), record(9, 3, 1, [], [0]),
+                    record(9, 3, 1, [], [0, 1, 0]), record(9, 4, 1, [], [0, 1])]
+        self.assertEqual([words[1:] for words in records[-5:]], [words[1:] for words in expected])
+
     def test_p2(self):
         text = ("type Box model\ntype Drum plain [Box]\nfunction drum-of [Box] -> Drum\n"
                 "element a\nelement b\nelement x\nelement y\napply drum-of [a] = x\n"
@@ -352,7 +374,7 @@ class Samples(unittest.TestCase):
     def test_each_text_gives_its_sheet_and_back(self):
         names = sorted(path.stem for path in SAMPLES.glob("*.txt"))
         for wanted in ("p1", "p2", "p5", "p5-settled", "two-names", "unnamed-box",
-                       "unnamed-box-settled", "refused-element"):
+                       "unnamed-box-settled", "transfer-box", "refused-element"):
             self.assertIn(wanted, names)
         self.assertEqual(names, sorted(path.stem for path in SAMPLES.glob("*.sheet")))
         self.assertEqual(sorted([*names, *LENGTHS]), sorted(path.stem for path in SAMPLES.glob("*.out")))
@@ -387,6 +409,12 @@ class Samples(unittest.TestCase):
         self.assertEqual((SAMPLES / "p1.out").read_text(), "close 0 0 1\nend 1\n")
         self.assertEqual((SAMPLES / "p5.out").read_text(),
                          "close 1 1 2\nclose 1 1 3\nclose 0 0 1\nend 15\n")
+
+    def test_the_transfer_box(self):
+        """Four names are joined by the laws of maps, and bearing-8 is in two sets."""
+        self.assertEqual((SAMPLES / "transfer-box.out").read_text(),
+                         "close 1 4 3\nclose 0 0 1\nconflict 12 2 0 / 2 2\nconflicts 1\nend 37\n")
+        self.assertEqual((SAMPLES / "refused-identity.out").read_text(), "refused 12 at 11\n")
 
     def test_a_settle_stands_for_the_closes(self):
         """The samples told with a settle are the others but for how they close."""

@@ -57,6 +57,8 @@ fn main() {
         input("one chain of 256, 256 facts", sheets::one_chain_250(), 2),
         input("one chain of 256, 990 facts", sheets::one_chain_990(), 1),
         input("one chain of 252, 1,024 facts gathering", sheets::gathering(), 1),
+        input("a chain of 127 composites", sheets::composites(), 2),
+        input("transfer-box", sample("transfer-box"), 100),
         input("P5, settled", sample("p5-settled"), 300),
         input("unnamed-box, settled", sample("unnamed-box-settled"), 100),
         input("33 elements merged one by one, settled", sheets::merged_one_by_one(), 20),

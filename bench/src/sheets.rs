@@ -30,6 +30,10 @@ impl Sheet {
         self.record(1, 1, 0, &[], &[]);
     }
 
+    fn mor_type(&mut self, model: u16) {
+        self.record(1, 3, model, &[], &[]);
+    }
+
     fn predicate(&mut self, parents: &[u16], arity: &[u16]) {
         self.record(2, 0, 0, parents, arity);
     }
@@ -206,5 +210,29 @@ pub fn gathering() -> Vec<u8> {
     }
     sheet.chain(0, chain - 1);
     sheet.equal(0, 1);
+    sheet.closed()
+}
+
+/// A chain of 127 composites: each map but the first, with one that they share, composes to the one before it. The last
+/// has a dom, and each round gives it to one more: no merge, an application a round.
+pub fn composites() -> Vec<u8> {
+    const COUNT: u16 = 127;
+    const SHARED: u16 = COUNT + 1;
+    const SET: u16 = COUNT + 2;
+    let mut sheet = Sheet::default();
+    let (model, mor) = (0, 1);
+    sheet.model_type();
+    sheet.mor_type(model);
+    let (dom, comp) = (0, 3);
+    sheet.function(&[mor], model);
+    sheet.function(&[mor], model);
+    sheet.function(&[model], mor);
+    sheet.function(&[mor, mor], mor);
+    sheet.record(4, model, mor, &[], &[dom, 1, 2, comp]);
+    sheet.elements(SET + 1);
+    for map in 1..=COUNT {
+        sheet.record(9, comp, map - 1, &[], &[map, SHARED]);
+    }
+    sheet.record(9, dom, SET, &[], &[COUNT]);
     sheet.closed()
 }

@@ -12,7 +12,7 @@ use Rattle.ids.specs.Table.{Insertion, present, placed, lookupOf, insertOf}
 use Rattle.ids.proofs.Tests.{chosen, unchosen}
 use Rattle.ids.proofs.Tables.{isSome, present-found, insert-new, insert-full}
 use Rattle.semantics.specs.Structure.{FuncApp, Pair, maxPairs, maxFuncApps, compareFuncApp, canonicalFuncApp, resultOf}
-use Rattle.semantics.specs.Calls.{Equated, equate, Applied, applied, appliedEqual, applyAt, insertFuncAppOrEquate}
+use Rattle.semantics.specs.Applying.{Equated, equate, Applied, applied, appliedEqual, applyAt, insertFuncAppOrEquate}
 use Rattle.equalities.specs.View.{equateIn}
 use Rattle.equalities.proofs.Queue.{equate-room, equate-length}
 use Rattle.applying.specs.View.{whereRoom, applyIn}

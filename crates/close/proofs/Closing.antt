@@ -33,7 +33,8 @@ use Rattle.el_rows.specs.View.{linkIn, markIn, linksIn, marksIn, ElsInRows}
 use Rattle.merging.specs.View.{Lent, coreOf, metOf, LentHeld, workOf, RoomToCount, Passes, PairsInRows}
 use Rattle.imposing.specs.Bounds.{allImpositions}
 use Rattle.rounds.specs.View.{allRounds, oneClose, RoundsAre}
-use Rattle.rounds.proofs.Laws.{met-none, met-some, fuel-is}
+use Rattle.merging.proofs.Laws.{met-none, met-some}
+use Rattle.rounds.proofs.Laws.{fuel-is}
 use Rattle.merging.proofs.Laws.{els-kept, func-apps-kept}
 
 -- The start.

@@ -1,6 +1,6 @@
--- Laws of the links and marks of rows: reads, stores, a merge, entries as roots.
+-- Laws of the links and marks of rows: reads, stores, a path shortened, a merge, entries as roots.
 use mathlib.Core.Path.{_≡_, refl, sym, ap, _∙_}
-use mathlib.Core.Bool.{Bool, true, false, _&&_, _||_}
+use mathlib.Core.Bool.{Bool, true, false, _&&_, _||_, or-false}
 use mathlib.Core.List.{List, [], _∷_, _++_, map}
 use Prim.Native.Nat.{ℕ, zero, suc, _+_, _≤_, _<_}
 use native.Mathlib.Nat.{le-of-suc-le-suc, not-suc-le-zero}
@@ -9,11 +9,11 @@ use native.Mathlib.Omega.{arith}
 use lib.ListN.{length, take, getD, set, length-set, List·getD-eq-default}
 use lib.Seq.{set-out, set-getD, take-suc}
 use Rattle.ids.proofs.Views.{length-view}
-use Rattle.unification.specs.Roots.{link, rootOf}
-use Rattle.unification.proofs.Laws.{root-stop, merged-less}
+use Rattle.unification.specs.Roots.{link, rootOf, shortOf}
+use Rattle.unification.proofs.Laws.{root-stop, root-pass, root-above, link-other, short-stop, short-first, merged-less}
 use Rattle.semantics.specs.Structure.{Fact, fact, FuncApp, func-app, canonicalFact, canonicalFuncApp}
 use Rattle.semantics.specs.Types.{marked, mergedMarks, anyMarked}
-use Rattle.el_rows.specs.View.{linkIn, markIn, linksIn, marksIn, Merged}
+use Rattle.el_rows.specs.View.{linkIn, markIn, linksIn, marksIn, Shortened, Merged}
 
 -- A view of the first n rows, over any type of rows.
 
@@ -57,6 +57,62 @@ module _ (n : ℕ) (els : List (List ℕ)) (e : ℕ) where
 
     pub mark-past : false ≡ marked (marksIn n els) e
     mark-past = sym (view-past markIn n els false past)
+
+-- A path shortened: of the way from e the part from x on, whose link is `to`, is left.
+pub record Shortening (n e : ℕ) (before now : List (List ℕ)) (x to : ℕ) : Type 0 where
+  pub there : x < n
+  pub linked : to ≡ link (linksIn n now) x
+  pub root : rootOf (linksIn n before) e ≡ rootOf (linksIn n now) x
+  pub short : shortOf (linksIn n before) e ≡ shortOf (linksIn n now) x
+  pub marks : marksIn n now ≡ marksIn n before
+  pub long : length now ≡ length before
+
+pub short-begins : (n e : ℕ) (els : List (List ℕ)) (d : List ℕ) → e < n → n ≤ length els → Shortening n e els els e (linkIn (getD els e d))
+short-begins n e els d at all = record { there = at; linked = sym (link-read n els e at all d); root = refl; short = refl; marks = refl; long = refl }
+
+-- there is no way
+pub short-past : (n e : ℕ) (els : List (List ℕ)) → n ≤ e → Shortened n e els els e
+short-past n e els past =
+    let own : link (linksIn n els) e ≡ e = view-past linkIn n els e past in
+    record { is = root-past n els e past; links = sym (short-stop (linksIn n els) e (omega arith)); marks = refl; long = refl }
+
+module _ {n e : ℕ} {before now : List (List ℕ)} {x to : ℕ} (so-far : Shortening n e before now x to) (all : n ≤ length before) where
+  abbrev ls : List ℕ
+  ls = linksIn n now
+
+  -- its link falls: it gets that of `to`, and the way goes on from there
+  pub short-on : (d r : List ℕ) → to < x → linkIn r ≡ linkIn (getD now to d) → markIn r ≡ markIn (getD now x d)
+      → Shortening n e before (set now x r) to (linkIn (getD now to d))
+  short-on d r low is same =
+      let all-now : n ≤ length now = omega (arith, so-far .long) in
+      let at : to < n = omega (arith, so-far .there) in
+      let h : link ls x < x = omega (arith, so-far .linked) in
+      let entry : linkIn r ≡ link ls to = is ∙ sym (link-read n now to at all-now d) in
+      let stored : linksIn n (set now x r) ≡ set ls x (link ls to) = view-stored linkIn n now x r ∙ ap (set ls x) entry in
+      record {
+        there = at;
+        linked = sym (link-read n now to at all-now d) ∙ sym (ap (λ (l : List ℕ). link l to) stored ∙ link-other ls x (link ls to) to (λ q. omega arith));
+        root =
+            so-far .root ∙ root-pass ls x h ∙ ap (rootOf ls) (sym (so-far .linked))
+            ∙ sym (ap (λ (l : List ℕ). rootOf l to) stored ∙ root-above ls x (link ls to) to low);
+        short =
+            so-far .short ∙ short-first ls x h ∙ (λ i. shortOf (set ls x (link ls (sym (so-far .linked) i))) (sym (so-far .linked) i))
+            ∙ ap (λ (l : List ℕ). shortOf l to) (sym stored);
+        marks =
+            view-stored markIn n now x r ∙ ap (set (marksIn n now) x) (same ∙ mark-read n now x (so-far .there) all-now d)
+            ∙ set-getD (marksIn n now) x false ∙ so-far .marks;
+        long = length-set now x r ∙ so-far .long;
+      }
+
+  -- it ends
+  pub short-ends : x ≤ to → Shortened n e before now x
+  short-ends h =
+      let stop : x ≤ link ls x = omega (arith, so-far .linked) in record {
+        is = sym (so-far .root ∙ root-stop ls x stop);
+        links = sym (so-far .short ∙ short-stop ls x stop);
+        marks = so-far .marks;
+        long = so-far .long;
+      }
 
 -- A merge: first the mark of the smaller, then the row of the larger.
 
@@ -110,13 +166,9 @@ app-roots ls x p q r = λ i. func-app (x .func) (p i) (q i) (r i)
 
 -- A mark more at the end.
 
-or-none : (b : Bool) → (b || false) ≡ b
-or-none true = refl
-or-none false = refl
-
 any-pushed : (ms : List Bool) (m : Bool) → anyMarked (ms ++ m ∷ []) ≡ (anyMarked ms || m)
 unfolding anyMarked
-any-pushed [] m = or-none m
+any-pushed [] m = or-false m
 any-pushed (true ∷ ms) m = refl
 any-pushed (false ∷ ms) m = any-pushed ms m
 

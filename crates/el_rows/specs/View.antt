@@ -5,7 +5,7 @@ use mathlib.Core.Bool.{Bool}
 use mathlib.Core.List.{List, map}
 use lib.ListN.{length, take, getD}
 use lib.Dec.{eqb}
-use Rattle.unification.specs.Roots.{maxEls, mergedOf}
+use Rattle.unification.specs.Roots.{maxEls, rootOf, shortOf, mergedOf}
 use Rattle.semantics.specs.Types.{anyMarked, mergedMarks}
 
 -- the link of an element, and 1 where it is marked
@@ -21,6 +21,13 @@ linksIn n rows = map linkIn (take n rows)
 
 abbrev pub marksIn : ℕ → List (List ℕ) → List Bool
 marksIn n rows = map markIn (take n rows)
+
+-- a path shortened among the first n elements, from e to its root
+pub record Shortened (n e : ℕ) (before after : List (List ℕ)) (root : ℕ) : Type 0 where
+  pub is : root ≡ rootOf (linksIn n before) e
+  pub links : linksIn n after ≡ shortOf (linksIn n before) e
+  pub marks : marksIn n after ≡ marksIn n before
+  pub long : length after ≡ length before
 
 -- two roots merged among the first n elements, with their marks
 pub record Merged (n keep drop : ℕ) (before after : List (List ℕ)) : Type 0 where

@@ -16,7 +16,7 @@ ghost use Rattle.semantics.specs.Structure.{canonicalFact, canonicalFuncApp};
 ghost use Rattle.semantics.specs.Types.{marked};
 ghost use Rattle.facts.specs.View.{factOf};
 ghost use Rattle.apps.specs.View.{funcAppOf};
-ghost use Rattle.el_rows.specs.View.{linkIn, markIn, linksIn, marksIn, Merged, ElsInRows};
+ghost use Rattle.el_rows.specs.View.{linkIn, markIn, linksIn, marksIn, Shortened, Merged, ElsInRows};
 
 // How many numbers a row of an element has.
 pub const EL_WIDTH: usize = 2;
@@ -39,6 +39,29 @@ pub fn find(els: &[ElRow], n: usize, el: ElId) -> ElId
         x = to;
         let next = to as usize;
         to = els[next][0];
+    }
+    ElId(x)
+}
+
+// The same, with the path shortened: each element passed then links to what its former link linked to.
+pub fn root(els: &mut [ElRow], n: usize, el: ElId) -> ElId
+    requires { ⌜ n ≤ length (now els) ⌝ }
+    ensures { λ r. ⌜ Shortened n (el .0) (now (els .entry)) (now (els .exit)) (r .0) ⌝ }
+{
+    let mut x = el.0;
+    let at = x as usize;
+    if n <= at {
+        return el;
+    }
+    let mut parent = els[at][0];
+    while parent < x {
+        let here = x as usize;
+        let next = parent as usize;
+        let after = els[next][0];
+        let mark = els[here][1];
+        els[here] = [after, mark];
+        x = parent;
+        parent = after;
     }
     ElId(x)
 }

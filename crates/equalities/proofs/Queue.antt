@@ -14,8 +14,8 @@ use Rattle.unification.specs.Roots.{shortOf, ShortM, findOf, shortenedOf}
 use Rattle.unification.proofs.Laws.{short-length}
 use Rattle.semantics.specs.Structure as model
 use Rattle.semantics.specs.Structure.{pair, maxPairs}
-use Rattle.semantics.specs.Calls as calls
-use Rattle.semantics.specs.Calls.{equating}
+use Rattle.semantics.specs.Applying as applying
+use Rattle.semantics.specs.Applying.{equating}
 use Rattle.equalities.specs.declared.Pair.{Pair}
 use Rattle.equalities.specs.declared.Pairs.{Pairs}
 use Rattle.equalities.specs.View.{pairOf, pairsOf, queuedOf, equateIn}
@@ -58,17 +58,17 @@ module _ (t : Pairs) (p : Pair) {n : ℕ} (sized : Sized (pairsOf t) maxPairs n)
 pub equated : (ls : List ℕ) (ps qs : List model.Pair) (a b : ℕ) {f s : ShortM} → f ≡ shortenedOf ls a → s ≡ shortenedOf (f .links) b
     → qs ≡ queuedOf ps (pair a b)
     → equating (s .links) qs (not (eqb (f .find .root) (s .find .root))) ≡ equateIn ls ps a b
-unfolding equateIn calls.equate shortenedOf findOf
+unfolding equateIn applying.equate shortenedOf findOf
 equated ls ps qs a b {f} {s} first second queued =
     let then : s ≡ shortenedOf (shortOf ls a) b = second ∙ ap (λ (l : List ℕ). shortenedOf l b) (ap (λ (r : ShortM). r .links) first) in
     λ i. equating (then i .links) (queued i) (not (eqb (first i .find .root) (then i .find .root)))
 
 -- where the queue has room
-pub equate-room : (ls : List ℕ) (ps : List model.Pair) (a b : ℕ) → length ps < maxPairs → equateIn ls ps a b ≡ calls.equate ls ps a b
-unfolding equateIn calls.equate queuedOf
+pub equate-room : (ls : List ℕ) (ps : List model.Pair) (a b : ℕ) → length ps < maxPairs → equateIn ls ps a b ≡ applying.equate ls ps a b
+unfolding equateIn applying.equate queuedOf
 equate-room ls ps a b h = rw (lt-ltb (length ps) maxPairs h, queuedOf)
 
 -- there are as many links afterwards
-pub equate-length : (ls : List ℕ) (ps : List model.Pair) (a b : ℕ) → length (calls.equate ls ps a b .links) ≡ length ls
-unfolding calls.equate
+pub equate-length : (ls : List ℕ) (ps : List model.Pair) (a b : ℕ) → length (applying.equate ls ps a b .links) ≡ length ls
+unfolding applying.equate
 equate-length ls ps a b = short-length (shortOf ls a) b ∙ short-length ls a

@@ -7,8 +7,8 @@ use lib.Dec.{ltb}
 use Rattle.unification.specs.Roots.{linksOf}
 use Rattle.semantics.specs.Structure as model
 use Rattle.semantics.specs.Structure.{pair, maxPairs}
-use Rattle.semantics.specs.Calls as calls
-use Rattle.semantics.specs.Calls.{equating}
+use Rattle.semantics.specs.Applying as applying
+use Rattle.semantics.specs.Applying.{equating}
 use Rattle.equalities.specs.declared.Pair.{Pair}
 use Rattle.equalities.specs.declared.Pairs.{Pairs}
 use Rattle.equalities.specs.declared.Equated.{Equated}
@@ -25,8 +25,8 @@ unfoldable pub queuedOf : List model.Pair → model.Pair → List model.Pair
 queuedOf ps p = elim (ltb (length ps) maxPairs) [ true ↦ p ∷ ps | false ↦ ps ]
 
 -- `equate`, where there is room for the pair; a full queue stays as it is
-unfoldable pub equateIn : List ℕ → List model.Pair → ℕ → ℕ → calls.Equated
-equateIn ls ps a b = equating (calls.equate ls ps a b .links) (queuedOf ps (pair a b)) (calls.equate ls ps a b .differ)
+unfoldable pub equateIn : List ℕ → List model.Pair → ℕ → ℕ → applying.Equated
+equateIn ls ps a b = equating (applying.equate ls ps a b .links) (queuedOf ps (pair a b)) (applying.equate ls ps a b .differ)
 
-abbrev pub equatedOf : Equated → calls.Equated
+abbrev pub equatedOf : Equated → applying.Equated
 equatedOf r = equating (linksOf (r .unification)) (pairsOf (r .pairs)) (r .differ)

@@ -14,18 +14,17 @@ use Rattle.unification.proofs.Numbers.{same-or}
 use Rattle.unification.proofs.Laws.{root-le, root-root}
 use Rattle.semantics.specs.Structure.{FuncApp, func-app, compareFuncApp, canonicalFuncApp}
 use Rattle.semantics.specs.Types.{Core}
-use Rattle.history.specs.Book.{Book, elements, Fits, Shared, Classes}
-use Rattle.history.proofs.Relation.{Equivalence, OneRoot, one-root, one-rooted, Like, like-self, like-respects}
-use Rattle.history.proofs.Elements.{Named, restricted, shared-among-all}
+use Rattle.semantics.specs.MapLaws.{mapLaws}
+use Rattle.history.specs.Book.{Book, elements, Sharing, Shared, Derived, Fits, AppliesNeither, Classes}
+use Rattle.history.proofs.Relation.{OneRoot, one-root, one-rooted, Respects, image-says, Like, like-self}
+use Rattle.history.proofs.Elements.{Named, In, ClosedAmongAll, shared-all, shared-among-all, derived-among-all, book-closed}
 use Rattle.semantics.proofs.Counts.{roots, isRoot, count-alike}
 use Rattle.history.proofs.Drain.{HoldsOfPair}
-use Rattle.history.proofs.Functionality.{Canon, canonical-agree, meet-images}
+use Rattle.semantics.proofs.Canonical.{Canon}
+use Rattle.history.proofs.Functionality.{meet-images}
+use Rattle.history.proofs.Operations.{Held, stored-respects, held-obeyed}
 use Rattle.history.proofs.Passes.{HoldsOfCore}
-use Rattle.history.proofs.Calls.{HoldsOfBook, Tied}
-
--- an application of the book, or of a table
-abbrev In : List FuncApp → FuncApp → Type 0
-In l x = List·Memᴰ x l
+use Rattle.history.proofs.Calls.{Tied}
 
 -- an application is the image, under the roots, of one in a list
 pub record ImageOf (ls : List ℕ) (l : List FuncApp) (x : FuncApp) : Type 0 where
@@ -44,43 +43,52 @@ module _ (b : Book) (w : Core) (xs : List FuncApp) (named : Named b) (g : Tied b
   abbrev ls : List ℕ
   ls = w .links
 
-  -- a relation that fits the book agrees with the structure
-  fits-core : (R : ℕ → ℕ → Type 0) → Equivalence R → Fits b R → HoldsOfCore R (Like R (In (b .apps))) w xs
-  fits-core R q f =
-      g .on R (Like R (In (b .apps))) q (like-respects R q (In (b .apps)) (f .functional))
-      (all-from (HoldsOfPair R) (b .equalities) (f .equal), all-from (Like R (In (b .apps))) (b .apps) (like-self R q (In (b .apps))))
+  -- a closed set agrees with the structure
+  closed-core : (R : ℕ → ℕ → Type 0) (S : FuncApp → Type 0) → ClosedAmongAll b R S → HoldsOfCore R S w xs
+  closed-core R S c = g .on R S (c .equivalence) (c .respects) (c .laws) (c .holds)
 
   pub shared-if : (x y : ℕ) → x < elements b → OneRoot ls x y → Shared b x y
   shared-if x y h e =
-      shared-among-all b named x y h .1 (λ R q f.
-      let r = fits-core R q f .rooted in q .trans (q .flip (r x)) (subst (λ z. R z y) (sym e) (r y)))
+      shared-among-all b named x y h .1 (λ R S c.
+      let r = closed-core R S c .rooted in
+      c .equivalence .trans (c .equivalence .flip (r x)) (subst (λ z. R z y) (sym e) (r y)))
 
-  module _ (none : w .pairs ≡ []) (sorted : Sorted compareFuncApp xs) (canon : All (Canon ls) xs) where
-    root-holds : HoldsOfBook (OneRoot ls) (Like (OneRoot ls) (In xs)) b
-    root-holds =
-        g .back (OneRoot ls) (Like (OneRoot ls) (In xs)) (one-root ls)
-        (like-respects (OneRoot ls) (one-root ls) (In xs) (canonical-agree ls xs sorted canon))
-        (record {
-          rooted = one-rooted ls;
-          pairs = subst (All (HoldsOfPair (OneRoot ls))) (sym none) tt;
-          apps = all-from (Like (OneRoot ls) (In xs)) xs (like-self (OneRoot ls) (one-root ls) (In xs));
-        })
+  -- an application is in every closed set, where its image under the roots is stored
+  pub derived-if : (x : FuncApp) → List·Memᴰ (canonicalFuncApp ls x) xs → Derived b x
+  derived-if x m =
+      derived-among-all b named x .1 (λ R S c.
+      let h = closed-core R S c in
+      image-says R (c .equivalence) S (c .respects) ls (h .rooted) x (all-at S xs (h .apps) (canonicalFuncApp ls x) m))
 
-    -- the partition by roots fits
-    root-fits : Fits b (OneRoot ls)
-    root-fits = record {
-      equal = all-at (HoldsOfPair (OneRoot ls)) (b .equalities) (root-holds .0);
-      functional = λ x y mx my m.
-          like-respects (OneRoot ls) (one-root ls) (In xs) (canonical-agree ls xs sorted canon) .agree x y m
-          (all-at (Like (OneRoot ls) (In xs)) (b .apps) (root-holds .1) x mx) (all-at (Like (OneRoot ls) (In xs)) (b .apps) (root-holds .1) y my);
+  -- nothing remains to join, and the laws hold of what is stored
+  module _ (none : w .pairs ≡ []) (sorted : Sorted compareFuncApp xs) (canon : All (Canon ls) xs)
+      (held : All (Held ls xs) (mapLaws (b .sig .models) xs)) where
+    respects : Respects (OneRoot ls) (Like (OneRoot ls) (In xs))
+    respects = stored-respects ls xs sorted canon
+
+    -- to have one root, and to be alike to what is stored, is closed
+    root-closed : ClosedAmongAll b (OneRoot ls) (Like (OneRoot ls) (In xs))
+    root-closed = record {
+      equivalence = one-root ls;
+      respects = respects;
+      laws = held-obeyed ls xs sorted canon (b .sig .models) held;
+      holds = g .back (OneRoot ls) (Like (OneRoot ls) (In xs)) (one-root ls) respects (record {
+        rooted = one-rooted ls;
+        pairs = subst (All (HoldsOfPair (OneRoot ls))) (sym none) tt;
+        apps = all-from (Like (OneRoot ls) (In xs)) xs (like-self (OneRoot ls) (one-root ls) (In xs));
+      });
     }
 
     pub only-shared : (x y : ℕ) → Shared b x y → OneRoot ls x y
-    unfolding Shared
-    only-shared x y h = h (OneRoot ls) (restricted (elements b) (OneRoot ls) (one-root ls)) root-fits
+    only-shared x y h = shared-all b named x y h (OneRoot ls) (Like (OneRoot ls) (In xs)) root-closed
+
+    pub only-derived : (x : FuncApp) → Derived b x → List·Memᴰ (canonicalFuncApp ls x) xs
+    only-derived x d =
+        let k = derived-among-all b named x .0 d (OneRoot ls) (Like (OneRoot ls) (In xs)) root-closed in
+        Memᴰ·cast (sym (like-image ls xs x k) ∙ all-at (Canon ls) xs canon (k .of) (k .has)) (k .has)
 
     -- there are as many classes as roots
-    pub root-classes : Classes b (roots ls)
+    pub root-classes : Classes Shared b (roots ls)
     unfolding roots isRoot
     root-classes = record {
       lowest = isRoot ls;
@@ -100,17 +108,18 @@ module _ (b : Book) (w : Core) (xs : List FuncApp) (named : Named b) (g : Tied b
         first e h f (inr q) =
             absurd (f (rootOf ls e) (omega (arith, root-le ls e)) (shared-if (rootOf ls e) e (omega (arith, root-le ls e)) (root-root ls e)))
 
-    -- each stored application is the root image of one in the book
-    pub stored-image : (x : FuncApp) → List·Memᴰ x xs → ImageOf ls (b .apps) x
-    stored-image x m =
-        let k = all-at (Like (OneRoot ls) (In (b .apps))) xs (fits-core (OneRoot ls) (one-root ls) root-fits .apps) x m in
+    -- where no application of the book is one of id or comp, each stored one is the root image of one in the book
+    pub stored-image : AppliesNeither b → (x : FuncApp) → List·Memᴰ x xs → ImageOf ls (b .apps) x
+    stored-image neither x m =
+        let h = root-closed .holds in
+        let fits : Fits b (OneRoot ls) = record {
+          equal = all-at (HoldsOfPair (OneRoot ls)) (b .equalities) (h .0);
+          functional = λ y z my mz t.
+              respects .agree y z t (all-at (Like (OneRoot ls) (In xs)) (b .apps) (h .1) y my) (all-at (Like (OneRoot ls) (In xs)) (b .apps) (h .1) z mz);
+        } in
+        let k = all-at (Like (OneRoot ls) (In (b .apps))) xs
+        (closed-core (OneRoot ls) (Like (OneRoot ls) (In (b .apps))) (book-closed b neither (OneRoot ls) (one-root ls) fits) .apps) x m in
         record { of = k .of; among = k .has; is = like-image ls (b .apps) x k ∙ all-at (Canon ls) xs canon x m }
-
-    -- and conversely
-    pub image-stored : (x : FuncApp) → List·Memᴰ x (b .apps) → List·Memᴰ (canonicalFuncApp ls x) xs
-    image-stored x m =
-        let k = all-at (Like (OneRoot ls) (In xs)) (b .apps) (root-holds .1) x m in
-        Memᴰ·cast (sym (like-image ls xs x k) ∙ all-at (Canon ls) xs canon (k .of) (k .has)) (k .has)
 
 -- The number of classes is one number.
 
@@ -120,8 +129,8 @@ same-test true false f g = absurd (f tt)
 same-test false true f g = absurd (g tt)
 same-test false false f g = refl
 
-pub classes-unique : (b : Book) (j k : ℕ) → Classes b j → Classes b k → j ≡ k
-classes-unique b j k x y =
+pub classes-unique : (Share : Sharing) (b : Book) (j k : ℕ) → Classes Share b j → Classes Share b k → j ≡ k
+classes-unique Share b j k x y =
     sym (x .many)
     ∙ count-alike (x .lowest) (y .lowest) (elements b)
     (λ e h. same-test (x .lowest e) (y .lowest e) (λ t. y .is e h .1 (x .is e h .0 t)) (λ t. x .is e h .1 (y .is e h .0 t)))

@@ -13,14 +13,19 @@ use Rattle.semantics.specs.Structure.{Structure, compareFuncApp}
 use Rattle.semantics.specs.Types.{Core, imposeAll}
 use Rattle.semantics.specs.Close.{Rounds, rounds, fuel, Closed, coreAtStart, canonicaliseRefs, withCore, CloseRun, imposedAfter, closeRun, reportOf}
 use Rattle.semantics.specs.Close.{afterClose, metCauses, closeCauses, closeBy, close}
+use Rattle.semantics.specs.MapLaws.{mapLaws}
+use Rattle.semantics.specs.Valid.{Valid}
 use Rattle.semantics.specs.Calls as calls
 use Rattle.semantics.specs.Calls.{closed, Machine, machine, Step, closeRule, acceptance, leaves}
 use Rattle.semantics.proofs.Counts.{roots}
 use Rattle.semantics.proofs.Judged.{step-by}
-use Rattle.history.proofs.Functionality.{Canon}
+use Rattle.semantics.proofs.Canonical.{Canon}
+use Rattle.semantics.proofs.Operations.{NoOperation}
+use Rattle.validity.proofs.Closing.{close-ends}
+use Rattle.history.proofs.Operations.{Held}
 use Rattle.history.proofs.Imposing.{OnlyFactsGrew}
 use Rattle.history.proofs.Passes.{Ready, Sound, sound-then, Passed, passed-then, grown-passed, unmarked-grown}
-use Rattle.history.proofs.Rounds.{RoundsLeave, rounds-law}
+use Rattle.history.proofs.Rounds.{rounds-passed, rounds-few, rounds-ended}
 
 -- what no cause refuses met no number
 pub unmet : (o : Option ℕ) → NoneApplies (metCauses o) → o ≡ none
@@ -63,21 +68,24 @@ closed-step m a =
     run = closeRun (m .sig) (m .structure)
 
 -- what an accepted close leaves of s, having answered c
-pub record ClosedSoundly (n total : ℕ) (s v : Structure) (c : Closed) : Type 1 where
+pub record ClosedSoundly (g : Sig) (n total : ℕ) (s v : Structure) (c : Closed) : Type 1 where
   pub ready : Ready n (roots (v .links)) (coreAtStart v) (v .func-apps)
-  pub sound : Sound (coreAtStart s) (s .func-apps) (coreAtStart v) (v .func-apps)
+  pub sound : Sound (g .models) (coreAtStart s) (s .func-apps) (coreAtStart v) (v .func-apps)
   pub pairs : v .pairs ≡ []
   pub sorted : Sorted compareFuncApp (v .func-apps)
   pub canon : All (Canon (v .links)) (v .func-apps)
+  -- the laws of identities and composites hold
+  pub held : All (Held (v .links) (v .func-apps)) (mapLaws (g .models) (v .func-apps))
   pub sum : roots (v .links) + c .merges ≡ total
-  pub few : c .rounds ≤ c .merges + 2
+  -- where none of id or comp is applied
+  pub few : All (NoOperation (g .models)) (s .func-apps) → c .rounds ≤ c .merges + 2
 
-module _ (n total : ℕ) (g : Sig) (s : Structure) (ready : Ready n total (coreAtStart s) (s .func-apps)) (enough : total < fuel) where
+module _ (n total : ℕ) (g : Sig) (s : Structure) (valid : Valid g s) (ready : Ready n total (coreAtStart s) (s .func-apps)) (enough : total < fuel) where
   abbrev r : Rounds
   r = rounds g (s .pred-apps) (s .func-apps) (coreAtStart s)
 
-  settled : RoundsLeave n total 0 (coreAtStart s) (s .func-apps) r
-  settled = rounds-law n total g (s .pred-apps) (s .func-apps) (coreAtStart s) ready (unfold coreAtStart in refl) enough
+  rounds-sound : Passed (g .models) n total (coreAtStart s) (s .func-apps) (r .core) (r .apps)
+  rounds-sound = rounds-passed n total g (s .pred-apps) (s .func-apps) (coreAtStart s) ready
 
   abbrev w : Core
   w = imposeAll (s .impositions) (r .core)
@@ -86,39 +94,44 @@ module _ (n total : ℕ) (g : Sig) (s : Structure) (ready : Ready n total (coreA
   run = closeRun g s
 
   grown : OnlyFactsGrew (r .core) w
-  grown = unmarked-grown (s .impositions) (r .core) (settled .passed .ready .plain)
+  grown = unmarked-grown (s .impositions) (r .core) (rounds-sound .ready .plain)
 
   -- the rounds, and the impositions, which alter facts only
-  passed : Passed n total (coreAtStart s) (s .func-apps) w (r .apps)
-  passed = passed-then (settled .passed) (grown-passed n total (r .core) w (r .apps) grown (settled .passed .ready))
+  passed : Passed (g .models) n total (coreAtStart s) (s .func-apps) w (r .apps)
+  passed = passed-then rounds-sound (grown-passed (g .models) n total (r .core) w (r .apps) grown (rounds-sound .ready))
 
   -- `canonicalise_refs` does not bear on a partition
-  after-sound : Sound w (r .apps) (coreAtStart (afterClose run s)) (afterClose run s .func-apps)
+  after-sound : Sound (g .models) w (r .apps) (coreAtStart (afterClose run s)) (afterClose run s .func-apps)
   unfolding coreAtStart afterClose canonicaliseRefs withCore imposedAfter closeRun
   after-sound = record {
-    on = λ R S q law f. record { rooted = f .rooted; pairs = f .pairs; apps = f .apps };
+    on = λ R S q law obeys f. record { rooted = f .rooted; pairs = f .pairs; apps = f .apps };
     back = λ R S q law f. record { rooted = f .rooted; pairs = f .pairs; apps = f .apps };
   }
 
   -- a close that met no number
-  pub run-soundly : closeRun g s .core .met ≡ none → ClosedSoundly n total s (afterClose (closeRun g s) s) (reportOf (closeRun g s))
+  pub run-soundly : closeRun g s .core .met ≡ none → ClosedSoundly g n total s (afterClose (closeRun g s) s) (reportOf (closeRun g s))
   unfolding afterClose canonicaliseRefs withCore reportOf coreAtStart imposedAfter closeRun
-  run-soundly m = record {
-    ready = record {
-      kept = record { formed = passed .ready .kept .formed; long = passed .ready .kept .long; sum = omega arith };
-      pairs = passed .ready .pairs;
-      results = passed .ready .results;
-      plain = passed .ready .plain;
-    };
-    sound = sound-then (passed .sound) after-sound;
-    pairs = grown .pairs ∙ settled .pairs (grown .met m);
-    sorted = settled .sorted;
-    canon = subst (λ ls. All (Canon ls) (r .apps)) (sym (grown .links)) (settled .canon);
-    sum = passed .ready .kept .sum;
-    few = omega (arith, settled .few, grown .merges);
-  }
+  run-soundly m =
+      let ended = rounds-ended g (s .pred-apps) r (close-ends g s valid) (grown .met m) in
+      record {
+        ready = record {
+          kept = record { formed = passed .ready .kept .formed; long = passed .ready .kept .long; sum = omega arith };
+          pairs = passed .ready .pairs;
+          args = passed .ready .args;
+          results = passed .ready .results;
+          plain = passed .ready .plain;
+        };
+        sound = sound-then (passed .sound) after-sound;
+        pairs = grown .pairs ∙ ended .pairs;
+        sorted = ended .sorted;
+        canon = subst (λ ls. All (Canon ls) (r .apps)) (sym (grown .links)) (ended .canon);
+        held = subst (λ ls. All (Held ls (r .apps)) (mapLaws (g .models) (r .apps))) (sym (grown .links)) (ended .held);
+        sum = passed .ready .kept .sum;
+        few = λ neither.
+            omega (arith, rounds-few n total g (s .pred-apps) (s .func-apps) (coreAtStart s) ready refl enough neither, grown .merges);
+      }
 
-  pub closed-soundly : (c : Closed) → close g s .answer ≡ accepted c → ClosedSoundly n total s (close g s .after) c
+  pub closed-soundly : (c : Closed) → close g s .answer ≡ accepted c → ClosedSoundly g n total s (close g s .after) c
   closed-soundly c e =
       let a = accepted-close g s c e in
-      rw (a .after) (subst (ClosedSoundly n total s (afterClose run s)) (sym (a .answer)) (run-soundly (a .met)))
+      rw (a .after) (subst (ClosedSoundly g n total s (afterClose run s)) (sym (a .answer)) (run-soundly (a .met)))

@@ -1,10 +1,10 @@
 -- A list of calls for which each hypothesis of the rule holds, computed, with a close and with a settle after it: P3 of 01 with a refused call and a
--- find. And one after which the structure is settled (02, M-101), with a mark and a queued pair; and one after which the next close reports no change
+-- find; and lists in which laws of identities and composites join elements (02, M-102). And one after which the structure is settled (02, M-101), with a mark and a queued pair; and one after which the next close reports no change
 -- while applications are stored by elements that are no roots.
 use mathlib.Core.Path.{_≡_, refl, ap}
 use mathlib.Core.Bool.{true, false}
 use mathlib.Core.List.{List, [], _∷_, _++_}
-use Prim.Native.Nat.{ℕ}
+use Prim.Native.Nat.{ℕ, _<_}
 use native.Mathlib.Omega.{arith}
 use Rattle.unification.specs.Roots.{rootOf}
 use Rattle.signature.specs.Model.{plain}
@@ -13,7 +13,7 @@ use Rattle.semantics.specs.Types.{anyMarked}
 use Rattle.semantics.specs.Close.{Closed, report}
 use Rattle.semantics.specs.Calls.{Call, equate-els, close, settle, root, says, closed, totals, isAccepted, mergesOf, Machine, start, step, afterCalls}
 use Rattle.semantics.proofs.Computes.{everything}
-use Rattle.semantics.proofs.ProvedCases.{typ, func, plainEl, markedEl, impose, app}
+use Rattle.semantics.proofs.ProvedCases.{typ, func, plainEl, markedEl, impose, app, downFrom, signature102, dom, identity, composite}
 use Rattle.validity.proofs.Calls.{calls-valid}
 use Rattle.history.specs.Book.{blank, elements, taken, fed, noted, next, run, begin, History, history, Shared}
 use Rattle.history.specs.Book.{Classes, RanCloses, closes, settles, Conserved, Conservation}
@@ -25,7 +25,7 @@ use Rattle.history.proofs.Conservation.{conservation}
 
 -- the definitions that a list and its book compute with
 unfoldable pub computed : ℕ
-unfolding everything blank taken fed isAccepted mergesOf noted next run begin history anyMarked
+unfolding everything blank taken fed isAccepted mergesOf noted next run begin history anyMarked downFrom
 computed = 0
 
 -- f of 0 is 2 and f of 1 is 3; 0 and 9 are refused, since there is no 9; 0 and 1 are one
@@ -93,15 +93,48 @@ module _ {k : Call} {cs : List Closed} (w : Worked k cs) where
   conserves = conservation worked k cs (w .ran) (w .unmarked)
 
   -- there are two classes
-  two-classes : Classes (after k .book) 2
-  two-classes = rw two at (conserves .counted)
+  two-classes : Classes Shared (after k .book) 2
+  two-classes = rw two at (conserves .by-class .counted)
     where
-      two : conserves .classes ≡ 2
-      two = omega (arith, conserves .sum, w .four, w .two-merges)
+      two : conserves .by-class .classes ≡ 2
+      two = omega (arith, conserves .by-class .sum, w .four, w .two-merges)
 
   -- 2 and 3 share one, by the two applications
   two-three : Shared (after k .book) 2 3
-  two-three = conserves .one-root 2 3 (omega (arith, w .four)) (omega (arith, w .four)) .0 (w .same-root)
+  two-three = conserves .by-class .one-root 2 3 (omega (arith, w .four)) (omega (arith, w .four)) .0 (w .same-root)
+
+-- Identities and composites (02, M-102): elements that a law joins.
+
+-- 0 and 1 have one identity, 2, whose dom they both are
+identities : List Call
+identities = signature102 ++ (plainEl ∷ plainEl ∷ plainEl ∷ identity 0 2 ∷ identity 1 2 ∷ [])
+
+-- the composite of 0 and 1 is 2; dom is 4 at 3, which is 0, and 5 at 2
+composites : List Call
+composites = signature102 ++ (downFrom 6 (λ n. plainEl) ++ (composite 0 1 2 ∷ dom 3 4 ∷ dom 2 5 ∷ equate-els 0 3 ∷ []))
+
+-- the hypotheses of the rule, at the close after such a list, and two elements of n that have one root then
+record JoinedByLaw (ks : List Call) (c : Closed) (n x y : ℕ) : Type 0 where
+  ran : RanCloses (history ks .machine) close (c ∷ [])
+  unmarked : anyMarked (history (ks ++ (close ∷ [])) .book .marks) ≡ false
+  many : elements (history (ks ++ (close ∷ [])) .book) ≡ n
+  same-root : rootOf (history (ks ++ (close ∷ [])) .machine .structure .links) x ≡ rootOf (history (ks ++ (close ∷ [])) .machine .structure .links) y
+
+-- "close 1 1 3"
+identities-joined : JoinedByLaw identities (report true 1 3) 3 0 1
+unfolding computed identities
+identities-joined = record { ran = closes refl; unmarked = refl; many = refl; same-root = refl }
+
+-- "close 1 2 3"
+composites-joined : JoinedByLaw composites (report true 2 3) 6 4 5
+unfolding computed composites
+composites-joined = record { ran = closes refl; unmarked = refl; many = refl; same-root = refl }
+
+-- so they share a class
+joined-shared : (ks : List Call) (c : Closed) (n x y : ℕ) → JoinedByLaw ks c n x y → x < n → y < n → Shared (history (ks ++ (close ∷ [])) .book) x y
+unfolding Conservation
+joined-shared ks c n x y w hx hy =
+    conservation ks close (c ∷ []) (w .ran) (w .unmarked) .by-class .one-root x y (omega (arith, w .many)) (omega (arith, w .many)) .0 (w .same-root)
 
 -- Settled: after the settle an equality within one class, answered with no and queued; a marked element; a find; a refused equality.
 after-settle : List Call

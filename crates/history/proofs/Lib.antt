@@ -4,6 +4,8 @@ pub mod Counts
 pub mod Drain
 pub mod Tables
 pub mod Functionality
+pub mod Operations
+pub mod Obeying
 pub mod Imposing
 pub mod Unjoined
 pub mod Passes
@@ -21,5 +23,6 @@ pub mod Images
 pub mod Unchanged
 pub mod Examples
 pub mod Versions
+pub mod WrongLaws
 pub mod Refutations
 pub mod WrongFlags

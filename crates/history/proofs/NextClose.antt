@@ -21,9 +21,12 @@ use Rattle.semantics.specs.Structure.{Fact, FuncApp, PredApp, Pair, pair, Var, 
 use Rattle.semantics.specs.Structure.{canonicalFact, canonicalFuncApp, fact, with-links, with-marks, with-pairs, with-pred-apps, with-vars}
 use Rattle.semantics.specs.Structure.{with-ambients}
 use Rattle.semantics.specs.Types.{marked}
+use Rattle.semantics.specs.MapLaws.{mapLaws}
 use Rattle.semantics.specs.Close.{Rewritten, funcArgs, predArgs, funcResults, demands, Closed, coreAtStart, closeRun, afterClose}
-use Rattle.semantics.specs.Calls.{isEl, elCauses, withEl, equate, equalityCauses, withEquality, withImposition, Applied, applied, appliedEqual}
-use Rattle.semantics.specs.Calls.{applyAt, insertFuncAppOrEquate, appliedTo, withApplied, withPredApp, withVar, withAmbient, Call, push-type, push-pred}
+use Rattle.semantics.specs.Applying.{equate, Applied, applied, appliedEqual}
+use Rattle.semantics.specs.Calls.{isEl, elCauses, withEl, equalityCauses, withEquality, withImposition}
+use Rattle.semantics.specs.Applying.{applyAt, insertFuncAppOrEquate}
+use Rattle.semantics.specs.Calls.{appliedTo, withApplied, withPredApp, withVar, withAmbient, Call, push-type, push-pred}
 use Rattle.semantics.specs.Calls.{push-func, push-model, push-mor-app, push-el, equate-els, impose-type, apply-func, apply-pred, bind-var, bind-ambient}
 use Rattle.semantics.specs.Calls.{close, type-conflicts, settle, root, root-const, lookup-type, ambient-parents, closed, Machine}
 use Rattle.semantics.specs.Calls.{leaves, equalityRule, impositionRule, applicationRule, closeRule, settleRule, rule, acceptance, step}
@@ -39,9 +42,10 @@ use Rattle.validity.proofs.Calls.{ValidMachine, step-valid}
 use Rattle.history.specs.Settled.{asserts, isYes, saidYes}
 use Rattle.history.proofs.Counts.{added-root}
 use Rattle.history.proofs.Drain.{WithinClass}
-use Rattle.history.proofs.Functionality.{entered, enterAll-alike}
+use Rattle.semantics.proofs.Canonical.{entered, enterAll-alike}
 use Rattle.history.proofs.Unjoined.{Fixed, Unjoined, Safe}
-use Rattle.history.proofs.Passes.{canonical-no-work}
+use Rattle.history.proofs.Operations.{held-alike}
+use Rattle.history.proofs.Passes.{LawsHeld, canonical-no-work}
 use Rattle.history.proofs.SecondClose.{noChange, Idle, idle-met, idle-report, idle-flags, NextUnchanged, idle-next, next-idle, after-idle}
 use Rattle.history.proofs.SecondClose.{second-close}
 
@@ -96,6 +100,7 @@ module _ (g : Sig) (s : Structure) (v : Valid g s) (i : Idle g s) where
       agree = ap (λ (r : Rewritten). r .queued) same ∙ i .rounds .agree;
       safe = subst (λ (r : Rewritten). All (Safe ks ms (s .facts)) (demands g (r .apps) (s .pred-apps))) (sym same)
           (safe (demands g xs (s .pred-apps)) (demands-valid g (v .sig) n xs (s .pred-apps) valid (vs .pred-apps .each)) (i .rounds .safe));
+      held = subst (LawsHeld g ks) (sym same) (all-map (held-alike (s .links) ks roots xs) (mapLaws (g .models) xs) (i .rounds .held));
     };
     imposed = safe (s .impositions) (vs .impositions .each) (i .imposed);
   }
@@ -118,9 +123,9 @@ module _ (g : Sig) (s : Structure) (v : Valid g s) (i : Idle g s) where
   -- Kinds 1 to 5: they are accepted only while nothing is stored.
 
   declared-idle : (h : Sig) → s .started ≡ false → Idle h s
-  unfolding empty coreAtStart demands funcArgs predArgs funcResults
+  unfolding empty coreAtStart demands funcArgs predArgs funcResults mapLaws
   declared-idle h q =
-      subst (Idle h) (sym (v .unstarted q)) (record { rounds = canonical-no-work h [] (coreAtStart empty) [] refl tt tt tt tt; imposed = tt })
+      subst (Idle h) (sym (v .unstarted q)) (record { rounds = canonical-no-work h [] (coreAtStart empty) [] refl tt tt tt tt tt; imposed = tt })
 
   -- Kind 6.
 
@@ -225,7 +230,7 @@ module _ (g : Sig) (s : Structure) (v : Valid g s) (i : Idle g s) where
   -- A close, which merges nothing.
 
   close-idle : Idle g (afterClose (closeRun g s) s)
-  close-idle = after-idle g s (vs .facts-rooted) (idle-met g s i) (ap (λ (c : Closed). c .merges) (idle-report g s i))
+  close-idle = after-idle g s v (idle-met g s i) (ap (λ (c : Closed). c .merges) (idle-report g s i))
 
 -- Every call.
 
@@ -235,7 +240,7 @@ IdleMachine m = Idle (m .sig) (m .structure)
 -- an accepted close; a settle has this of each of its closes
 close-keeps : (m : Machine) (c : Closed) → step close m .answer ≡ closed c → ValidMachine m × NextUnchanged m
     → ValidMachine (step close m .after) × NextUnchanged (step close m .after)
-close-keeps m c e h = (step-valid close m (h .0), second-close m noChange (h .0 .structure .facts-rooted) (h .1) refl)
+close-keeps m c e h = (step-valid close m (h .0), second-close m noChange (h .0) (h .1) refl)
 
 -- where no cause applies and the answer is not yes, what a call leaves is idle
 effect-idle : (k : Call) (m : Machine) → ValidMachine m → IdleMachine m → NoneApplies (rule k m .causes) → saidYes k (rule k m .answer) ≡ false

@@ -1,31 +1,36 @@
--- Wrong versions of the rule, each refuted by a short list of calls. Every list has two elements, 0 and 1.
+-- Wrong versions of the rule, each refuted by a short list of calls. Each is about the elements 0 and 1 of its list.
 -- A list is data, and what the right definitions say of it is computed and follows from the rule (`WorkedList`, `Right`). A version is the rule
 -- with one part replaced (`ConservationBy` of Versions). `table` has the versions, each with its list.
-use mathlib.Core.Path.{_≡_, refl, sym, subst, ap, _∙_}
+use mathlib.Core.Path.{_≡_, refl, sym, subst, ap, ap₂, _∙_}
 use mathlib.Core.Logic.{_↔_, Lift}
 use mathlib.Core.Bool.{Bool, true, false}
-use mathlib.Core.List.{List, [], _∷_, map, List·Memᴰ, List·Memᴰ·head, List·Memᴰ·tail, List·Memᴰ·not-nil}
+use mathlib.Core.List.{List, [], _∷_, _++_, map, List·Memᴰ, List·Memᴰ·head, List·Memᴰ·tail, List·Memᴰ·not-nil}
 use Prim.Native.Nat.{ℕ, zero, suc, _+_, _-_, _≤_, _<_}
 use Prim.Native.String.{String}
 use native.Mathlib.Omega.{arith}
 use lib.Dec.{T}
 use Rattle.ids.specs.Count.{count}
+use Rattle.ids.proofs.Sorted.{All, all-at}
 use Rattle.unification.specs.Roots.{rootOf}
-use Rattle.signature.specs.Model.{plain}
+use Rattle.signature.specs.Model.{plain, Sig, sig, empty, FuncM, type-entry, func-entry}
 use Rattle.semantics.specs.Structure.{Pair, pair, FuncApp, func-app}
 use Rattle.semantics.specs.Types.{anyMarked}
 use Rattle.semantics.specs.Close.{Closed, report}
 use Rattle.semantics.specs.Calls.{Call, equate-els, close, settle, totals, Answer, number, says, done, closed, conflicting, summed, found, typed, els, refuse}
 use Rattle.semantics.specs.Calls.{isAccepted, mergesOf, mergesIn}
 use Rattle.semantics.proofs.WrongSettles.{lastMerges}
-use Rattle.semantics.proofs.ProvedCases.{typ, func, plainEl, markedEl, impose, app}
-use Rattle.history.specs.Book.{Book, book, with-equalities, with-apps, elements, taken, fed, history, Together, none, Meet, Shared}
-use Rattle.history.specs.Book.{Classes, RanCloses, closes, settles, Conserved, Conservation}
+use Rattle.semantics.proofs.ProvedCases.{typ, func, plainEl, markedEl, impose, app, downFrom, signature102, dom, cod, identity, composite}
+use Rattle.history.specs.Book.{Book, book, with-sig, with-equalities, with-apps, elements, taken, fed, history, Together, none, more, Meet, AppNamed, Shared}
+use Rattle.history.specs.MapLaws.{Obeys}
+use Rattle.history.specs.Book.{Sharing, SharedByFits, AppliesNeither, Classes, RoundLimit, RanCloses, closes, settles, Conserved, Conservation}
 use Rattle.history.proofs.SecondClose.{noChange}
 use Rattle.history.proofs.Conservation.{conservation}
 use Rattle.history.proofs.Examples.{computed}
-use Rattle.history.proofs.Versions.{after, linksAfter, Feeds, bookBy, bookAfter, Meets, Sharing, SharedBy, ConservedBy, ConservationBy, unmarked}
-use Rattle.history.proofs.Versions.{feeding, merges, roundLimit, meets-right}
+use Rattle.history.proofs.Versions.{after, linksAfter, Feeds, bookBy, bookAfter, Meets, never, SharedBy, ConservedBy, ConservationBy, unmarked}
+use Rattle.history.proofs.Versions.{feeding, merges, roundLimit, closed-right}
+use Rattle.history.proofs.WrongLaws.{noIdCod, codOfFirst, noMiddle, maps, mapsBook, idApps, codApps, middleApps, exactBook, apart-by-fits}
+use Rattle.history.proofs.WrongLaws.{undeclaredBook, apart-undeclared}
+use Rattle.history.proofs.WrongLaws.{apart-no-id-cod, apart-cod-of-first, apart-no-middle, apart-exact}
 
 -- The lists.
 
@@ -48,12 +53,19 @@ pub record WorkedList : Type 0 where
   pub book : Book
   pub root : ℕ
   pub ran : RanCloses (history calls .machine) call answers
-  pub two : elements book ≡ 2
+  pub two : 2 ≤ elements book
   pub shows : shown calls call ≡ showing book (0 ∷ root ∷ [])
 
+-- a signature of one type and so many functions that give one of it
+abbrev constants : List FuncM → Sig
+constants fs = sig (type-entry plain [] ∷ []) [] fs [] []
+
+abbrev constant : FuncM
+constant = func-entry [] [] 0
+
 -- a book of two elements with no mark: equalities, applications, merges
-abbrev plainBook : List Pair → List FuncApp → ℕ → Book
-plainBook es xs n = book (false ∷ false ∷ []) es xs n
+abbrev plainBook : Sig → List Pair → List FuncApp → ℕ → Book
+plainBook g es xs n = book g (false ∷ false ∷ []) es xs n
 
 apart : WorkedList
 unfolding computed shown
@@ -61,10 +73,10 @@ apart = record {
   calls = plainEl ∷ plainEl ∷ [];
   call = close;
   answers = report false 0 1 ∷ [];
-  book = plainBook [] [] 0;
+  book = plainBook empty [] [] 0;
   root = 1;
   ran = closes refl;
-  two = refl;
+  two = omega arith;
   shows = refl;
 }
 
@@ -74,10 +86,10 @@ equal = record {
   calls = plainEl ∷ plainEl ∷ equate-els 0 1 ∷ [];
   call = close;
   answers = report true 1 2 ∷ [];
-  book = plainBook (pair 0 1 ∷ []) [] 1;
+  book = plainBook empty (pair 0 1 ∷ []) [] 1;
   root = 0;
   ran = closes refl;
-  two = refl;
+  two = omega arith;
   shows = refl;
 }
 
@@ -88,10 +100,10 @@ equal-before = record {
   calls = plainEl ∷ plainEl ∷ equate-els 0 1 ∷ close ∷ [];
   call = close;
   answers = report false 0 1 ∷ [];
-  book = plainBook (pair 0 1 ∷ []) [] 1;
+  book = plainBook empty (pair 0 1 ∷ []) [] 1;
   root = 0;
   ran = closes refl;
-  two = refl;
+  two = omega arith;
   shows = refl;
 }
 
@@ -102,10 +114,10 @@ refused-equal = record {
   calls = plainEl ∷ equate-els 0 1 ∷ plainEl ∷ [];
   call = close;
   answers = report false 0 1 ∷ [];
-  book = plainBook [] [] 0;
+  book = plainBook empty [] [] 0;
   root = 1;
   ran = closes refl;
-  two = refl;
+  two = omega arith;
   shows = refl;
 }
 
@@ -116,10 +128,10 @@ two-results = record {
   calls = typ plain [] ∷ func [] [] 0 ∷ plainEl ∷ plainEl ∷ app 0 [] [] 0 ∷ app 0 [] [] 1 ∷ [];
   call = close;
   answers = report true 1 2 ∷ [];
-  book = plainBook [] (func-app 0 [] [] 1 ∷ func-app 0 [] [] 0 ∷ []) 1;
+  book = plainBook (constants (constant ∷ [])) [] (func-app 0 [] [] 1 ∷ func-app 0 [] [] 0 ∷ []) 1;
   root = 0;
   ran = closes refl;
-  two = refl;
+  two = omega arith;
   shows = refl;
 }
 
@@ -130,10 +142,10 @@ two-parents = record {
   calls = typ plain [] ∷ func [] [] 0 ∷ plainEl ∷ plainEl ∷ app 0 (0 ∷ []) [] 0 ∷ app 0 (1 ∷ []) [] 1 ∷ [];
   call = close;
   answers = report true 0 2 ∷ [];
-  book = plainBook [] (func-app 0 (1 ∷ []) [] 1 ∷ func-app 0 (0 ∷ []) [] 0 ∷ []) 0;
+  book = plainBook (constants (constant ∷ [])) [] (func-app 0 (1 ∷ []) [] 1 ∷ func-app 0 (0 ∷ []) [] 0 ∷ []) 0;
   root = 1;
   ran = closes refl;
-  two = refl;
+  two = omega arith;
   shows = refl;
 }
 
@@ -144,10 +156,10 @@ two-functions = record {
   calls = typ plain [] ∷ func [] [] 0 ∷ func [] [] 0 ∷ plainEl ∷ plainEl ∷ app 0 [] [] 0 ∷ app 1 [] [] 1 ∷ [];
   call = close;
   answers = report true 0 2 ∷ [];
-  book = plainBook [] (func-app 1 [] [] 1 ∷ func-app 0 [] [] 0 ∷ []) 0;
+  book = plainBook (constants (constant ∷ constant ∷ [])) [] (func-app 1 [] [] 1 ∷ func-app 0 [] [] 0 ∷ []) 0;
   root = 1;
   ran = closes refl;
-  two = refl;
+  two = omega arith;
   shows = refl;
 }
 
@@ -158,10 +170,10 @@ two-lengths = record {
   calls = typ plain [] ∷ func [] [] 0 ∷ plainEl ∷ plainEl ∷ app 0 [] [] 0 ∷ app 0 [] (0 ∷ []) 1 ∷ [];
   call = close;
   answers = report true 0 2 ∷ [];
-  book = plainBook [] (func-app 0 [] (0 ∷ []) 1 ∷ func-app 0 [] [] 0 ∷ []) 0;
+  book = plainBook (constants (constant ∷ [])) [] (func-app 0 [] (0 ∷ []) 1 ∷ func-app 0 [] [] 0 ∷ []) 0;
   root = 1;
   ran = closes refl;
-  two = refl;
+  two = omega arith;
   shows = refl;
 }
 
@@ -172,10 +184,10 @@ marked-parent = record {
   calls = typ plain [] ∷ plainEl ∷ markedEl ∷ impose 0 0 (0 ∷ []) ∷ impose 0 0 (1 ∷ []) ∷ [];
   call = close;
   answers = report true 1 1 ∷ [];
-  book = book (false ∷ true ∷ []) [] [] 1;
+  book = book (constants []) (false ∷ true ∷ []) [] [] 1;
   root = 0;
   ran = closes refl;
-  two = refl;
+  two = omega arith;
   shows = refl;
 }
 
@@ -186,10 +198,10 @@ equal-settled = record {
   calls = plainEl ∷ plainEl ∷ equate-els 0 1 ∷ [];
   call = settle;
   answers = report true 1 2 ∷ noChange ∷ [];
-  book = plainBook (pair 0 1 ∷ []) [] 1;
+  book = plainBook empty (pair 0 1 ∷ []) [] 1;
   root = 0;
   ran = settles {t = totals 2 1} refl;
-  two = refl;
+  two = omega arith;
   shows = refl;
 }
 
@@ -200,10 +212,83 @@ functions-settled = record {
   calls = typ plain [] ∷ func [] [] 0 ∷ func [] [] 0 ∷ plainEl ∷ plainEl ∷ app 0 [] [] 0 ∷ app 1 [] [] 1 ∷ [];
   call = settle;
   answers = report true 0 2 ∷ noChange ∷ [];
-  book = plainBook [] (func-app 1 [] [] 1 ∷ func-app 0 [] [] 0 ∷ []) 0;
+  book = plainBook (constants (constant ∷ constant ∷ [])) [] (func-app 1 [] [] 1 ∷ func-app 0 [] [] 0 ∷ []) 0;
   root = 1;
   ran = settles {t = totals 2 0} refl;
-  two = refl;
+  two = omega arith;
+  shows = refl;
+}
+
+-- Identities and composites (02, M-102).
+
+-- id(0) = 0, so that cod(0) = 0, and cod(0) = 1
+identity-cod : WorkedList
+unfolding computed shown
+identity-cod = record {
+  calls = signature102 ++ (plainEl ∷ plainEl ∷ identity 0 0 ∷ cod 0 1 ∷ []);
+  call = close;
+  answers = report true 1 3 ∷ [];
+  book = mapsBook idApps;
+  root = 0;
+  ran = closes refl;
+  two = omega arith;
+  shows = refl;
+}
+
+-- comp(0, 1) = 0, cod(1) = 0 and cod(0) = 1
+composite-cod : WorkedList
+unfolding computed shown
+composite-cod = record {
+  calls = signature102 ++ (plainEl ∷ plainEl ∷ composite 0 1 0 ∷ cod 1 0 ∷ cod 0 1 ∷ []);
+  call = close;
+  answers = report true 1 3 ∷ [];
+  book = mapsBook codApps;
+  root = 0;
+  ran = closes refl;
+  two = omega arith;
+  shows = refl;
+}
+
+-- comp(0, 0) = 0, cod(0) = 0 and dom(0) = 1
+composite-middle : WorkedList
+unfolding computed shown
+composite-middle = record {
+  calls = signature102 ++ (plainEl ∷ plainEl ∷ composite 0 0 0 ∷ cod 0 0 ∷ dom 0 1 ∷ []);
+  call = close;
+  answers = report true 1 3 ∷ [];
+  book = mapsBook middleApps;
+  root = 0;
+  ran = closes refl;
+  two = omega arith;
+  shows = refl;
+}
+
+-- comp(1, 1) = 0, dom(2) = 0 and dom(3) = 1, where 1 and 2 are one, and 0 and 3
+composite-replaced : WorkedList
+unfolding computed shown
+composite-replaced = record {
+  calls = signature102 ++ (downFrom 4 (λ n. plainEl) ++ (composite 1 1 0 ∷ dom 2 0 ∷ dom 3 1 ∷ equate-els 1 2 ∷ equate-els 0 3 ∷ []));
+  call = close;
+  answers = report true 3 3 ∷ [];
+  book = exactBook;
+  root = 0;
+  ran = closes refl;
+  two = omega arith;
+  shows = refl;
+}
+
+-- a chain of composites against the order of the table: each round carries dom one composite further
+composite-chain : WorkedList
+unfolding computed shown
+composite-chain = record {
+  calls = signature102 ++ (downFrom 6 (λ n. plainEl) ++ (composite 0 4 3 ∷ composite 1 4 0 ∷ composite 2 4 1 ∷ dom 2 5 ∷ []));
+  call = close;
+  answers = report true 0 4 ∷ [];
+  book = book maps (false ∷ false ∷ false ∷ false ∷ false ∷ false ∷ []) []
+      (func-app 0 [] (2 ∷ []) 5 ∷ func-app 3 [] (2 ∷ 4 ∷ []) 1 ∷ func-app 3 [] (1 ∷ 4 ∷ []) 0 ∷ func-app 3 [] (0 ∷ 4 ∷ []) 3 ∷ []) 0;
+  root = 1;
+  ran = closes refl;
+  two = omega arith;
   shows = refl;
 }
 
@@ -232,16 +317,17 @@ module _ (w : WorkedList) where
 pub record Right (w : WorkedList) : Type 1 where
   pub conserved : Conserved (w .book) (links w) (w .answers)
   pub shared : Shared (w .book) 0 1 ↔ (w .root ≡ 0)
-  pub classes : Classes (w .book) (elements (w .book) - w .book .merges)
+  pub classes : Classes Shared (w .book) (elements (w .book) - w .book .merges)
 
 right : (w : WorkedList) → unmarked (w .book .marks) → Right w
 unfolding Conservation
 right w u =
-    let s = c .one-root 0 1 (omega (arith, w .two)) (omega (arith, w .two)) in
+    let by = c .by-class in
+    let s = by .one-root 0 1 (omega (arith, w .two)) (omega (arith, w .two)) in
     record {
       conserved = c;
       shared = (λ h. sym (root-one w) ∙ sym (s .1 h) ∙ root-zero w, λ h. s .0 (root-zero w ∙ sym (root-one w ∙ h)));
-      classes = subst (Classes (w .book)) (let z : c .classes ≡ elements (w .book) - w .book .merges = omega (arith, c .sum) in z) (c .counted);
+      classes = subst (Classes Shared (w .book)) (let z : by .classes ≡ elements (w .book) - w .book .merges = omega (arith, by .sum) in z) (by .counted);
     }
   where
     c : Conserved (w .book) (links w) (w .answers)
@@ -266,8 +352,8 @@ only-first p (suc n) t f = go (p (suc n)) (f (suc n) (omega arith) (omega arith)
     go false f e = e
 
 module _ {feeds : Feeds} {Admits : List Bool → Type 0} {Share : Sharing} {counts : Book → ℕ} {merged : Book → List Closed → ℕ} {Low : ℕ → ℕ → Type 0}
-    {Few : List Closed → Type 0} (h : ConservationBy feeds Admits Share counts merged Low Few) (w : WorkedList) (b : Book)
-    (made : bookAfter feeds (w .calls) (w .call) ≡ b) (two : elements b ≡ 2) (admitted : Admits (b .marks)) where
+    {Few : Book → List Closed → Type 0} (h : ConservationBy feeds Admits Share counts merged Low Few) (w : WorkedList) (b : Book)
+    (made : bookAfter feeds (w .calls) (w .call) ≡ b) (two : 2 ≤ elements b) (admitted : Admits (b .marks)) where
   -- what it says of the list
   said : ConservedBy Share counts merged Low Few b (links w) (w .answers)
   said =
@@ -287,8 +373,8 @@ module _ {feeds : Feeds} {Admits : List Bool → Type 0} {Share : Sharing} {coun
   parts r n = n (shares r)
 
   -- one class is counted, so that the merges of two elements must be 1, and the version has another number
-  miscounts : (k : ℕ) → counts b ≡ suc k → k ≤ 1 → (1 ≤ k → w .root ≡ 0) → (merged b (w .answers) ≡ 1 → ⊥) → ⊥
-  miscounts k q l r n = n (omega (arith, said .sum, said .counted .many, one, two))
+  miscounts : elements b ≡ 2 → (k : ℕ) → counts b ≡ suc k → k ≤ 1 → (1 ≤ k → w .root ≡ 0) → (merged b (w .answers) ≡ 1 → ⊥) → ⊥
+  miscounts both k q l r n = n (omega (arith, said .sum, said .counted .many, one, both))
     where
       p : ℕ → Bool
       p = said .counted .lowest
@@ -310,34 +396,56 @@ module _ {feeds : Feeds} {Admits : List Bool → Type 0} {Share : Sharing} {coun
       n (subst (λ (x : ℕ). Low x 1) (root-zero w) (said .lowest 0 1 (omega (arith, two)) (omega (arith, two)) (shares r)))
 
   -- it allows too few rounds
-  short-of-rounds : (Few (w .answers) → ⊥) → ⊥
+  short-of-rounds : (Few b (w .answers) → ⊥) → ⊥
   short-of-rounds n = n (said .few)
 
 -- Elements that share a class, and that do not.
 
 equal-shared : (b : Book) → List·Memᴰ (pair 0 1) (b .equalities) → Shared b 0 1
 unfolding Shared
-equal-shared b m R q f = f .equal (pair 0 1) m
+equal-shared b m R S q c = c .equal (pair 0 1) m
 
 met-shared : (M : Meets) (b : Book) (x y : FuncApp) → List·Memᴰ x (b .apps) → List·Memᴰ y (b .apps) → ((R : ℕ → ℕ → Type 0) → M R x y)
-    → SharedBy M b (x .result) (y .result)
+    → SharedBy M Meet Obeys b (x .result) (y .result)
 unfolding SharedBy
-met-shared M b x y m o t R q f = f .functional x y m o (t R)
+met-shared M b x y m o t R S q c = c .functional x y (c .given x m) (c .given y o) (t R)
 
--- with no equality, and no two applications that meet, each element is alone
-unmet : (M : Meets) (b : Book) → b .equalities ≡ [] → ((R : ℕ → ℕ → Type 0) (x y : FuncApp) → List·Memᴰ x (b .apps) → M R x y → ⊥) → SharedBy M b 0 1 → ⊥
+-- to be the same
+
+together-same : (k l : List ℕ) → Together (λ x y. x ≡ y) k l → k ≡ l
+together-same k l none = refl
+together-same k l (more e t) = ap₂ _∷_ e (together-same _ _ t)
+
+meet-same : (x y : FuncApp) → Meet (λ x y. x ≡ y) x y → x .result ≡ y .result → x ≡ y
+meet-same x y m r =
+    let p = together-same (x .parents) (y .parents) (m .parents) in
+    let a = together-same (x .args) (y .args) (m .args) in
+    λ i. func-app (m .func i) (p i) (a i) (r i)
+
+-- with no equality, no two applications that meet, and no model, each element is alone
+unmet : (M : Meets) (b : Book) → b .equalities ≡ [] → b .sig .models ≡ [] → All (AppNamed (elements b)) (b .apps)
+    → ((R : ℕ → ℕ → Type 0) (x y : FuncApp) → List·Memᴰ x (b .apps) → M R x y → ⊥) → SharedBy M Meet Obeys b 0 1 → ⊥
 unfolding SharedBy
-unmet M b e n s =
-    let z : _≡_ {A = ℕ} 0 1 = s (λ x y. x ≡ y) (record { same = λ x h. refl; flip = λ x y h k p. sym p; trans = λ x y z h k l p q. p ∙ q })
+unmet M b e none-declared named n s =
+    let z : _≡_ {A = ℕ} 0 1 = s (λ x y. x ≡ y) (λ x. List·Memᴰ x (b .apps)) (record { same = λ x h. refl; flip = λ x y h k p. sym p; trans = λ x y z h k l p q. p ∙ q })
     (record {
+      named = all-at (AppNamed (elements b)) (b .apps) named;
       equal = λ p m. absurd (List·Memᴰ·not-nil (subst (λ (l : List Pair). List·Memᴰ p l) e m));
+      given = λ x m. m;
+      replaced = λ x y m i t r. subst (λ (z : FuncApp). List·Memᴰ z (b .apps)) (meet-same x y t r) m;
       functional = λ x y m o t. absurd (n (λ x y. x ≡ y) x y m t);
+      laws = subst (All (Obeys (λ x. List·Memᴰ x (b .apps)))) (sym none-declared) tt;
     }) in
     omega (arith, z)
 
-bare : (b : Book) → b .equalities ≡ [] → b .apps ≡ [] → Shared b 0 1 → ⊥
-bare b e a s =
-    unmet Meet b e (λ R x y m t. List·Memᴰ·not-nil (subst (λ (l : List FuncApp). List·Memᴰ x l) a m)) (meets-right b 0 1 .1 s)
+bare : (b : Book) → b .equalities ≡ [] → b .sig .models ≡ [] → b .apps ≡ [] → Shared b 0 1 → ⊥
+bare b e d a s =
+    unmet Meet b e d (subst (All (AppNamed (elements b))) (sym a) tt)
+    (λ R x y m t. List·Memᴰ·not-nil (subst (λ (l : List FuncApp). List·Memᴰ x l) a m)) (closed-right b 0 1 .1 s)
+
+-- an application to no element, whose result is 0 or 1
+constant-named : (f r : ℕ) → r < 2 → AppNamed 2 (func-app f [] [] r)
+constant-named f r h = record { parents = tt; args = tt; result = h }
 
 -- The wrong parts.
 
@@ -349,6 +457,9 @@ noEqualities k a b = with-equalities [] (feeding k a b)
 
 abbrev noApplications : Feeds
 noApplications k a b = with-apps [] (feeding k a b)
+
+abbrev noDeclarations : Feeds
+noDeclarations k a b = with-sig empty (feeding k a b)
 
 -- the merges of a close, and none of a settle
 abbrev closeMerges : Answer → ℕ
@@ -375,11 +486,8 @@ roundsIn [] = 0
 roundsIn (c ∷ cs) = c .rounds + roundsIn cs
 
 -- the rounds of a settle summed, against its merges
-abbrev summedLimit : List Closed → Type 0
-summedLimit cs = roundsIn cs ≤ mergesIn cs + 2
-
-abbrev never : Meets
-never R x y = ⊥
+abbrev summedLimit : Book → List Closed → Type 0
+summedLimit b cs = AppliesNeither b → roundsIn cs ≤ mergesIn cs + 2
 
 abbrev anyParents : Meets
 anyParents R x y = (x .func ≡ y .func) × Together R (x .args) (y .args)
@@ -412,112 +520,112 @@ pub record Refuted : Type 2 where
   pub wrong : version → ⊥
 
 pub table : List Refuted
-unfolding computed shown bookBy apart equal equal-before refused-equal two-results two-parents two-functions two-lengths marked-parent equal-settled functions-settled
+unfolding computed shown bookBy AppliesNeither apart equal equal-before refused-equal two-results two-parents two-functions two-lengths marked-parent equal-settled functions-settled identity-cod composite-cod composite-middle composite-replaced composite-chain
 table =
     record {
       name = "refused equalities taken";
       version = ConservationBy refusedTaken unmarked Shared elements merges _≤_ (roundLimit 2);
       list = refused-equal;
       fact = conserved (right refused-equal refl);
-      wrong = λ h. joins h refused-equal (plainBook (pair 0 1 ∷ []) [] 0) refl refl refl refl (equal-shared _ (List·Memᴰ·head refl));
+      wrong = λ h. joins h refused-equal (plainBook empty (pair 0 1 ∷ []) [] 0) refl (omega arith) refl refl (equal-shared _ (List·Memᴰ·head refl));
     }
     ∷ record {
       name = "equality dropped";
       version = ConservationBy noEqualities unmarked Shared elements merges _≤_ (roundLimit 2);
       list = equal;
       fact = conserved (right equal refl);
-      wrong = λ h. parts h equal (plainBook [] [] 1) refl refl refl refl (bare _ refl refl);
+      wrong = λ h. parts h equal (plainBook empty [] [] 1) refl (omega arith) refl refl (bare _ refl refl refl);
     }
     ∷ record {
       name = "application dropped";
       version = ConservationBy noApplications unmarked Shared elements merges _≤_ (roundLimit 2);
       list = two-results;
       fact = conserved (right two-results refl);
-      wrong = λ h. parts h two-results (plainBook [] [] 1) refl refl refl refl (bare _ refl refl);
+      wrong = λ h. parts h two-results (plainBook (constants (constant ∷ [])) [] [] 1) refl (omega arith) refl refl (bare _ refl refl refl);
     }
     ∷ record {
       name = "merges twice";
       version = ConservationBy feeding unmarked Shared elements (λ b cs. b .merges + b .merges) _≤_ (roundLimit 2);
       list = equal;
       fact = conserved (right equal refl);
-      wrong = λ h. miscounts h equal (equal .book) refl refl refl 1 refl (omega arith) (λ l. refl) (λ z. omega (arith, z));
+      wrong = λ h. miscounts h equal (equal .book) refl (omega arith) refl refl 1 refl (omega arith) (λ l. refl) (λ z. omega (arith, z));
     }
     ∷ record {
       name = "merges of the last close only";
       version = ConservationBy feeding unmarked Shared elements (λ b cs. lastMerges cs) _≤_ (roundLimit 2);
       list = equal-before;
       fact = conserved (right equal-before refl);
-      wrong = λ h. miscounts h equal-before (equal-before .book) refl refl refl 1 refl (omega arith) (λ l. refl) (λ z. omega (arith, z));
+      wrong = λ h. miscounts h equal-before (equal-before .book) refl (omega arith) refl refl 1 refl (omega arith) (λ l. refl) (λ z. omega (arith, z));
     }
     ∷ record {
       name = "classes over one element fewer";
       version = ConservationBy feeding unmarked Shared (λ b. elements b - 1) merges _≤_ (roundLimit 2);
       list = apart;
       fact = conserved (right apart refl);
-      wrong = λ h. miscounts h apart (apart .book) refl refl refl 0 refl (omega arith) (λ l. absurd (omega (arith, l))) (λ z. omega (arith, z));
+      wrong = λ h. miscounts h apart (apart .book) refl (omega arith) refl refl 0 refl (omega arith) (λ l. absurd (omega (arith, l))) (λ z. omega (arith, z));
     }
     ∷ record {
       name = "highest root";
       version = ConservationBy feeding unmarked Shared elements merges (λ r y. y ≤ r) (roundLimit 2);
       list = equal;
       fact = conserved (right equal refl);
-      wrong = λ h. misplaces h equal (equal .book) refl refl refl refl (λ l. omega (arith, l));
+      wrong = λ h. misplaces h equal (equal .book) refl (omega arith) refl refl (λ l. omega (arith, l));
     }
     ∷ record {
       name = "rounds at most merges and one";
       version = ConservationBy feeding unmarked Shared elements merges _≤_ (roundLimit 1);
       list = two-functions;
       fact = conserved (right two-functions refl);
-      wrong = λ h. short-of-rounds h two-functions (two-functions .book) refl refl refl (λ l. omega (arith, l .0));
+      wrong = λ h. short-of-rounds h two-functions (two-functions .book) refl (omega arith) refl (λ l. omega (arith, l (refl, (refl, tt)) .0));
     }
     ∷ record {
       name = "all in one class";
       version = ConservationBy feeding unmarked (λ b x y. Unit {1}) elements merges _≤_ (roundLimit 2);
       list = apart;
       fact = conserved (right apart refl);
-      wrong = λ h. joins h apart (apart .book) refl refl refl refl tt;
+      wrong = λ h. joins h apart (apart .book) refl (omega arith) refl refl tt;
     }
     ∷ record {
       name = "each alone";
       version = ConservationBy feeding unmarked (λ b x y. Lift {0, 1} (x ≡ y)) elements merges _≤_ (roundLimit 2);
       list = equal;
       fact = conserved (right equal refl);
-      wrong = λ h. parts h equal (equal .book) refl refl refl refl (λ s. omega (arith, s .lower));
+      wrong = λ h. parts h equal (equal .book) refl (omega arith) refl refl (λ s. omega (arith, s .lower));
     }
     ∷ record {
       name = "no functionality";
-      version = ConservationBy feeding unmarked (SharedBy never) elements merges _≤_ (roundLimit 2);
+      version = ConservationBy feeding unmarked (SharedBy never Meet Obeys) elements merges _≤_ (roundLimit 2);
       list = two-results;
       fact = conserved (right two-results refl);
-      wrong = λ h. parts h two-results (two-results .book) refl refl refl refl (unmet never _ refl (λ R x y m t. t));
+      wrong = λ h. parts h two-results (two-results .book) refl (omega arith) refl refl (unmet never _ refl refl (constant-named 0 1 (omega arith), (constant-named 0 0 (omega arith), tt)) (λ R x y m t. t));
     }
     ∷ record {
       name = "Meet without parents";
-      version = ConservationBy feeding unmarked (SharedBy anyParents) elements merges _≤_ (roundLimit 2);
+      version = ConservationBy feeding unmarked (SharedBy anyParents Meet Obeys) elements merges _≤_ (roundLimit 2);
       list = two-parents;
       fact = conserved (right two-parents refl);
       wrong = λ h.
-          joins h two-parents (two-parents .book) refl refl refl refl
+          joins h two-parents (two-parents .book) refl (omega arith) refl refl
           (met-shared anyParents _ (func-app 0 (0 ∷ []) [] 0) (func-app 0 (1 ∷ []) [] 1) (List·Memᴰ·tail (List·Memᴰ·head refl)) (List·Memᴰ·head refl)
           (λ R. (refl, none)));
     }
     ∷ record {
       name = "Meet without the function";
-      version = ConservationBy feeding unmarked (SharedBy anyFunction) elements merges _≤_ (roundLimit 2);
+      version = ConservationBy feeding unmarked (SharedBy anyFunction Meet Obeys) elements merges _≤_ (roundLimit 2);
       list = two-functions;
       fact = conserved (right two-functions refl);
       wrong = λ h.
-          joins h two-functions (two-functions .book) refl refl refl refl
+          joins h two-functions (two-functions .book) refl (omega arith) refl refl
           (met-shared anyFunction _ (func-app 0 [] [] 0) (func-app 1 [] [] 1) (List·Memᴰ·tail (List·Memᴰ·head refl)) (List·Memᴰ·head refl)
           (λ R. (none, none)));
     }
     ∷ record {
       name = "shorter lists together";
-      version = ConservationBy feeding unmarked (SharedBy shorter) elements merges _≤_ (roundLimit 2);
+      version = ConservationBy feeding unmarked (SharedBy shorter Meet Obeys) elements merges _≤_ (roundLimit 2);
       list = two-lengths;
       fact = conserved (right two-lengths refl);
       wrong = λ h.
-          joins h two-lengths (two-lengths .book) refl refl refl refl
+          joins h two-lengths (two-lengths .book) refl (omega arith) refl refl
           (met-shared shorter _ (func-app 0 [] [] 0) (func-app 0 [] (0 ∷ []) 1) (List·Memᴰ·tail (List·Memᴰ·head refl)) (List·Memᴰ·head refl)
           (λ R. (refl, tt, tt)));
     }
@@ -525,8 +633,8 @@ table =
       name = "marks allowed";
       version = ConservationBy feeding (λ ms. Unit {0}) Shared elements merges _≤_ (roundLimit 2);
       list = marked-parent;
-      fact = outside refl refl (bare _ refl refl);
-      wrong = λ h. parts h marked-parent (marked-parent .book) refl refl tt refl (bare _ refl refl);
+      fact = outside refl refl (bare _ refl refl refl);
+      wrong = λ h. parts h marked-parent (marked-parent .book) refl (omega arith) tt refl (bare _ refl refl refl);
     }
     ∷ record {
       name = "merges of a settle not taken";
@@ -534,20 +642,69 @@ table =
       list = equal-settled;
       fact = conserved (right equal-settled refl);
       wrong = λ h.
-          miscounts h equal-settled (plainBook (pair 0 1 ∷ []) [] 0) refl refl refl 1 refl (omega arith) (λ l. refl) (λ z. omega (arith, z));
+          miscounts h equal-settled (plainBook empty (pair 0 1 ∷ []) [] 0) refl (omega arith) refl refl 1 refl (omega arith) (λ l. refl) (λ z. omega (arith, z));
     }
     ∷ record {
       name = "merges of a settle's last close only";
       version = ConservationBy feeding unmarked Shared elements lastOfSettle _≤_ (roundLimit 2);
       list = equal-settled;
       fact = conserved (right equal-settled refl);
-      wrong = λ h. miscounts h equal-settled (equal-settled .book) refl refl refl 1 refl (omega arith) (λ l. refl) (λ z. omega (arith, z));
+      wrong = λ h. miscounts h equal-settled (equal-settled .book) refl (omega arith) refl refl 1 refl (omega arith) (λ l. refl) (λ z. omega (arith, z));
     }
     ∷ record {
       name = "rounds of a settle at most its merges and two";
       version = ConservationBy feeding unmarked Shared elements merges _≤_ summedLimit;
       list = functions-settled;
       fact = conserved (right functions-settled refl);
-      wrong = λ h. short-of-rounds h functions-settled (functions-settled .book) refl refl refl (λ l. omega (arith, l));
+      wrong = λ h. short-of-rounds h functions-settled (functions-settled .book) refl (omega arith) refl (λ l. omega (arith, l (refl, (refl, tt))));
+    }
+    ∷ record {
+      name = "the classes of 01, without the laws";
+      version = ConservationBy feeding unmarked SharedByFits elements merges _≤_ (roundLimit 2);
+      list = identity-cod;
+      fact = conserved (right identity-cod refl);
+      wrong = λ h. parts h identity-cod (identity-cod .book) refl (omega arith) refl refl (apart-by-fits maps);
+    }
+    ∷ record {
+      name = "declarations dropped";
+      version = ConservationBy noDeclarations unmarked Shared elements merges _≤_ (roundLimit 2);
+      list = identity-cod;
+      fact = conserved (right identity-cod refl);
+      wrong = λ h. parts h identity-cod undeclaredBook refl (omega arith) refl refl apart-undeclared;
+    }
+    ∷ record {
+      name = "dom of an identity without its cod";
+      version = ConservationBy feeding unmarked (SharedBy Meet Meet noIdCod) elements merges _≤_ (roundLimit 2);
+      list = identity-cod;
+      fact = conserved (right identity-cod refl);
+      wrong = λ h. parts h identity-cod (identity-cod .book) refl (omega arith) refl refl apart-no-id-cod;
+    }
+    ∷ record {
+      name = "cod of a composite from the first map";
+      version = ConservationBy feeding unmarked (SharedBy Meet Meet codOfFirst) elements merges _≤_ (roundLimit 2);
+      list = composite-cod;
+      fact = conserved (right composite-cod refl);
+      wrong = λ h. parts h composite-cod (composite-cod .book) refl (omega arith) refl refl apart-cod-of-first;
+    }
+    ∷ record {
+      name = "no law of the middle";
+      version = ConservationBy feeding unmarked (SharedBy Meet Meet noMiddle) elements merges _≤_ (roundLimit 2);
+      list = composite-middle;
+      fact = conserved (right composite-middle refl);
+      wrong = λ h. parts h composite-middle (composite-middle .book) refl (omega arith) refl refl apart-no-middle;
+    }
+    ∷ record {
+      name = "laws of exact tuples";
+      version = ConservationBy feeding unmarked (SharedBy Meet never Obeys) elements merges _≤_ (roundLimit 2);
+      list = composite-replaced;
+      fact = conserved (right composite-replaced refl);
+      wrong = λ h. parts h composite-replaced (composite-replaced .book) refl (omega arith) refl refl apart-exact;
+    }
+    ∷ record {
+      name = "the round limit of every list";
+      version = ConservationBy feeding unmarked Shared elements merges _≤_ (λ b. RoundLimit);
+      list = composite-chain;
+      fact = conserved (right composite-chain refl);
+      wrong = λ h. short-of-rounds h composite-chain (composite-chain .book) refl (omega arith) refl (λ l. omega (arith, l .0));
     }
     ∷ []

@@ -32,6 +32,17 @@ pub record Respects (R : ℕ → ℕ → Type 0) (S : FuncApp → Type 0) : Type
   pub alike : (x y : FuncApp) → Meet R x y → R (x .result) (y .result) → S x → S y
   pub agree : (x y : FuncApp) → Meet R x y → S x → S y → R (x .result) (y .result)
 
+-- lists of one and of two that are together
+
+pub together-one : {R : ℕ → ℕ → Type 0} {a b : ℕ} → R a b → Together R (a ∷ []) (b ∷ [])
+together-one h = more h none
+
+pub with-one : {R : ℕ → ℕ → Type 0} {a : ℕ} (l : List ℕ) → Together R l (a ∷ []) → (x : ℕ) × (l ≡ x ∷ []) × R x a
+with-one l (more {x} h none) = (x, refl, h)
+
+pub with-two : {R : ℕ → ℕ → Type 0} {a b : ℕ} (l : List ℕ) → Together R l (a ∷ b ∷ []) → (x : ℕ) × (y : ℕ) × (l ≡ x ∷ y ∷ []) × R x a × R y b
+with-two l (more {x = x} h (more {x = y} k none)) = (x, y, refl, h, k)
+
 -- x is alike to an application that has App
 pub record Like (R : ℕ → ℕ → Type 0) (App : FuncApp → Type 0) (x : FuncApp) : Type 0 where
   pub of : FuncApp
@@ -40,14 +51,14 @@ pub record Like (R : ℕ → ℕ → Type 0) (App : FuncApp → Type 0) (x : Fun
   pub result : R (of .result) (x .result)
 
 module _ (R : ℕ → ℕ → Type 0) (q : Equivalence R) where
-  together-same : (l : List ℕ) → Together R l l
+  pub together-same : (l : List ℕ) → Together R l l
   together-same [] = none
   together-same (x ∷ xs) = more (q .same x) (together-same xs)
 
   together-equal : (k l : List ℕ) → k ≡ l → Together R k l
   together-equal k l p = subst (Together R k) p (together-same k)
 
-  together-flip : {k l : List ℕ} → Together R k l → Together R l k
+  pub together-flip : {k l : List ℕ} → Together R k l → Together R l k
   together-flip none = none
   together-flip (more a h) = more (q .flip a) (together-flip h)
 

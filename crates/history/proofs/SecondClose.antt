@@ -1,6 +1,6 @@
 -- What it is that the next close is accepted and reports no change, marks or not; and that a close which merges nothing leaves it so.
 use mathlib.Core.Path.{_≡_, refl, sym, subst, ap, ap₂, _∙_}
-use mathlib.Core.Bool.{Bool, true, false, _&&_}
+use mathlib.Core.Bool.{Bool, true, false}
 use mathlib.Core.List.{List, [], _∷_, _++_, map, map-append}
 use mathlib.Core.Option.{none}
 use Prim.Native.Nat.{ℕ, zero, suc, _≤_, _<_}
@@ -10,31 +10,35 @@ use lib.Dec.{ltb}
 use borrow.Author.Tests.{ltb-false}
 use Rattle.ids.specs.Answers.{Answered, Outcome, outcome, accepted, refusing, accepting}
 use Rattle.ids.specs.Table.{rewriteInto}
-use Rattle.ids.proofs.Sorted.{All, all-map, all-join, all-left, all-right, all-image, Sorted, rewrite-all}
+use Rattle.ids.proofs.Sorted.{All, all-map, all-join, all-left, all-right, all-image, rewrite-all}
 use Rattle.ids.proofs.Judging.{decided-accepts}
 use Rattle.ids.proofs.Views.{map-take}
 use Rattle.unification.specs.Roots.{rootOf}
 use Rattle.signature.specs.Model.{Sig, predAt}
 use Rattle.signature.specs.Calls.{TypedM, at, absent, concreteTypeAt}
-use Rattle.semantics.specs.Structure.{Fact, FuncApp, PredApp, Pair, Structure, compareFuncApp, comparePredApp, canonicalFact, canonicalPredApp, fact}
+use Rattle.semantics.specs.Structure.{Fact, FuncApp, PredApp, Structure, comparePredApp, canonicalFact, canonicalPredApp, fact}
 use Rattle.semantics.specs.Structure.{with-flags}
 use Rattle.semantics.specs.Types as types
 use Rattle.semantics.specs.Types.{Core, imposeAll, grew}
-use Rattle.semantics.specs.Close.{demanded, demandedAt, demandedArgs, funcArgs, predArgs, funcResults, demands, Turn, round, Rounds, isNone, goesOn, close-run}
+use Rattle.semantics.specs.Close.{demanded, demandedAt, demandedArgs, funcArgs, predArgs, funcResults, demands, Turn, round, Rounds, goesOn, close-run}
 use Rattle.semantics.specs.Close.{lastRound, oneMore, roundsFrom, rounds, fuel, Closed, coreAtStart, canonicaliseRefs, withCore, imposedAfter, closeRun}
 use Rattle.semantics.specs.Close.{reportOf, afterClose, closeBy, close, turn, report}
+use Rattle.semantics.specs.MapLaws.{mapLaws}
+use Rattle.semantics.specs.Valid.{Valid}
 use Rattle.semantics.specs.Calls as calls
 use Rattle.semantics.specs.Calls.{closed, summed, totals, Machine, Step, leaves, SettleRun, settle-run, reportedFirst, settleAfter, settleBy, settleFrom}
 use Rattle.semantics.specs.Calls.{settleRun, mergesIn, sumsOf, rule, closeRule, acceptance, refusal, stepBy, step}
 use Rattle.semantics.proofs.Judged.{close-first}
 use Rattle.semantics.proofs.Settling.{settle-by}
-use Rattle.semantics.proofs.Cases.{and-second, or-first, or-second, none-some}
-use Rattle.validity.proofs.Drain.{TwoRoots}
+use Rattle.semantics.proofs.Cases.{or-first, or-second, none-some}
+use Rattle.validity.proofs.Fuel.{LastRoundOf}
+use Rattle.validity.proofs.Closing.{close-ends, close-within}
 use Rattle.history.proofs.Drain.{WithinClass}
-use Rattle.history.proofs.Functionality.{Canon}
+use Rattle.history.proofs.Operations.{Held}
+use Rattle.semantics.proofs.Canonical.{Canon}
 use Rattle.history.proofs.Imposing.{impose-inserts, imposeAll-counts, imposeAll-same, plain-grown}
-use Rattle.history.proofs.Passes.{NoWork, canonical-no-work, RoundDone, OnlyTidied, round-idle, done-idle, round-more, still-done, still-rooted, round-was-idle}
-use Rattle.history.proofs.Rounds.{stop, isNone-none, last-unworked}
+use Rattle.history.proofs.Passes.{NoWork, canonical-no-work, OnlyTidied, round-idle, round-was-idle}
+use Rattle.history.proofs.Rounds.{stop, last-unworked, rounds-ended}
 use Rattle.history.proofs.Closing.{AcceptedClose, accepted-close, closedMachine, closed-step}
 use Rattle.history.proofs.Unjoined.{Safe, OnRoots, imposed-safe, safe-idle, same-safe, rewrittenFacts, safe-rewritten, safe-image, safe-moved}
 use Rattle.history.proofs.Unjoined.{insertAll-roots}
@@ -91,68 +95,9 @@ module _ (P : Fact → Type 0) (g : Sig) where
       (preds-each preds (all-left P (predArgs g preds) (funcResults g apps) rest))) tt))
       (all-right P (predArgs g preds) (funcResults g apps) rest))
 
--- Rounds that merge nothing: the first does all the work.
-
-abbrev AtLeast : ℕ → Rounds → Type 0
-AtLeast n r = n ≤ r .core .merges
+-- Rounds that are one.
 
 module _ (g : Sig) (preds : List PredApp) where
-  rounds-count : (k : ℕ) (t : Turn) → AtLeast (t .core .merges) (roundsFrom k g preds t)
-  unfolding roundsFrom lastRound oneMore
-  rounds-count zero t = omega arith
-  rounds-count (suc k) t =
-      let v = round g preds (t .apps) (t .core) in
-      go (t .worked && isNone (t .core .met)) (omega (arith, rounds-count k v, round-more g preds (t .apps) (t .core)))
-    where
-      go : (b : Bool) → AtLeast (t .core .merges) (roundsFrom k g preds (round g preds (t .apps) (t .core)))
-          → AtLeast (t .core .merges) (elim b [ true ↦ oneMore (roundsFrom k g preds (round g preds (t .apps) (t .core))) | false ↦ lastRound t ])
-      go true h = h
-      go false h = omega arith
-
-  -- r is what the round that left u left, and u has no pair
-  record FirstDid (u : Turn) (r : Rounds) : Type 0 where
-    core : r .core ≡ u .core
-    apps : r .apps ≡ u .apps
-    pairs : u .core .pairs ≡ []
-
-  -- provided that no round merged, and none was stopped
-  abbrev IfStill : Turn → Rounds → Type 0
-  IfStill u r = r .core .merges ≡ u .core .merges → r .core .met ≡ none → FirstDid u r
-
-  module _ (w : Core) (u : Turn) (done : RoundDone g preds w u) where
-    abbrev v : Turn
-    v = round g preds (u .apps) (u .core)
-
-    -- a round after it merges a pair that waits, so that none does
-    empty : v .core .merges ≡ u .core .merges → (ps : List Pair) → u .core .pairs ≡ ps → u .core .pairs ≡ []
-    empty e [] q = q
-    empty e (p ∷ ps) q =
-        let two = subst (All (TwoRoots (u .core .links))) q (done .table .apart) in
-        absurd (omega (arith, e, still-done g preds (u .apps) (u .core) e .table .merges p ps q (two .0)))
-
-    still-rounds : (k : ℕ) → 0 < k → IfStill u (roundsFrom k g preds u)
-    unfolding roundsFrom oneMore lastRound
-    still-rounds zero l = absurd (omega arith)
-    still-rounds (suc k) l = go (u .worked && isNone (u .core .met)) refl
-      where
-        go : (b : Bool) → (u .worked && isNone (u .core .met)) ≡ b
-            → IfStill u (elim b [ true ↦ oneMore (roundsFrom k g preds v) | false ↦ lastRound u ])
-        go true q e m =
-            let still : v .core .merges ≡ u .core .merges = omega (arith, e, rounds-count k v, round-more g preds (u .apps) (u .core)) in
-            let pairs = empty still (u .core .pairs) refl in
-            let z = done-idle g preds w u done (isNone-none (u .core .met) (and-second (u .worked) (isNone (u .core .met)) q)) pairs in
-            let s = stop g preds k v (ap (λ (x : Turn). x .worked) z) in
-            record {
-              core = ap (λ (r : Rounds). r .core) s ∙ ap (λ (x : Turn). x .core) z;
-              apps = ap (λ (r : Rounds). r .apps) s ∙ ap (λ (x : Turn). x .apps) z;
-              pairs = pairs;
-            }
-        go false q e m = record {
-          core = refl;
-          apps = refl;
-          pairs = done .table .idle (last-unworked u q m);
-        }
-
   rounds-some : (k : ℕ) (t : Turn) → 1 ≤ roundsFrom k g preds t .count
   unfolding roundsFrom lastRound oneMore
   rounds-some zero t = omega arith
@@ -262,44 +207,45 @@ module _ (g : Sig) (s : Structure) where
       let safe = subst (λ (v : Core). All (Safe (v .links) (v .marks) (v .facts)) (s .impositions)) one (same-safe (s .impositions) (r .core) same m) in
       record { rounds = no-work; imposed = safe-before no-work (s .impositions) safe }
 
-  -- What a close leaves that merged nothing, of every structure whose facts stand on roots, as in every valid one.
-  module _ (on : OnRoots (s .links) (s .facts)) where
-    pub after-idle : closeRun g s .core .met ≡ none → reportOf (closeRun g s) .merges ≡ 0 → Idle g (afterClose (closeRun g s) s)
-    unfolding closeRun imposedAfter reportOf afterClose canonicaliseRefs withCore coreAtStart rounds fuel
-    after-idle m z =
-        let a = imposeAll-counts (s .impositions) (r .core) in
-        let b = rounds-count g (s .pred-apps) fuel first in
-        let none-first : first .core .merges ≡ 0 = omega (arith, a, b, z) in
-        let none-rounds : r .core .merges ≡ first .core .merges = omega (arith, a, b, z) in
-        let none-imposed : w .merges ≡ r .core .merges = omega (arith, a, z) in
-        let did = still-done g (s .pred-apps) (s .func-apps) (coreAtStart s) none-first in
-        let plain = impose-inserts (s .impositions) (r .core) none-imposed in
+  -- What a close leaves whose impositions merged nothing, of every valid structure: after the last round nothing remained to do, and they added facts only.
+  module _ (v : Valid g s) where
+    abbrev last : LastRoundOf g (s .pred-apps) r
+    last = close-ends g s v
+
+    rounds-rooted : OnRoots (r .core .links) (r .core .facts)
+    rounds-rooted =
+        subst (λ (x : Core). OnRoots (x .links) (x .facts)) (sym (last .core)) (close-within g s v .after .begins .valid .rooted)
+
+    after-imposing : closeRun g s .core .met ≡ none → closeRun g s .core .merges ≡ r .core .merges → Idle g (afterClose (closeRun g s) s)
+    unfolding closeRun imposedAfter afterClose canonicaliseRefs withCore coreAtStart
+    after-imposing m still =
+        let plain = impose-inserts (s .impositions) (r .core) still in
         let grown = plain-grown (s .impositions) (r .core) plain in
-        let same = still-rounds g (s .pred-apps) (coreAtStart s) first did fuel (omega arith) none-rounds (grown .met m) in
+        let ended = rounds-ended g (s .pred-apps) r last (grown .met m) in
         let ls = w .links in
         let ms = w .marks in
+        let fs = rewrittenFacts ls ms (w .facts) in
         let ds = demands g (r .apps) (s .pred-apps) in
-        let links : ls ≡ first .core .links = grown .links ∙ ap (λ (v : Core). v .links) (same .core) in
-        let demanded : All (Safe (r .core .links) (r .core .marks) (r .core .facts)) ds =
-        subst (λ (v : Core). All (Safe (v .links) (v .marks) (v .facts)) ds) (sym (same .core))
-        (subst (λ xs. All (Safe (first .core .links) (first .core .marks) (first .core .facts)) (demands g xs (s .pred-apps))) (sym (same .apps))
-        (did .safe (ap (λ (v : Core). v .met) (sym (same .core)) ∙ grown .met m))) in
-        let imposed = imposed-safe (s .impositions) (r .core) none-imposed m ds demanded in
+        let imposed = imposed-safe (s .impositions) (r .core) still m ds (ended .safe) in
         let on-now : OnRoots ls (w .facts) =
-        subst (λ (v : Core). OnRoots (v .links) (v .facts)) (sym plain)
-        (insertAll-roots (s .impositions) (r .core) (subst (λ (v : Core). OnRoots (v .links) (v .facts)) (sym (same .core)) (still-rooted g (s .pred-apps) (s .func-apps) (coreAtStart s) none-first on))) in
-        let now : (l : List Fact) → All (Safe (r .core .links) (r .core .marks) (w .facts)) l → All (Safe ls ms (rewrittenFacts ls ms (w .facts))) l =
+        subst (λ (x : Core). OnRoots (x .links) (x .facts)) (sym plain) (insertAll-roots (s .impositions) (r .core) rounds-rooted) in
+        let now : (l : List Fact) → All (Safe (r .core .links) (r .core .marks) (w .facts)) l → All (Safe ls ms fs) l =
         λ l h. all-map (safe-rewritten ls ms (w .facts) on-now) l (safe-moved (sym (grown .links)) (sym (grown .marks)) (w .facts) l h) in
-        let image = safe-image ls ms (rewrittenFacts ls ms (w .facts)) in
+        let image = safe-image ls ms fs in
         record {
           rounds = canonical-no-work g _ (coreAtStart (afterClose (closeRun g s) s)) (r .apps) refl
-              (subst (All (WithinClass ls)) (sym (grown .pairs ∙ ap (λ (v : Core). v .pairs) (same .core) ∙ same .pairs)) tt)
-              (subst (Sorted compareFuncApp) (sym (same .apps)) (did .table .sorted))
-              (subst (λ k. All (Canon k) (r .apps)) (sym links) (subst (All (Canon (first .core .links))) (sym (same .apps)) (did .table .canon)))
-              (demands-rewritten (Safe ls ms (rewrittenFacts ls ms (w .facts))) g ls image (r .apps) (s .pred-apps) (now ds (imposed .0)));
-          imposed = all-image (Safe ls ms (rewrittenFacts ls ms (w .facts))) (canonicalFact ls) (s .impositions)
+              (subst (All (WithinClass ls)) (sym (grown .pairs ∙ ended .pairs)) tt) (ended .sorted)
+              (subst (λ k. All (Canon k) (r .apps)) (sym (grown .links)) (ended .canon))
+              (demands-rewritten (Safe ls ms fs) g ls image (r .apps) (s .pred-apps) (now ds (imposed .0)))
+              (subst (λ k. All (Held k (r .apps)) (mapLaws (g .models) (r .apps))) (sym (grown .links)) (ended .held));
+          imposed = all-image (Safe ls ms fs) (canonicalFact ls) (s .impositions)
               (all-map image (s .impositions) (now (s .impositions) (imposed .1)));
         }
+
+    -- so a close that merged nothing
+    pub after-idle : closeRun g s .core .met ≡ none → reportOf (closeRun g s) .merges ≡ 0 → Idle g (afterClose (closeRun g s) s)
+    after-idle m z =
+        after-imposing m (unfold closeRun imposedAfter reportOf in omega (arith, imposeAll-counts (s .impositions) (r .core), z))
 
     pub closed-idle : (c : Closed) → close g s .answer ≡ accepted c → c .merges ≡ 0 → Idle g (close g s .after)
     closed-idle c e z =
@@ -346,13 +292,13 @@ next-settles m u =
     settle-by m (λ (t : Step). t .answer ≡ summed (totals 1 0)) (λ e. ap (λ (r : SettleRun). summed (sumsOf (r .reports))) one)
     (λ n e. none-some (sym (ap (λ (r : SettleRun). r .met) one) ∙ e))
 
--- where the facts stand on roots, "close C 0 R" is followed by "close 0 0 1"
-pub second-close : (m : Machine) (c : Closed) → OnRoots (m .structure .links) (m .structure .facts) → step calls.close m .answer ≡ closed c → c .merges ≡ 0
+-- of a valid structure, "close C 0 R" is followed by "close 0 0 1"
+pub second-close : (m : Machine) (c : Closed) → Valid (m .sig) (m .structure) → step calls.close m .answer ≡ closed c → c .merges ≡ 0
     → NextUnchanged (step calls.close m .after)
 unfolding leaves
-second-close m c on e z =
+second-close m c v e z =
     let a = closed-step m c e in
     subst NextUnchanged (sym (a .after))
     (idle-next (closedMachine m c)
     (idle-flags (m .sig) (afterClose (closeRun (m .sig) (m .structure)) (m .structure)) true _
-    (after-idle (m .sig) (m .structure) on (a .met) (sym (ap (λ (x : Closed). x .merges) (a .answer)) ∙ z))))
+    (after-idle (m .sig) (m .structure) v (a .met) (sym (ap (λ (x : Closed). x .merges) (a .answer)) ∙ z))))

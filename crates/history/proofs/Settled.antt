@@ -144,7 +144,7 @@ module _ (m : Machine) (v : ValidMachine m) where
   unfolding leaves settledBy
   close-settled c e q =
       let told : not (c .changed) ≡ true = ap (λ (z : Machine). z .structure .settled) (sym (closed-step m c e .after)) ∙ q in
-      second-close m c (v .structure .facts-rooted) e (ap (λ (x : Closed). x .merges) (unchanged-report m c e (not-true (c .changed) told)))
+      second-close m c v e (ap (λ (x : Closed). x .merges) (unchanged-report m c e (not-true (c .changed) told)))
 
   -- a call that runs no close leaves the flag set only where it was, and was not answered with yes
   no-close-settled : (k : Call) → reportedChange (rule k m .answer) ≡ none → SettledUnchanged m → SettledUnchanged (step k m .after)

@@ -11,7 +11,7 @@ use lib.ListN.{length}
 use borrow.Author.Tests.{eq-eqb}
 use Rattle.ids.specs.Answers.{Answered, accepted, refused}
 use Rattle.ids.specs.Count.{count}
-use Rattle.ids.proofs.Sorted.{all-map, no-test}
+use Rattle.ids.proofs.Sorted.{all-of, all-map, no-test}
 use Rattle.unification.specs.Roots.{rootOf}
 use Rattle.unification.proofs.Numbers.{same-or}
 use Rattle.unification.proofs.Laws.{root-le}
@@ -28,6 +28,7 @@ use Rattle.semantics.proofs.Judged.{closedAnswer, close-steps}
 use Rattle.semantics.proofs.Settling.{closesLeave, settle-few, settle-by, settle-totals}
 use Rattle.validity.proofs.Demands.{demands-valid}
 use Rattle.validity.proofs.Settling.{Reaches, closes-reach}
+use Rattle.history.proofs.Operations.{laws-all, Held}
 use Rattle.history.proofs.Passes.{canonical-no-work}
 use Rattle.history.proofs.Closing.{accepted-close}
 use Rattle.history.proofs.SecondClose.{Idle, idle-report, idle-flags, closed-idle}
@@ -90,7 +91,10 @@ none-idle g s v e = record {
       (all-map (λ p h. absurd (omega (arith, e, h .lhs))) (s .pairs) (vs .pairs .each)) (vs .func-apps .sorted)
       (all-map (λ x h. absurd (omega (arith, e, h .result))) (s .func-apps) (vs .func-apps .each))
       (all-map (λ f h. absurd (omega (arith, e, h .el))) (demands g (s .func-apps) (s .pred-apps))
-      (demands-valid g (v .sig) (length (s .links)) (s .func-apps) (s .pred-apps) (vs .func-apps .each) (vs .pred-apps .each)));
+      (demands-valid g (v .sig) (length (s .links)) (s .func-apps) (s .pred-apps) (vs .func-apps .each) (vs .pred-apps .each)))
+      (laws-all (λ x. ⊥) (Held (s .links) (s .func-apps)) (g .models)
+      (all-of (λ m. record { identity = λ ps a r q. absurd q; composite = λ ps f h k q. absurd q }) (g .models)) (s .func-apps)
+      (all-map (λ x h. omega (arith, e, h .result)) (s .func-apps) (vs .func-apps .each)));
   imposed = all-map (λ f h. absurd (omega (arith, e, h .el))) (s .impositions) (vs .impositions .each);
 }
   where
@@ -128,7 +132,7 @@ module _ (g : Sig) (s : Structure) (v : Valid g s) (c : Closed) (e : close g s .
 
   after-idle : c .merges ≡ 0 → Idle g after
   unfolding leaves
-  after-idle z = idle-flags g (close g s .after) _ _ (closed-idle g s (v .structure .facts-rooted) c e z)
+  after-idle z = idle-flags g (close g s .after) _ _ (closed-idle g s v c e z)
 
 -- One close more than there are roots is enough: a close that merges leaves fewer roots, and after one that does not nothing remains to do.
 roots-enough : (k : ℕ) (g : Sig) (s : Structure) → Valid g s → roots (s .links) < k → EndsIn k g s

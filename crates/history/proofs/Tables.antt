@@ -5,12 +5,7 @@ use mathlib.Core.List.{List, [], _∷_}
 use Rattle.ids.specs.declared.Ordering.{Ordering}
 use Rattle.ids.specs.declared.Ordering.the-variants.{Less, Equal, Greater}
 use Rattle.ids.specs.Table.{present, placed}
-use Rattle.ids.proofs.Sorted.{All, Ordered, no-test, less-swap, alike-right}
-
--- what holds of everything
-pub all-of : {A : Type 0} {P : A → Type 0} → ((x : A) → P x) → (l : List A) → All P l
-all-of f [] = tt
-all-of f (x ∷ xs) = (f x, all-of f xs)
+use Rattle.ids.proofs.Sorted.{Ordered, no-test, less-swap, alike-right}
 
 -- what is present stays so where another entry is placed
 module _ {A : Type 0} {cmp : A → A → Ordering} (o : Ordered cmp) (x y : A) where

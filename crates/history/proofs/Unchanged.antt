@@ -12,4 +12,4 @@ pub merges-nothing : (before : List Call) (c : Closed) → step close (history b
 unfolding next noted
 merges-nothing before c e z =
     subst (λ (h : History). NextUnchanged (h .machine)) (sym (history-next before close))
-    (second-close (history before .machine) c (history-valid before .valid .structure .facts-rooted) e z)
+    (second-close (history before .machine) c (history-valid before .valid) e z)

@@ -17,7 +17,7 @@ use Rattle.semantics.specs.Structure.{Fact, compareFact, canonicalFact, fact}
 use Rattle.semantics.specs.Types.{Core, marked, factsAt, concreteTypesOf, refine, refineParents, refineAll, insertCanonical, impose, imposeAll}
 use Rattle.semantics.specs.Valid.{OnRoot}
 use Rattle.semantics.proofs.Orders.{fact-ordered, fact-same}
-use Rattle.history.proofs.Functionality.{map-root}
+use Rattle.semantics.proofs.Canonical.{map-root}
 use Rattle.history.proofs.Imposing.{joins, refine-none, refine-still, refine-counted, refineParents-counted, refineOne, refineOne-counted}
 use Rattle.history.proofs.Imposing.{refineAll-counted, Stored, insert-grown, insert-there, insert-idle, insert-all, impose-refined}
 use Rattle.history.proofs.Imposing.{impose-plain, first-still, impose-inserts, insertAll, insertAll-grown}

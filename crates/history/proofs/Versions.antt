@@ -9,12 +9,18 @@ use lib.Dec.{T}
 use Rattle.ids.specs.Count.{count}
 use Rattle.ids.specs.Sorted.{All}
 use Rattle.unification.specs.Roots.{rootOf}
+use Rattle.signature.specs.Model.{ModelM}
 use Rattle.semantics.specs.Structure.{Pair, FuncApp}
 use Rattle.semantics.specs.Types.{anyMarked}
 use Rattle.semantics.specs.Close.{Closed}
 use Rattle.semantics.specs.Calls.{Call, Answer, isAccepted, mergesOf, Machine, start, step}
 use Rattle.history.specs.Book.{Book, blank, elements, fed, History, noted, next, run, begin, history}
-use Rattle.history.specs.Book.{Partition, Meet, Shared, RanCloses, Conserved, Conservation}
+use Rattle.history.specs.MapLaws.{Obeys}
+use Rattle.history.specs.Book.{Partition, Meet, AppNamed, Sharing, Shared, SharedByFits, AppliesNeither, RanCloses, RootsByClass, Conserved}
+use Rattle.history.specs.Book.{Conservation}
+use Rattle.history.proofs.Elements.{Named, neither-shared}
+use Rattle.history.proofs.Histories.{history-named}
+use Rattle.history.proofs.Conservation.{shared-alike}
 
 -- where a list has come to when the close or settle after it returns
 abbrev pub after : List Call → Call → History
@@ -39,16 +45,24 @@ bookAfter feeds ks k = bookBy feeds (ks ++ (k ∷ [])) start blank
 abbrev pub Meets : Type 1
 Meets = (ℕ → ℕ → Type 0) → FuncApp → FuncApp → Type 0
 
-pub record FitsBy (M : Meets) (b : Book) (R : ℕ → ℕ → Type 0) : Type 0 where
+abbrev pub never : Meets
+never R x y = ⊥
+
+-- what the applications of a model's id and comp say of its dom and cod
+abbrev pub Says : Type 1
+Says = (FuncApp → Type 0) → ModelM → Type 0
+
+-- `ClosedSet`: when two applications have one result, when the elements of one may be replaced by those of the other, and the laws
+pub record ClosedSetBy (M A : Meets) (L : Says) (b : Book) (R : ℕ → ℕ → Type 0) (S : FuncApp → Type 0) : Type 0 where
+  pub named : (x : FuncApp) → S x → AppNamed (elements b) x
   pub equal : (p : Pair) → List·Memᴰ p (b .equalities) → R (p .lhs) (p .rhs)
-  pub functional : (x y : FuncApp) → List·Memᴰ x (b .apps) → List·Memᴰ y (b .apps) → M R x y → R (x .result) (y .result)
+  pub given : (x : FuncApp) → List·Memᴰ x (b .apps) → S x
+  pub replaced : (x y : FuncApp) → S x → AppNamed (elements b) y → A R x y → R (x .result) (y .result) → S y
+  pub functional : (x y : FuncApp) → S x → S y → M R x y → R (x .result) (y .result)
+  pub laws : All (L S) (b .sig .models)
 
--- which elements share a class
-abbrev pub Sharing : Type 2
-Sharing = Book → ℕ → ℕ → Type 1
-
-unfoldable pub SharedBy : Meets → Sharing
-SharedBy M b x y = (R : ℕ → ℕ → Type 0) → Partition (elements b) R → FitsBy M b R → R x y
+unfoldable pub SharedBy : Meets → Meets → Says → Sharing
+SharedBy M A L b x y = (R : ℕ → ℕ → Type 0) (S : FuncApp → Type 0) → Partition (elements b) R → ClosedSetBy M A L b R S → R x y
 
 -- `Classes` and `Conserved`: the sharing, how many elements are counted, the merges, what a root is to an element of its class, the rounds
 pub record ClassesBy (Share : Sharing) (b : Book) (counted k : ℕ) : Type 1 where
@@ -56,7 +70,7 @@ pub record ClassesBy (Share : Sharing) (b : Book) (counted k : ℕ) : Type 1 whe
   pub is : (e : ℕ) → e < counted → T (lowest e) ↔ ((d : ℕ) → d < e → Share b d e → ⊥)
   pub many : count lowest counted ≡ k
 
-pub record ConservedBy (Share : Sharing) (counts : Book → ℕ) (merged : Book → List Closed → ℕ) (Low : ℕ → ℕ → Type 0) (Few : List Closed → Type 0)
+pub record ConservedBy (Share : Sharing) (counts : Book → ℕ) (merged : Book → List Closed → ℕ) (Low : ℕ → ℕ → Type 0) (Few : Book → List Closed → Type 0)
     (b : Book) (links : List ℕ) (cs : List Closed) : Type 1 where
   pub long : length links ≡ elements b
   pub classes : ℕ
@@ -65,10 +79,10 @@ pub record ConservedBy (Share : Sharing) (counts : Book → ℕ) (merged : Book 
   pub one-root : (x y : ℕ) → x < elements b → y < elements b → (rootOf links x ≡ rootOf links y) ↔ Share b x y
   pub of-class : (x : ℕ) → x < elements b → (rootOf links x < elements b) × Share b x (rootOf links x)
   pub lowest : (x y : ℕ) → x < elements b → y < elements b → Share b x y → Low (rootOf links x) y
-  pub few : Few cs
+  pub few : Few b cs
 
 pub record ConservationBy (feeds : Feeds) (Admits : List Bool → Type 0) (Share : Sharing) (counts : Book → ℕ) (merged : Book → List Closed → ℕ)
-    (Low : ℕ → ℕ → Type 0) (Few : List Closed → Type 0) : Type 1 where
+    (Low : ℕ → ℕ → Type 0) (Few : Book → List Closed → Type 0) : Type 1 where
   pub says : (before : List Call) (k : Call) (cs : List Closed) → RanCloses (history before .machine) k cs → Admits (bookAfter feeds before k .marks)
       → ConservedBy Share counts merged Low Few (bookAfter feeds before k) (linksAfter before k) cs
 
@@ -85,9 +99,9 @@ unmarked ms = anyMarked ms ≡ false
 abbrev pub merges : Book → List Closed → ℕ
 merges b cs = b .merges
 
--- the rounds of each close are at most its merges and n
-abbrev pub roundLimit : ℕ → List Closed → Type 0
-roundLimit n cs = All (λ (c : Closed). c .rounds ≤ c .merges + n) cs
+-- where neither id nor comp is applied, the rounds of each close are at most its merges and n
+abbrev pub roundLimit : ℕ → Book → List Closed → Type 0
+roundLimit n b cs = AppliesNeither b → All (λ (c : Closed). c .rounds ≤ c .merges + n) cs
 
 run-book : (ks : List Call) (h : History) → bookBy feeding ks (h .machine) (h .book) ≡ run ks h .book
 unfolding bookBy run next noted
@@ -98,11 +112,11 @@ book-right : (ks : List Call) (k : Call) → bookAfter feeding ks k ≡ after ks
 unfolding history begin
 book-right ks k = run-book (ks ++ (k ∷ [])) begin
 
-pub meets-right : (b : Book) (x y : ℕ) → SharedBy Meet b x y ↔ Shared b x y
+pub closed-right : (b : Book) (x y : ℕ) → SharedBy Meet Meet Obeys b x y ↔ Shared b x y
 unfolding SharedBy Shared
-meets-right b x y = (
-  λ s R q f. s R q (record { equal = f .equal; functional = f .functional }),
-  λ s R q f. s R q (record { equal = f .equal; functional = f .functional }),
+closed-right b x y = (
+  λ s R S q c. s R S q (record { named = c .named; equal = c .equal; given = c .given; replaced = c .replaced; functional = c .functional; laws = c .laws }),
+  λ s R S q c. s R S q (record { named = c .named; equal = c .equal; given = c .given; replaced = c .replaced; functional = c .functional; laws = c .laws }),
 )
 
 pub conservation-right : ConservationBy feeding unmarked Shared elements merges _≤_ (roundLimit 2) ↔ Conservation
@@ -110,7 +124,9 @@ unfolding Conservation
 conservation-right = (
   λ h before k cs ran u.
       let r = h .says before k cs ran (rw (book-right before k) u) in
-      subst (λ (b : Book). Conserved b (linksAfter before k) cs) (book-right before k) (record {
+      let b = bookAfter feeding before k in
+      let named = subst Named (sym (book-right before k)) (history-named (before ++ (k ∷ []))) in
+      let by : RootsByClass Shared b (linksAfter before k) = record {
         long = r .long;
         classes = r .classes;
         counted = record { lowest = r .counted .lowest; is = r .counted .is; many = r .counted .many };
@@ -118,11 +134,16 @@ conservation-right = (
         one-root = r .one-root;
         of-class = r .of-class;
         lowest = r .lowest;
+      } in
+      subst (λ (b : Book). Conserved b (linksAfter before k) cs) (book-right before k) (record {
+        by-class = by;
+        plain = λ neither. shared-alike Shared SharedByFits b (linksAfter before k) (neither-shared b named neither) by;
         few = r .few;
       }),
   λ h. record {
     says = λ before k cs ran u.
-        let r = h before k cs ran (rw (book-right before k) at u) in
+        let c = h before k cs ran (rw (book-right before k) at u) in
+        let r = c .by-class in
         subst (λ (b : Book). ConservedBy Shared elements merges _≤_ (roundLimit 2) b (linksAfter before k) cs) (sym (book-right before k)) (record {
           long = r .long;
           classes = r .classes;
@@ -131,7 +152,7 @@ conservation-right = (
           one-root = r .one-root;
           of-class = r .of-class;
           lowest = r .lowest;
-          few = r .few;
+          few = c .few;
         });
   },
 )

@@ -14,6 +14,11 @@ pub use Rattle.ids.specs.Sorted.{All, Sorted}
 
 -- All entries of a list.
 
+-- what holds of everything
+pub all-of : {A : Type 0} {P : A → Type 0} → ((x : A) → P x) → (l : List A) → All P l
+all-of f [] = tt
+all-of f (x ∷ xs) = (f x, all-of f xs)
+
 pub all-map : {A : Type 0} {P Q : A → Type 0} → ((x : A) → P x → Q x) → (l : List A) → All P l → All Q l
 all-map f [] h = tt
 all-map f (x ∷ xs) h = (f x (h .0), all-map f xs (h .1))

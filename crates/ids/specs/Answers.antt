@@ -1,4 +1,4 @@
--- What a call answers: a value, or the number of its refusal (01, the table of refusals).
+-- What a call answers: a value, or the number of its refusal (01, the table of refusals, and 02).
 use Prim.Native.Nat.{ℕ}
 use mathlib.Core.Bool.{Bool, true, false}
 use mathlib.Core.List.{List, [], _∷_}
@@ -30,7 +30,8 @@ undeclared = 5
 abbrev pub wrongKind : ℕ
 wrongKind = 6
 
--- "application of id, comp or a morphism application function"
+-- "application of id, comp or a morphism application function"; 02, M-102: "Number 7 remains for record 5 functions, and for id and comp where a record 5
+-- stands."
 abbrev pub reserved : ℕ
 reserved = 7
 
@@ -50,6 +51,10 @@ noAmbient = 10
 abbrev pub tooManyFacts : ℕ
 tooManyFacts = 11
 
+-- 02, M-102: "an id application without exactly one argument, or a comp without exactly two"
+abbrev pub wrongArgCount : ℕ
+wrongArgCount = 12
+
 -- a value, or the number of the refusal
 pub data Answered (A : Type 0) : Type 0 where
   accepted : A → Answered A
@@ -64,7 +69,8 @@ infixl 70 _if_
 abbrev pub _if_ : ℕ → Bool → Cause
 n if b = record { number = n; applies = b }
 
--- "The lowest number that applies is given": the causes are listed in that order, and the number of the first that applies is given
+-- 01: "The lowest number that applies is given"; 02 gives later numbers their place ("with 12, directly after 7"): the causes are listed in the order of
+-- the papers, and the number of the first that applies is given
 unfoldable pub firstOf : List Cause → Option ℕ
 firstOf [] = none
 firstOf (c ∷ cs) = elim (c .applies) [ true ↦ some (c .number) | false ↦ firstOf cs ]

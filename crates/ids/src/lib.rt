@@ -42,6 +42,8 @@ impl Refusal {
     pub const NO_AMBIENT: u16 = 10;
 
     pub const TOO_MANY_FACTS: u16 = 11;
+
+    pub const WRONG_ARG_COUNT: u16 = 12;
 }
 
 // Whether a call is refused, and with which number.

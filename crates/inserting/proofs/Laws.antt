@@ -16,7 +16,8 @@ use Rattle.unification.specs.Roots.{maxEls, linksOf}
 use Rattle.signature.specs.Model.{Sig, ModelM}
 use Rattle.semantics.specs.Structure as model
 use Rattle.semantics.specs.Structure.{with-links, with-marks, with-pairs, with-func-apps}
-use Rattle.semantics.specs.Calls.{Call, Machine, Step, Applied, appliedTo, withApplied, isIdOrComp, says, answers, machine, leaves}
+use Rattle.semantics.specs.Applying.{Applied}
+use Rattle.semantics.specs.Calls.{Call, Machine, Step, appliedTo, withApplied, isIdOrComp, misapplies, isMisapplied, says, answers, machine, leaves}
 use Rattle.semantics.specs.Calls.{rule, acceptance, step}
 use Rattle.semantics.proofs.Cases.{or-first, or-second}
 use Rattle.semantics.proofs.Judged.{step-accepts}
@@ -34,6 +35,11 @@ use Rattle.unification.proofs.Beside.{kept}
 pub by-operation : (f : ℕ) → Search (λ (m : ModelM). eqb f (m .id) || eqb f (m .comp)) (isIdOrComp f)
 unfolding isIdOrComp
 by-operation f = record { none = refl; more = λ y ys. refl }
+
+-- a search for a model whose id or comp is applied to another number of arguments
+pub by-arg-count : (x : model.FuncApp) → Search (λ (m : ModelM). misapplies m x) (isMisapplied x)
+unfolding isMisapplied
+by-arg-count x = record { none = refl; more = λ y ys. refl }
 
 -- two lists that are held as they were given unless one of them is too long
 pub both-held : {A : Type 0} (f : List ℕ → List ℕ → A) (ps xs : ElIds) → length (ps .ids) ≡ maxList → length (xs .ids) ≡ maxList

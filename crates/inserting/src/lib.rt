@@ -6,14 +6,15 @@ use ids::FuncId;
 use ids::PredId;
 use ids::Refusal;
 use ids::Verdict;
+use signature::ModelIds;
 use signature::Models;
 use signature::Signature;
 use structure::Answer;
 use structure::Stepped;
 use structure::Structure;
 ghost use mathlib.Core.Path.{_≡_};
-ghost use Rattle.signature.specs.Model.{sigOf, viewModels};
-ghost use Rattle.semantics.specs.Calls.{isPred, isIdOrComp, isReserved, impose-type, apply-func, apply-pred, machine, step};
+ghost use Rattle.signature.specs.Model.{sigOf, modelOf, viewModels};
+ghost use Rattle.semantics.specs.Calls.{isPred, isIdOrComp, isReserved, misapplies, isMisapplied, impose-type, apply-func, apply-pred, machine, step};
 ghost use Rattle.apps.specs.View.{funcAppOf, predAppOf};
 ghost use Rattle.structure.specs.View.{structureOf, stepOf};
 ghost use Rattle.facts.specs.View.{factOf, givenFact};
@@ -57,6 +58,7 @@ pub fn insert_func_app_or_equate(
     let u = structure.unification;
     let pairs = structure.pending_equalities;
     let table = structure.func_apps;
+    let models = signature.models;
     let applied = applying::insert_func_app_or_equate(u, pairs, table, app);
     let long = ids::or(parents.is_too_long(), args.is_too_long());
     let declared = app_is_declared(structure, signature, app);
@@ -64,6 +66,7 @@ pub fn insert_func_app_or_equate(
     let verdict = verdict.refuse_if(Refusal::MALFORMED, long);
     let verdict = verdict.refuse_if(Refusal::UNDECLARED, !declared);
     let verdict = verdict.refuse_if(Refusal::RESERVED, is_reserved(signature, app.func));
+    let verdict = verdict.refuse_if(Refusal::WRONG_ARG_COUNT, is_misapplied(models, app));
     let verdict = verdict.refuse_if(Refusal::NO_ROOM, applied.full);
     if let Verdict::Refused(number) = verdict {
         return structure.refuse(number);
@@ -156,14 +159,39 @@ fn is_id_or_comp(models: Models, func: FuncId) -> bool
     false
 }
 
-// Whether a function may not be applied: id, comp or a morphism application function.
+// Whether a function may not be applied: one of record 5, or id or comp where a record 5 stands.
 fn is_reserved(signature: Signature, func: FuncId) -> bool
     ensures { λ r. ⌜ r ≡ isReserved (sigOf signature) (func .0) ⌝ }
 {
     let models = signature.models;
-    if is_id_or_comp(models, func) {
-        return true;
-    }
     let mor_app_funcs = signature.mor_app_funcs;
-    mor_app_funcs.has_func(func)
+    let stands = 0 < mor_app_funcs.size();
+    let operation = ids::and(is_id_or_comp(models, func), stands);
+    ids::or(mor_app_funcs.has_func(func), operation)
+}
+
+// Whether it is an application of this model's id without exactly one argument, or of its comp without exactly two.
+fn misapplies(ids: ModelIds, app: FuncApp) -> bool
+    ensures { λ r. ⌜ r ≡ misapplies (modelOf ids) (funcAppOf app) ⌝ }
+{
+    let args = app.args;
+    let count = args.size();
+    let identity = ids::and(app.func.0 == ids.id.0, count != 1);
+    let composite = ids::and(app.func.0 == ids.comp.0, count != 2);
+    ids::or(identity, composite)
+}
+
+// Whether it is so for some model.
+fn is_misapplied(models: Models, app: FuncApp) -> bool
+    ensures { λ r. ⌜ r ≡ isMisapplied (funcAppOf app) (viewModels models) ⌝ }
+{
+    let n = models.size();
+    for i in 0..n {
+        let at = i as usize;
+        let ids = models.items[at];
+        if misapplies(ids, app) {
+            return true;
+        }
+    }
+    false
 }

@@ -1,12 +1,16 @@
--- Laws of passes in progress: how a pass begins, takes a step, and what it is said to do.
+-- Laws of passes in progress: how a pass begins, takes a step, and what it is said to do; and of the number first met.
 use mathlib.Core.Path.{_≡_, refl, sym, ap, _∙_}
+use mathlib.Core.Bool.{Bool, true, false}
 use mathlib.Core.List.{List}
+use mathlib.Core.Option.{Option, none, some}
 use Prim.Native.Nat.{ℕ, _+_, _*_, _≤_}
 use native.Mathlib.Nat.{add-mul, mul-le-mul-right}
 use native.Mathlib.Omega.{arith}
 use lib.ListN.{getD}
+use lib.Dec.{eqb}
+use borrow.Author.Tests.{ne-eqb}
 use Rattle.semantics.specs.Types as types
-use Rattle.merging.specs.View.{Lent, coreOf, LentHeld, RoomToCount, Toward, Passes}
+use Rattle.merging.specs.View.{Lent, coreOf, metOf, LentHeld, RoomToCount, Toward, Passes}
 
 -- nothing is done yet
 pub begins : (t : Lent) → LentHeld t → (f : types.Core → types.Core) → Toward t t 0 f f
@@ -92,3 +96,14 @@ module _ {before now : Lent} (per : ℕ) {rest whole : types.Core → types.Core
     where
       one : i * per + 1 * per ≡ i * per + per
       one = omega arith
+
+-- The number first met.
+
+pub met-none : {n : ℕ} → n ≡ 0 → metOf n ≡ none
+met-none h = ap metOf h
+
+pub met-some : (n : ℕ) → (n ≡ 0 → ⊥) → metOf n ≡ some n
+met-some n h = go (eqb n 0) (ne-eqb n 0 h)
+  where
+    go : (b : Bool) → b ≡ false → _≡_ {A = Option ℕ} (elim b [ true ↦ none | false ↦ some n ]) (some n)
+    go b e = rw e

@@ -114,7 +114,7 @@ maxCount = 18446744073709551615
 abbrev pub RoomToCount : ℕ → Tally → Type 0
 RoomToCount most c = most + workOf c ≤ maxCount
 
--- what no pass on these tables alters
+-- what no pass to which only these tables are lent alters
 abbrev pub frame : Tally → List ℕ
 frame c = c .els ∷ c .«func_apps» ∷ c .«pred_apps» ∷ []
 

@@ -15,10 +15,11 @@ use Rattle.ids.specs.declared.Ordering.the-variants.{Less, Equal, Greater}
 use Rattle.ids.specs.declared.Place.the-variants.{Before, At}
 use Rattle.ids.specs.Table.{placed, lookupOf, positionFrom, rewriteInto}
 use Rattle.ids.proofs.Sorted.{Sorted, placed-sorted}
-use Rattle.ids.proofs.Tables.{at-entry, before-none}
-use Rattle.ids.proofs.Views.{view-at, view-cons, view-nil, view-pushed}
+use Rattle.ids.proofs.Tables.{before-none}
+use Rattle.ids.proofs.Views.{view-cons, view-nil, view-pushed}
 use Rattle.rows.specs.Table.{RowPlaced, Inserted, InPlaceRewritten}
 use Rattle.rows.proofs.InPlace.{getD-rest, drop-later}
+use Rattle.rows.proofs.Positions.{row-found}
 use Rattle.rows.proofs.Shifting.{inserted-before}
 use Rattle.semantics.specs.Structure.{FuncApp, pair, pred-app, maxPairs, compareFuncApp, comparePredApp, canonicalFuncApp, canonicalPredApp}
 use Rattle.semantics.specs.Close as closing
@@ -138,9 +139,7 @@ module _ {ls : List ℕ} {n : ℕ} {start apps pairs : List (List ℕ)} {k q i :
     -- y has it
     module _ (at : ℕ) (y : FuncApp) (e : positionFrom compareFuncApp z 0 (funcAppsIn k apps) ≡ At at) (y-is : y ≡ funcAppIn (getD apps at [])) where
       met : lookupOf compareFuncApp z (funcAppsIn k apps) ≡ some y
-      met =
-          let found = at-entry compareFuncApp z (funcAppIn []) at (funcAppsIn k apps) e in
-          found .1 ∙ ap some (view-at funcAppIn k apps at [] (found .0) ∙ sym y-is)
+      met = row-found compareFuncApp funcAppIn z k apps [] e y-is
 
       pub entering-same : y .result ≡ z .result → Entering ls n start apps pairs k q (i + 1)
       entering-same same = record {

@@ -2,14 +2,11 @@
 use mathlib.Core.Path.{_≡_, refl, sym, ap, _∙_}
 use mathlib.Core.Bool.{Bool, true, false, _&&_}
 use mathlib.Core.List.{List}
-use mathlib.Core.Option.{Option, none, some}
 use Prim.Native.Nat.{ℕ, zero, suc, _+_, _*_, _-_, _≤_, _<_}
 use native.Mathlib.Omega.{arith}
-use lib.Dec.{eqb}
-use borrow.Author.Tests.{ne-eqb}
 use Rattle.unification.specs.Roots.{maxEls}
 use Rattle.signature.specs.Model.{Sig}
-use Rattle.semantics.specs.Structure.{FuncApp, PredApp, maxFacts}
+use Rattle.semantics.specs.Structure.{FuncApp, PredApp, maxFacts, maxFuncApps}
 use Rattle.semantics.specs.Types as types
 use Rattle.semantics.specs.Close as closing
 use Rattle.semantics.specs.Close.{fuel, rounds-made, isNone, lastRound, oneMore, roundsFrom}
@@ -17,20 +14,9 @@ use Rattle.app_rows.specs.View.{funcAppsIn, predAppsIn}
 use Rattle.merging.specs.View.{Lent, coreOf, metOf, workOf}
 use Rattle.rounds.specs.View.{oneRound, LentAgain, RoundIs, RoundsAre}
 
--- The number first met.
-
-pub met-none : {n : ℕ} → n ≡ 0 → metOf n ≡ none
-met-none h = ap metOf h
-
-pub met-some : (n : ℕ) → (n ≡ 0 → ⊥) → metOf n ≡ some n
-met-some n h = go (eqb n 0) (ne-eqb n 0 h)
-  where
-    go : (b : Bool) → b ≡ false → _≡_ {A = Option ℕ} (elim b [ true ↦ none | false ↦ some n ]) (some n)
-    go b e = rw e
-
 -- The rounds.
 
-pub fuel-is : fuel ≡ 2 * ((maxFacts + 2) * (maxEls + 1))
+pub fuel-is : fuel ≡ 2 * ((maxFacts + maxFuncApps + 2) * (maxEls + 1))
 unfolding fuel
 fuel-is = refl
 

@@ -1,10 +1,12 @@
 // The rounds of a close (structure.rs, `Structure::close`), until one that is idle or meets a number, on the tables that a close lends.
 use app_rows::AppRow;
+use apps::FuncApps;
 use el_rows::ElRow;
 use fact_rows::FactRow;
 use facts::Facts;
 use merging::PairRow;
 use merging::Tally;
+use operations::Turn;
 use signature::Signature;
 use unification::Unification;
 ghost use mathlib.Core.Path.{_≡_};
@@ -19,12 +21,6 @@ ghost use Rattle.merging.specs.View.{lent, metOf, LentHeld, RoomToCount, workOf
 ghost use Rattle.typing.specs.Rows.{Used};
 ghost use Rattle.rounds.specs.View.{oneRound, allRounds, RoundIs, RoundsAre};
 
-// The counts after a round, and whether one of its passes reported work.
-pub struct Turn {
-    pub counts: Tally,
-    pub worked: bool,
-}
-
 // The counts after the rounds, and how many ran.
 pub struct RoundsMade {
     pub counts: Tally,
@@ -33,7 +29,9 @@ pub struct RoundsMade {
 
 impl RoundsMade {
     // More rounds than a close of a structure that calls can make takes.
-    const FUEL: u64 = 2 * ((Facts::MAX_LEN as u64 + 2) * (Unification::MAX_ELS as u64 + 1));
+    const FUEL: u64 = 2
+        * ((Facts::MAX_LEN as u64 + FuncApps::MAX_LEN as u64 + 2)
+            * (Unification::MAX_ELS as u64 + 1));
 }
 
 // Whether merges were made or facts added between two counts.
@@ -44,7 +42,7 @@ pub fn grew(before: Tally, after: Tally) -> bool
     before.merges + before.added < after.merges + after.added
 }
 
-// Drain, `functionality`, `typing`.
+// Drain, `functionality`, `typing`, the laws of identities and composites.
 fn round(
     els: &mut [ElRow],
     facts: &mut [FactRow],
@@ -67,10 +65,11 @@ fn round(
     let queued = 0 < rewritten.pairs;
     let early = ids::or(merged, queued);
     let late = grew(rewritten, typed);
-    Turn {
+    let turn = Turn {
         counts: typed,
         worked: ids::or(early, late),
-    }
+    };
+    operations::morphism_operation_constraints(els, apps, pairs, turn, signature)
 }
 
 // Whether another round follows: this one reported work, and no number is met that refuses the close.

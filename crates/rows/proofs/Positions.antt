@@ -1,17 +1,22 @@
--- What the position of an entry in a sorted list says of the entries before it and of those from there on, over any order.
+-- What the position of an entry in a sorted list says of the entries before it and of those from there on, over any order; and of the row that
+-- stands there.
 use mathlib.Core.Path.{_≡_, refl, sym, ap, _∙_}
 use mathlib.Core.Bool.{false}
-use mathlib.Core.List.{List, [], _∷_}
-use Prim.Native.Nat.{ℕ, suc, _+_, _≤_, zero-le, suc-le-suc}
+use mathlib.Core.List.{List, [], _∷_, map}
+use mathlib.Core.Option.{some}
+use Prim.Native.Nat.{ℕ, suc, _+_, _≤_, _<_, zero-le, suc-le-suc}
+use native.Mathlib.Omega.{arith}
 use native.Mathlib.Nat.{add-zero, zero-add, add-suc, suc-add}
-use lib.ListN.{length, take, drop}
+use lib.ListN.{length, take, drop, getD}
 use Rattle.ids.specs.declared.Ordering.{Ordering}
 use Rattle.ids.specs.declared.Ordering.the-variants.{Less, Equal, Greater}
 use Rattle.ids.specs.declared.Place.{Place}
 use Rattle.ids.specs.declared.Place.the-variants.{Before, At}
-use Rattle.ids.specs.Table.{positionFrom}
+use Rattle.ids.specs.Table.{positionFrom, lookupOf}
 use Rattle.ids.specs.Sorted.{All, Sorted}
 use Rattle.ids.proofs.Sorted.{Ordered, no-test, all-map}
+use Rattle.ids.proofs.Tables.{at-entry}
+use Rattle.ids.proofs.Views.{length-view, view-at}
 use Rattle.rows.specs.Table.{isLess}
 
 abbrev pub indexOf : Place → ℕ
@@ -71,3 +76,14 @@ module _ {A : Type 0} {cmp : A → A → Ordering} (o : Ordered cmp) (x : A) whe
       let q = parted-from 0 ys s in
       let k : indexOf p ≡ q .off = ap indexOf e ∙ q .at ∙ zero-add (q .off) in
       rw k (q .within, (q .smaller, q .rest))
+
+-- the row that stands at the position of x among the first n
+module _ {A B : Type 0} (cmp : B → B → Ordering) (view : A → B) (x : B) (n : ℕ) (rows : List A) (d : A) {at : ℕ}
+    (e : positionFrom cmp x 0 (map view (take n rows)) ≡ At at) where
+  pub row-within : at < n
+  row-within = omega (arith, length-view view n rows, at-entry cmp x (view d) at (map view (take n rows)) e .0)
+
+  pub row-found : {y : B} → y ≡ view (getD rows at d) → lookupOf cmp x (map view (take n rows)) ≡ some y
+  row-found is =
+      let there = at-entry cmp x (view d) at (map view (take n rows)) e in
+      there .1 ∙ ap some (view-at view n rows at d (there .0) ∙ sym is)

@@ -19,6 +19,11 @@ pub and-second : (a b : Bool) → (a && b) ≡ true → b ≡ true
 and-second true b t = t
 and-second false b t = no-test t refl
 
+-- where the first holds, the second fails
+pub and-fails : (a b : Bool) → a ≡ true → (a && b) ≡ false → b ≡ false
+and-fails true b e t = t
+and-fails false b e t = no-test e refl
+
 pub or-first : (a b : Bool) → (a || b) ≡ false → a ≡ false
 or-first true b t = t
 or-first false b t = refl

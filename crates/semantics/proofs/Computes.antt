@@ -8,6 +8,8 @@ use Rattle.signature.specs.Model as model
 use Rattle.signature.specs.Calls as signature
 use Rattle.semantics.specs.Structure as structure
 use Rattle.semantics.specs.Types as types
+use Rattle.semantics.specs.Applying as applying
+use Rattle.semantics.specs.MapLaws as map-laws
 use Rattle.semantics.specs.Close as close
 use Rattle.semantics.specs.Conflicts as conflicts
 use Rattle.semantics.specs.Calls as calls
@@ -28,14 +30,17 @@ unfolding answers.firstOf answers.decided answers.outcome
     types.mergedMarks types.movedFacts types.merge types.joinRoots types.join types.drainPairs types.drain types.factsAt types.concreteTypesOf
     types.refineRoots types.refine types.refineParents types.refineAll types.insertFact types.insertCanonical types.impose types.grew
     types.imposeAll
+    applying.equate applying.appliedEqual applying.applyAt applying.insertFuncAppOrEquate
+    map-laws.identityLaws map-laws.compositionLaws map-laws.mapLawsIn map-laws.mapLawsOf map-laws.mapLaws
     close.enterAt close.enter close.enterAll close.demanded close.demandedAt close.demandedArgs close.funcArgs close.predArgs close.funcResults
-    close.demands close.drained close.drainPass close.rewrote close.functionalityPass close.typed close.typingPass close.passes close.runPasses
+    close.demands close.drained close.drainPass close.rewrote close.functionalityPass close.typed close.typingPass close.appliedTurn close.applyTurn
+    close.keyOf close.giveTo close.give close.equalize close.obey close.obeyAll close.operationPass close.passes close.runPasses
     close.round close.isNone close.lastRound close.oneMore close.roundsFrom close.fuel close.rounds close.coreAtStart close.canonicaliseRefs
     close.withCore close.imposedAfter close.closeRun close.reportOf close.afterClose close.metCauses close.closeBy close.close
     conflicts.parentsMatch conflicts.disagree conflicts.firstConflict conflicts.conflictAmong conflicts.conflictAt conflicts.conflictsBelow
     conflicts.typeConflicts
-    calls.elCauses calls.withEl calls.equate calls.equalityCauses calls.withEquality calls.isImposed calls.impositionCauses calls.withImposition
-    calls.isIdOrComp calls.isReserved calls.appliedEqual calls.applyAt calls.insertFuncAppOrEquate calls.applicationCauses calls.withApplied
+    calls.elCauses calls.withEl calls.equalityCauses calls.withEquality calls.isImposed calls.impositionCauses calls.withImposition
+    calls.isIdOrComp calls.isReserved calls.misapplies calls.isMisapplied calls.applicationCauses calls.withApplied
     calls.predicationCauses calls.withPredApp calls.variableCauses calls.withVar calls.ambientCauses calls.withAmbient calls.ambientOf
     calls.haveAmbients calls.ambientEls calls.ambientParentsCauses calls.leading calls.start calls.equalityRule calls.impositionRule calls.applicationRule calls.closeRule
     calls.reportedFirst calls.settleAfter calls.settleBy calls.settleFrom calls.settleRun calls.mergesIn calls.sumsOf calls.settleRule calls.rule

@@ -8,9 +8,13 @@ pub mod Settling
 pub mod Imposed
 pub mod Functionality
 pub mod Queues
+pub mod Canonical
 pub mod Stages
+pub mod ModelFunctions
+pub mod Operations
 pub mod Pairs
 pub mod Computes
 pub mod ProvedCases
+pub mod FullTables
 pub mod RefusedSettle
 pub mod WrongSettles

@@ -1,18 +1,23 @@
--- At every moment of a close at most `maxPairs` pairs wait, where that many wait at its start and there are at most `maxFuncApps` applications.
--- The bound is met: of `maxFuncApps` applications that become one key, all but the first queue a pair, and a refinement queues one more.
+-- At every moment of a close at most `maxPairs` pairs wait, where that many wait at its start and there are at most `maxFuncApps` applications,
+-- until a number is met; of the rounds also after it. The bound is met: of `maxFuncApps` applications that become one key, all but the first queue
+-- a pair, and a refinement queues one more.
 use mathlib.Core.Path.{_≡_, refl, sym, subst, ap}
-use mathlib.Core.Bool.{Bool, true, false, _&&_}
+use mathlib.Core.Bool.{false}
 use mathlib.Core.List.{List, [], _∷_, _++_}
 use Prim.Native.Nat.{ℕ, zero, suc, _≤_, _<_}
 use native.Mathlib.Omega.{arith}
 use lib.ListN.{length, length-append}
+use Rattle.ids.proofs.Sorted.{placed-absent, lookup-none}
 use Rattle.signature.specs.Model.{Sig}
-use Rattle.semantics.specs.Structure.{Fact, FuncApp, PredApp, Pair, Structure, maxPairs, maxFuncApps}
+use Rattle.semantics.specs.Structure.{Fact, FuncApp, PredApp, Pair, Structure, maxPairs, maxFuncApps, compareFuncApp}
+use Rattle.semantics.specs.Applying.{equate}
+use Rattle.semantics.specs.MapLaws.{MapLaw, mapLaws}
 use Rattle.semantics.specs.Types.{Core, refineParents, refineAll, imposeAll}
 use Rattle.semantics.specs.Close.{Turn, turn, Pass, drained, drainPass, rewriting, enterAll, rewrote, functionalityPass, demands, typed}
-use Rattle.semantics.specs.Close.{typingPass, passes, round, Rounds, isNone, lastRound, oneMore, roundsFrom, rounds, fuel, coreAtStart}
+use Rattle.semantics.specs.Close.{typingPass, applyTurn, obeyAll, operationPass, passes, round, coreAtStart}
 use Rattle.semantics.proofs.Queues.{drain-pairs, Room, still-room, refineParents-queue, refineAll-queue, imposeAll-queue, pairs-room, apps-few}
 use Rattle.semantics.proofs.Stages.{Stage, Along, run-along}
+use Rattle.semantics.proofs.Operations.{rootedIn, apply-cases, obeyAll-keeps}
 
 -- While facts are imposed on w: after some of them, after some of the facts of the next one's element, and after some of the parents of
 -- the fact after those, a pair can be queued.
@@ -87,9 +92,33 @@ typing-queue = record {
       record { few = h .few; room = still-room (t .core) (imposeAll fs (t .core)) (imposeAll-queue fs (t .core)) (h .room) };
 }
 
-unfoldable pub all-queue : Along QueueLaw passes Waiting Roomy
+-- an insertion is made where there is room
+pub apply-waiting : (x : FuncApp) (t : Turn) → Waiting t → Waiting (applyTurn x t)
+unfolding equate
+apply-waiting x t h =
+    apply-cases Waiting x t
+    (λ e room. record {
+      few = omega (arith, room, placed-absent compareFuncApp (rootedIn t x) (t .apps) (lookup-none compareFuncApp (rootedIn t x) (t .apps) e));
+      most = h .most;
+    })
+    (λ y e r. record { few = h .few; most = h .most }) (λ y e n room. record { few = h .few; most = omega (arith, room) })
+    (record { few = h .few; most = h .most })
+
+-- after some of the laws as many wait as the table can hold
+unfoldable pub operation-queue : QueueLaw operationPass Roomy Waiting
+unfolding operationPass
+operation-queue = record {
+  Moments = λ t. (ls : List MapLaw) → length (obeyAll ls t .core .pairs) ≤ maxPairs;
+  fits = λ t h ls. obeyAll-keeps Waiting apply-waiting ls t (start t h) .most;
+  leads = λ g preds t h. obeyAll-keeps Waiting apply-waiting (mapLaws (g .models) (t .apps)) t (start t h);
+}
+  where
+    start : (t : Turn) → Roomy t → Waiting t
+    start t h = record { few = h .few; most = omega (arith, h .room) }
+
+unfoldable pub all-queue : Along QueueLaw passes Waiting Waiting
 unfolding passes
-all-queue = (Emptied, drain-queue, (Roomy, functionality-queue, (Roomy, typing-queue, refl)))
+all-queue = (Emptied, drain-queue, (Roomy, functionality-queue, (Roomy, typing-queue, (Waiting, operation-queue, refl))))
 
 -- at every moment of the passes of a list
 abbrev pub AllFit : (g : Sig) (preds : List PredApp) (ps : List Pass) (A B : Stage) → Along QueueLaw ps A B → Turn → Type 0
@@ -101,9 +130,9 @@ all-fit g preds [] A B l t h = tt
 all-fit g preds (p ∷ ps) A C l t h =
     (l .1 .fits t h, all-fit g preds ps (l .0) C (l .2) (p g preds t) (l .1 .leads g preds t h))
 
-pub round-roomy : (g : Sig) (preds : List PredApp) (xs : List FuncApp) (w : Core) → Waiting (turn w xs false) → Roomy (round g preds xs w)
+pub round-waiting : (g : Sig) (preds : List PredApp) (xs : List FuncApp) (w : Core) → Waiting (turn w xs false) → Waiting (round g preds xs w)
 unfolding round
-round-roomy g preds xs w = run-along QueueLaw g preds (λ p A B l. l .leads g preds) passes Waiting Roomy all-queue (turn w xs false)
+round-waiting g preds xs w = run-along QueueLaw g preds (λ p A B l. l .leads g preds) passes Waiting Waiting all-queue (turn w xs false)
 
 module _ (g : Sig) (s : Structure) where
   -- what k rounds leave, were no round the last
@@ -111,40 +140,17 @@ module _ (g : Sig) (s : Structure) where
   after zero = turn (coreAtStart s) (s .func-apps) false
   after (suc k) = round g (s .pred-apps) (after k .apps) (after k .core)
 
-  -- the rounds of a close leave what some number of rounds leaves
-  some-rounds : (k j : ℕ) → (i : ℕ) × (roundsFrom k g (s .pred-apps) (after (suc j)) .core ≡ after (suc i) .core)
-  unfolding roundsFrom lastRound oneMore after
-  some-rounds zero j = (j, refl)
-  some-rounds (suc k) j = go (after (suc j) .worked && isNone (after (suc j) .core .met)) (some-rounds k (suc j))
-    where
-      go : (b : Bool) → (i : ℕ) × (roundsFrom k g (s .pred-apps) (after (suc (suc j))) .core ≡ after (suc i) .core)
-          → (i : ℕ) × ((elim b as (λ _. Rounds) [
-            | true ↦ oneMore (roundsFrom k g (s .pred-apps) (after (suc (suc j))))
-            | false ↦ lastRound (after (suc j))
-          ]) .core ≡ after (suc i) .core)
-      go true r = r
-      go false r = (j, refl)
-
   module _ (few : length (s .func-apps) ≤ maxFuncApps) (start : length (s .pairs) ≤ maxPairs) where
     -- what the next round begins with
     begins : (k : ℕ) → Waiting (turn (after k .core) (after k .apps) false)
     unfolding after
     begins zero = (unfold coreAtStart in record { few = few; most = start })
     begins (suc k) =
-        let r = round-roomy g (s .pred-apps) (after k .apps) (after k .core) (begins k) in
-        record { few = r .few; most = omega (arith, r .room) }
+        let r = round-waiting g (s .pred-apps) (after k .apps) (after k .core) (begins k) in record { few = r .few; most = r .most }
 
     -- in the next round
     abbrev pub RoundFits : ℕ → Type 0
-    RoundFits k = AllFit g (s .pred-apps) passes Waiting Roomy all-queue (turn (after k .core) (after k .apps) false)
+    RoundFits k = AllFit g (s .pred-apps) passes Waiting Waiting all-queue (turn (after k .core) (after k .apps) false)
 
     pub rounds-fit : (k : ℕ) → RoundFits k
-    rounds-fit k = all-fit g (s .pred-apps) passes Waiting Roomy all-queue (turn (after k .core) (after k .apps) false) (begins k)
-
-    -- while the impositions are imposed a pair can be queued
-    pub impositions-fit : Imposes (rounds g (s .pred-apps) (s .func-apps) (coreAtStart s) .core)
-    unfolding rounds after
-    impositions-fit =
-        let r = some-rounds fuel 0 in
-        let a = round-roomy g (s .pred-apps) (after (r .0) .apps) (after (r .0) .core) (begins (r .0)) in
-        imposes (rounds g (s .pred-apps) (s .func-apps) (coreAtStart s) .core) (omega (arith, ap (λ (v : Core). length (v .pairs)) (r .1), a .room))
+    rounds-fit k = all-fit g (s .pred-apps) passes Waiting Waiting all-queue (turn (after k .core) (after k .apps) false) (begins k)

@@ -1,4 +1,4 @@
--- The proved cases (01, "Proved sheets"): P1 to P10, rows for each number 1 to 11 and for single sentences of 01 and 02, as one table, and one theorem: every row holds (with those of RefusedSettle: `everyRowHolds` there).
+-- The proved cases (01, "Proved sheets"): P1 to P10, rows for each number 1 to 12 and for single sentences of 01 and 02, as one table, and one theorem: every row holds (with those of FullTables and RefusedSettle: `everyRowHolds` there).
 -- A row is data: what it runs, what that answers or prints, and claims about the machine that it leaves. That a refused call leaves the machine as
 -- it was is a theorem over every call (`refused-leaves`, Judged); the rows on refusals state it where it computes in few steps.
 use mathlib.Core.Path.{_≡_, refl}
@@ -272,6 +272,176 @@ settleWith i = record {
   output = prints (lines ("refused 3 at 0" ∷ []));
   claims = machine is whole start ∷ [];
 }
+
+-- Identities and composites (02, M-102).
+
+-- a Model type 0 with its Mor type 1, and the model's dom 0, cod 1, id 2 and comp 3; function 4 has no arguments
+abbrev pub signature102 : List Call
+signature102 =
+    typ model [] ∷ typ (mor 0) [] ∷ func [] (1 ∷ []) 0 ∷ func [] (1 ∷ []) 0 ∷ func [] (0 ∷ []) 1 ∷ func [] (1 ∷ 1 ∷ []) 1 ∷ func [] [] 0
+    ∷ modelOf 0 1 (0 ∷ 1 ∷ 2 ∷ 3 ∷ []) ∷ []
+
+-- the same, with a type 2 of one parent, functions 4 and 5 over one parent whose results are of that type, and no types demanded of maps
+abbrev pub boxed102 : List Call
+boxed102 =
+    typ model [] ∷ typ (mor 0) [] ∷ typ plain (0 ∷ []) ∷ downFrom 4 (λ n. func [] [] 0)
+    ++ (func (0 ∷ []) [] 2 ∷ func (0 ∷ []) [] 2 ∷ modelOf 0 1 (0 ∷ 1 ∷ 2 ∷ 3 ∷ []) ∷ [])
+
+abbrev pub dom : ℕ → ℕ → Call
+dom f a = app 0 [] (f ∷ []) a
+
+abbrev pub cod : ℕ → ℕ → Call
+cod f a = app 1 [] (f ∷ []) a
+
+abbrev pub identity : ℕ → ℕ → Call
+identity a r = app 2 [] (a ∷ []) r
+
+abbrev pub composite : ℕ → ℕ → ℕ → Call
+composite f g h = app 3 [] (f ∷ g ∷ []) h
+
+-- one law alone: the composite of 0 and 1 is 2, the function f has the value 3 at x, and so g has it at y
+abbrev pub lawRow : ℕ → ℕ → ℕ → ℕ → Row
+lawRow f x g y = record {
+  source = calls (signature102 ++ (downFrom 4 (λ n. plainEl) ++ (composite 0 1 2 ∷ app f [] (x ∷ []) 3 ∷ close ∷ [])));
+  output = tells (closes 1 0 2 ∷ []);
+  claims = key g [] (y ∷ []) is result (some 3) ∷ [];
+}
+
+-- 02's numbers in the order of a record 9, where the application of id or comp has one argument too few
+abbrev pub argCountRows : List Row
+argCountRows =
+    -- 12 for id without exactly one argument, and comp without exactly two; the machine is as it was
+    record {
+      source = calls
+          (signature102
+          ++ (plainEl ∷ app 2 [] [] 0 ∷ app 2 [] (0 ∷ 0 ∷ []) 0 ∷ app 3 [] [] 0 ∷ app 3 [] (0 ∷ []) 0 ∷ app 3 [] (0 ∷ 0 ∷ 0 ∷ []) 0 ∷ []));
+      output = tells (refuses 12 ∷ refuses 12 ∷ refuses 12 ∷ refuses 12 ∷ refuses 12 ∷ []);
+      claims = machine is whole (afterCalls (signature102 ++ (plainEl ∷ [])) start) ∷ [];
+    }
+    -- any other count is accepted of dom, which is neither; 3 and 5 come before 12
+    ∷ record {
+      source = calls (signature102 ++ (plainEl ∷ app 0 [] [] 0 ∷ app 2 [] (0 ∷ 0 ∷ 0 ∷ 0 ∷ 0 ∷ []) 0 ∷ app 2 [] [] 1 ∷ app 3 [] (1 ∷ []) 0 ∷ []));
+      output = tells (refuses 3 ∷ refuses 5 ∷ refuses 5 ∷ []);
+      claims = key 0 [] [] is result (some 0) ∷ [];
+    }
+    -- with a record 5, of whichever model, 7 comes before 12
+    ∷ record {
+      source = calls
+          (signature7
+          ++ (modelOf 1 3 (5 ∷ 6 ∷ 7 ∷ 8 ∷ []) ∷ plainEl ∷ app 2 [] [] 0 ∷ app 2 [] (0 ∷ []) 0 ∷ app 3 [] (0 ∷ 0 ∷ []) 0 ∷ app 7 [] (0 ∷ []) 0
+          ∷ app 8 [] (0 ∷ 0 ∷ []) 0 ∷ []));
+      output = tells (refuses 7 ∷ refuses 7 ∷ refuses 7 ∷ refuses 7 ∷ refuses 7 ∷ []);
+      claims = [];
+    }
+    ∷ []
+
+abbrev pub mapRows : List Row
+mapRows =
+    -- the identity's law: of its result dom and cod are its argument
+    record {
+      source = calls (signature102 ++ (plainEl ∷ plainEl ∷ identity 0 1 ∷ close ∷ close ∷ []));
+      output = tells (closes 1 0 2 ∷ closes 0 0 1 ∷ []);
+      claims = key 0 [] (1 ∷ []) is result (some 0) ∷ key 1 [] (1 ∷ []) is result (some 0) ∷ settled is flag true ∷ [];
+    }
+    -- the composite's laws, each from either side
+    ∷ lawRow 0 0 0 2
+    ∷ lawRow 0 2 0 0
+    ∷ lawRow 1 1 1 2
+    ∷ lawRow 1 2 1 1
+    ∷ lawRow 1 0 0 1
+    ∷ lawRow 0 1 1 0
+    -- two values of one map are one: of two identities with one result the arguments are
+    ∷ record {
+      source = calls (signature102 ++ (plainEl ∷ plainEl ∷ plainEl ∷ identity 0 2 ∷ identity 1 2 ∷ close ∷ []));
+      output = tells (closes 1 1 3 ∷ []);
+      claims = link 1 is el 0 ∷ key 0 [] (2 ∷ []) is result (some 0) ∷ [];
+    }
+    -- the premises are read up to equality: the composite is of 0, dom is declared of 3, and 0 and 3 are one
+    ∷ record {
+      source = calls
+          (signature102 ++ (downFrom 6 (λ n. plainEl) ++ (composite 0 1 2 ∷ dom 3 4 ∷ dom 2 5 ∷ equate-els 0 3 ∷ close ∷ [])));
+      output = tells (closes 1 2 3 ∷ []);
+      claims = link 3 is el 0 ∷ link 5 is el 4 ∷ [];
+    }
+    -- a chain of composites against the order of the table: each round carries dom one composite further, so that there are more rounds than
+    -- merges and two
+    ∷ record {
+      source = calls
+          (signature102
+          ++ (downFrom 6 (λ n. plainEl) ++ (composite 0 4 3 ∷ composite 1 4 0 ∷ composite 2 4 1 ∷ dom 2 5 ∷ close ∷ [])));
+      output = tells (closes 1 0 4 ∷ []);
+      claims = key 0 [] (3 ∷ []) is result (some 5) ∷ [];
+    }
+    -- the laws of a composite in their order: the middle one, last, gives dom(0) = 2, which the next round gives to the composite
+    ∷ record {
+      source = calls (signature102 ++ (plainEl ∷ plainEl ∷ plainEl ∷ composite 0 0 1 ∷ cod 0 2 ∷ close ∷ []));
+      output = tells (closes 1 0 3 ∷ []);
+      claims = key 0 [] (1 ∷ []) is result (some 2) ∷ key 1 [] (1 ∷ []) is result (some 2) ∷ [];
+    }
+    -- an application that a law adds is a change, and so is a pair that it queues
+    ∷ record {
+      source = calls (signature102 ++ (plainEl ∷ plainEl ∷ dom 1 0 ∷ close ∷ identity 0 1 ∷ close ∷ []));
+      output = tells (closes 1 0 2 ∷ closes 1 0 2 ∷ []);
+      claims = settled is flag false ∷ [];
+    }
+    ∷ record {
+      source = calls (signature102 ++ (plainEl ∷ plainEl ∷ plainEl ∷ dom 1 0 ∷ cod 1 2 ∷ close ∷ identity 0 1 ∷ close ∷ []));
+      output = tells (closes 1 0 2 ∷ closes 1 1 3 ∷ []);
+      claims = link 2 is el 0 ∷ [];
+    }
+    -- the laws of every model
+    ∷ record {
+      source = calls
+          (typesAndFuncs
+          ++ (modelOf 0 2 (0 ∷ 1 ∷ 2 ∷ 3 ∷ []) ∷ modelOf 1 3 (4 ∷ 5 ∷ 6 ∷ 7 ∷ []) ∷ plainEl ∷ plainEl ∷ plainEl
+          ∷ app 6 [] (0 ∷ []) 2 ∷ app 6 [] (1 ∷ []) 2 ∷ close ∷ []));
+      output = tells (closes 1 1 3 ∷ []);
+      claims = link 1 is el 0 ∷ key 4 [] (2 ∷ []) is result (some 0) ∷ [];
+    }
+    -- what is looked up is looked up under the stored parents: typing merges the marked 1 into 0, and the law finds dom(1; 2) = 5 in that round. By
+    -- roots it would be found in the next one, and a third round would run
+    ∷ record {
+      source = calls
+          (boxed102 ++ (plainEl ∷ markedEl ∷ downFrom 5 (λ n. plainEl)
+          ++ (app 4 (0 ∷ []) [] 6 ∷ app 4 (1 ∷ []) [] 6 ∷ app 3 (1 ∷ []) (2 ∷ 3 ∷ []) 4 ∷ app 0 (1 ∷ []) (2 ∷ []) 5 ∷ close ∷ [])));
+      output = tells (closes 1 1 2 ∷ []);
+      claims = link 1 is el 0 ∷ key 0 (0 ∷ []) (4 ∷ []) is result (some 5) ∷ [];
+    }
+    -- .. and the root of the argument: typing merges the marked 2 into 1, and the law of the composite of 2 finds dom(1) = 5
+    ∷ record {
+      source = calls
+          (boxed102 ++ (plainEl ∷ plainEl ∷ markedEl ∷ downFrom 4 (λ n. plainEl)
+          ++ (app 4 (1 ∷ []) [] 6 ∷ app 4 (2 ∷ []) [] 6 ∷ composite 2 3 4 ∷ dom 1 5 ∷ close ∷ [])));
+      output = tells (closes 1 1 2 ∷ []);
+      claims = link 2 is el 1 ∷ key 0 [] (4 ∷ []) is result (some 5) ∷ [];
+    }
+    -- what is added is added as roots: typing merges the marked 1 into 0, and the identity over 1 meets dom(0; 3) = 4
+    ∷ record {
+      source = calls
+          (boxed102 ++ (plainEl ∷ markedEl ∷ downFrom 4 (λ n. plainEl)
+          ++ (app 4 (0 ∷ []) [] 5 ∷ app 4 (1 ∷ []) [] 5 ∷ app 2 (1 ∷ []) (2 ∷ []) 3 ∷ app 0 (0 ∷ []) (3 ∷ []) 4 ∷ close ∷ [])));
+      output = tells (closes 1 2 3 ∷ []);
+      claims = link 4 is el 2 ∷ [];
+    }
+    -- a close shortens a path: typing merges 2 into 1 and 1 into 0, and then the law dom(4) = 0 meets the stored result 2, whose root it finds
+    ∷ record {
+      source = calls
+          (boxed102
+          ++ (plainEl ∷ markedEl ∷ markedEl ∷ plainEl ∷ plainEl
+          ∷ app 4 (1 ∷ []) [] 3 ∷ app 4 (2 ∷ []) [] 3 ∷ app 5 (0 ∷ []) [] 3 ∷ dom 4 2 ∷ identity 0 4 ∷ close ∷ []));
+      output = tells (closes 1 2 2 ∷ []);
+      claims = link 1 is el 0 ∷ link 2 is el 0 ∷ [];
+    }
+    -- two elements in three closes, "the element count plus one": the first merges them in its impositions, the second finds by a law what that brought
+    -- together and adds cod(0; 0) = 0, and the third reports no change
+    ∷ record {
+      source = calls
+          (boxed102
+          ++ (plainEl ∷ markedEl ∷ app 3 (1 ∷ []) (0 ∷ 0 ∷ []) 0 ∷ app 0 (0 ∷ []) (0 ∷ []) 0 ∷ impose 0 2 (0 ∷ []) ∷ impose 0 2 (1 ∷ []) ∷ settle ∷ []));
+      output = tells (settles 3 1 ∷ []);
+      claims = link 1 is el 0 ∷ key 1 (0 ∷ []) (0 ∷ []) is result (some 0) ∷ settled is flag true ∷ [];
+    }
+    ∷ argCountRows
 
 -- The table.
 
@@ -610,7 +780,7 @@ table =
       output = tells (refuses 6 ∷ refuses 6 ∷ refuses 6 ∷ refuses 6 ∷ refuses 6 ∷ refuses 6 ∷ []);
       claims = [];
     }
-    -- number 7: "application of id, comp or a morphism application function"; dom may be applied
+    -- number 7: "application of id, comp or a morphism application function", where a record 5 stands; dom may be applied
     ∷ record {
       source = calls (signature7 ++ (plainEl ∷ app 2 [] [] 0 ∷ app 3 [] [] 0 ∷ app 4 [] [] 0 ∷ []));
       output = tells (refuses 7 ∷ refuses 7 ∷ refuses 7 ∷ []);
@@ -691,7 +861,7 @@ table =
       claims = [];
     }
     -- number 3: ".. or an unused word outside the above": of a settle these are all but the first two
-    ∷ map settleWith (2 ∷ 3 ∷ 4 ∷ 5 ∷ 6 ∷ 7 ∷ 8 ∷ 9 ∷ 10 ∷ 11 ∷ 12 ∷ 13 ∷ 14 ∷ 15 ∷ [])
+    ∷ map settleWith (2 ∷ 3 ∷ 4 ∷ 5 ∷ 6 ∷ 7 ∷ 8 ∷ 9 ∷ 10 ∷ 11 ∷ 12 ∷ 13 ∷ 14 ∷ 15 ∷ []) ++ mapRows
 
 -- The theorem.
 

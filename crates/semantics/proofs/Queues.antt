@@ -1,4 +1,5 @@
--- How many pairs wait at every moment of a close, of any structure with at most `maxFuncApps` applications: never more than `maxPairs`.
+-- How many pairs wait while pairs are drained, applications rewritten and facts imposed, of any structure with at most `maxFuncApps` applications;
+-- for a whole round see Pairs.
 -- Each law holds for every list, so it speaks of the moment after each entry of a longer one.
 use mathlib.Core.Path.{_≡_, refl, ap, _∙_}
 use mathlib.Core.Logic.{_⊎_, inl, inr}

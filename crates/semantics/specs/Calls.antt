@@ -8,19 +8,20 @@ use mathlib.Core.Option.{Option, none, some}
 use lib.ListN.{length, take}
 use lib.Dec.{eqb, leb, ltb}
 use Rattle.ids.specs.declared.Ordering.the-variants.{Less, Equal, Greater}
-use Rattle.ids.specs.Answers.{Cause, Answered, accepted, refused, Outcome, firstOf, decided, _if_, malformed, undeclared, wrongKind, reserved, givenAgain, noRoom, noAmbient}
+use Rattle.ids.specs.Answers.{Cause, Answered, accepted, refused, Outcome, firstOf, decided, _if_, malformed, undeclared, wrongKind, reserved, wrongArgCount, givenAgain, noRoom, noAmbient}
 use Rattle.ids.specs.Ids.{tooLong, allBelow}
 use Rattle.ids.specs.Table.{present, placed, lookupOf}
-use Rattle.unification.specs.Roots.{maxEls, rootOf, shortOf, addedOf, FindM, findOf, findCauses}
+use Rattle.unification.specs.Roots.{maxEls, shortOf, addedOf, FindM, findOf, findCauses}
 use Rattle.signature.specs.Model as signature
 use Rattle.signature.specs.Model.{Sig, TypeM, PredM, FuncM, ModelM, MorAppM}
 use Rattle.signature.specs.Calls.{isType, areTypes, isFunc, isModel, inMorApps, TypedM, at, absent, concreteTypeAt, lookupTypeCauses}
 use Rattle.signature.specs.Calls.{typeCauses, withType, predCauses, withPred, funcCauses, withFunc, modelCauses, withModel}
 use Rattle.signature.specs.Calls.{morAppCauses, withMorApp}
-use Rattle.semantics.specs.Structure.{Fact, FuncApp, PredApp, Pair, pair, Var, Ambient, ambient, Structure, empty, maxPairs}
-use Rattle.semantics.specs.Structure.{maxImpositions, maxFuncApps, maxPredApps, maxVars, compareFact, compareFuncApp, comparePredApp}
-use Rattle.semantics.specs.Structure.{compareVar, compareAmbient, canonicalFact, canonicalFuncApp, with-links, with-marks}
+use Rattle.semantics.specs.Structure.{Fact, FuncApp, PredApp, Var, Ambient, ambient, Structure, empty, maxPairs}
+use Rattle.semantics.specs.Structure.{maxImpositions, maxPredApps, maxVars, compareFact, comparePredApp}
+use Rattle.semantics.specs.Structure.{compareVar, compareAmbient, canonicalFact, with-links, with-marks}
 use Rattle.semantics.specs.Structure.{with-func-apps, with-pred-apps, with-vars, with-ambients, with-pairs, with-impositions, with-flags}
+use Rattle.semantics.specs.Applying.{Equated, equate, Applied, insertFuncAppOrEquate}
 use Rattle.semantics.specs.Close as closing
 use Rattle.semantics.specs.Close.{Closed, CloseRun, closeRun, metCauses, closeCauses, reportOf, afterClose}
 use Rattle.semantics.specs.Conflicts.{Conflict, typeConflicts}
@@ -46,17 +47,6 @@ unfoldable pub withEl : Bool → Structure → Structure
 withEl mark s = with-links (addedOf (s .links)) (with-marks (s .marks ++ (mark ∷ [])) s)
 
 -- Kind 7, "equality (A, B)". "`equate` finds both roots by `root`, so paths shorten, queues the pair as given even where the roots are equal, and says whether they differ."
-
-pub record Equated : Type 0 where
-  pub links : List ℕ
-  pub pairs : List Pair
-  pub differ : Bool
-
-abbrev pub equating : List ℕ → List Pair → Bool → Equated
-equating ls ps differ = record { links = ls; pairs = ps; differ = differ }
-
-unfoldable pub equate : List ℕ → List Pair → ℕ → ℕ → Equated
-equate ls ps a b = equating (shortOf (shortOf ls a) b) (pair a b ∷ ps) (not (eqb (rootOf ls a) (rootOf (shortOf ls a) b)))
 
 unfoldable pub equalityCauses : Structure → ℕ → ℕ → List Cause
 equalityCauses s a b =
@@ -87,49 +77,35 @@ withImposition queued f s = elim queued [ true ↦ s | false ↦ with-imposition
 
 -- Kind 9, "function application (A function, B result)", as `insert_func_app_or_equate`.
 
--- "application of id, comp or a morphism application function"
+-- the function is a model's id or comp
 unfoldable pub isIdOrComp : ℕ → List ModelM → Bool
 isIdOrComp f [] = false
 isIdOrComp f (m ∷ ms) = (eqb f (m .id) || eqb f (m .comp)) || isIdOrComp f ms
 
+-- "Number 7 remains for record 5 functions, and for id and comp where a record 5 stands." (02, M-102)
 unfoldable pub isReserved : Sig → ℕ → Bool
-isReserved g f = isIdOrComp f (g .models) || inMorApps f (g .mor-apps)
+isReserved g f = inMorApps f (g .mor-apps) || (isIdOrComp f (g .models) && ltb 0 (length (g .mor-apps)))
 
-pub record Applied : Type 0 where
-  pub links : List ℕ
-  pub pairs : List Pair
-  pub apps : List FuncApp
-  pub yes : Bool
-  -- "an entry needed, its table at its limit"
-  pub full : Bool
+-- "an id application without exactly one argument, or a comp without exactly two"
+unfoldable pub misapplies : ModelM → FuncApp → Bool
+misapplies m x =
+    (eqb (x .func) (m .id) && not (eqb (length (x .args)) 1)) || (eqb (x .func) (m .comp) && not (eqb (length (x .args)) 2))
 
-abbrev pub applied : List ℕ → List Pair → List FuncApp → Bool → Bool → Applied
-applied ls ps apps y full = record { links = ls; pairs = ps; apps = apps; yes = y; full = full }
-
-unfoldable pub appliedEqual : Equated → List Pair → List FuncApp → Applied
-appliedEqual e ps apps = applied (e .links) (e .pairs) apps (e .differ) (leb maxPairs (length ps))
-
--- the application, already rewritten, meets the entry with its key
-unfoldable pub applyAt : Option FuncApp → FuncApp → List ℕ → List Pair → List FuncApp → Applied
-applyAt none x ls ps apps = applied ls ps (placed compareFuncApp x apps) true (leb maxFuncApps (length apps))
-applyAt (some y) x ls ps apps =
-    elim (eqb (y .result) (x .result)) [
-      | true ↦ applied ls ps apps false false
-      | false ↦ appliedEqual (equate ls ps (y .result) (x .result)) ps apps
-    ]
-
-unfoldable pub insertFuncAppOrEquate : FuncApp → List ℕ → List Pair → List FuncApp → Applied
-insertFuncAppOrEquate x ls ps apps = applyAt (lookupOf compareFuncApp (canonicalFuncApp ls x) apps) (canonicalFuncApp ls x) ls ps apps
+unfoldable pub isMisapplied : FuncApp → List ModelM → Bool
+isMisapplied x [] = false
+isMisapplied x (m ∷ ms) = misapplies m x || isMisapplied x ms
 
 -- the application on the structure's own tables
 abbrev pub appliedTo : Structure → FuncApp → Applied
 appliedTo s x = insertFuncAppOrEquate x (s .links) (s .pairs) (s .func-apps)
 
+-- "with 12, directly after 7" (02, M-102)
 unfoldable pub applicationCauses : Sig → Structure → FuncApp → List Cause
 applicationCauses g s x =
     malformed if (tooLong (x .parents) || tooLong (x .args))
     ∷ undeclared if not (isFunc g (x .func) && (areEls s (x .parents) && (areEls s (x .args) && isEl s (x .result))))
     ∷ reserved if isReserved g (x .func)
+    ∷ wrongArgCount if isMisapplied x (g .models)
     ∷ noRoom if appliedTo s x .full
     ∷ []
 
@@ -394,7 +370,8 @@ applicationRule a cs m = states cs (says (a .yes)) (withApplied a (m .structure)
 unfoldable pub closeRule : CloseRun → Machine → Rule
 closeRule c m = states (closeCauses c) (closed (reportOf c)) (afterClose c (m .structure)) m
 
--- "If a close meets number 11, settle returns 11 and the structure before the settle."
+-- "If a close meets number 11, settle returns 11 and the structure before the settle."; 02, M-102: "close and settle may now meet number 9, with the
+-- structure as before the call"
 unfoldable pub settleRule : SettleRun → Machine → Rule
 settleRule r m = states (metCauses (r .met)) (summed (sumsOf (r .reports))) (r .after) m
 

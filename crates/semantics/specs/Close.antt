@@ -5,17 +5,19 @@ use mathlib.Core.List.{List, [], _∷_, _++_, map}
 use mathlib.Core.Option.{Option, none, some}
 use lib.ListN.{length, take}
 use lib.Dec.{eqb, ltb}
-use Rattle.ids.specs.Answers.{Cause, Outcome, outcome, _if_}
+use Rattle.ids.specs.Answers.{Cause, Outcome, outcome, _if_, noRoom}
 use Rattle.ids.specs.Table.{lookupOf, placed, rewriteInto}
-use Rattle.unification.specs.Roots.{maxEls}
+use Rattle.unification.specs.Roots.{maxEls, rootOf}
 use Rattle.signature.specs.Model.{Sig, predAt, funcAt}
 use Rattle.signature.specs.Calls.{TypedM, at, absent, concreteTypeAt}
-use Rattle.semantics.specs.Structure.{Fact, fact, FuncApp, PredApp, Pair, pair, Structure, maxFacts, compareFact, compareFuncApp}
-use Rattle.semantics.specs.Structure.{comparePredApp, canonicalFact, canonicalFuncApp, canonicalPredApp, canonicalVar, with-links}
+use Rattle.semantics.specs.Structure.{Fact, fact, FuncApp, func-app, PredApp, Pair, pair, Structure, maxFacts, maxFuncApps, compareFact}
+use Rattle.semantics.specs.Structure.{compareFuncApp, comparePredApp, canonicalFact, canonicalFuncApp, canonicalPredApp, canonicalVar, with-links}
 use Rattle.semantics.specs.Structure.{with-marks, with-facts, with-func-apps, with-pred-apps, with-vars, with-pairs}
 use Rattle.semantics.specs.Structure.{with-impositions}
 use Rattle.semantics.specs.Types as types
 use Rattle.semantics.specs.Types.{Core, core, drain, imposeAll, grew}
+use Rattle.semantics.specs.Applying.{Applied, insertFuncAppOrEquate}
+use Rattle.semantics.specs.MapLaws.{Side, MapLaw, application, equation, mapLaws}
 
 -- `functionality`: "rewrites keys and results in order of function, parents, arguments; the first result stays, a different one is queued".
 
@@ -75,7 +77,8 @@ funcResults g (x ∷ xs) = demandedAt g (funcAt g (x .func) .codomain) (x .paren
 unfoldable pub demands : Sig → List FuncApp → List PredApp → List Fact
 demands g apps preds = funcArgs g apps ++ (predArgs g preds ++ funcResults g apps)
 
--- A round: "drain (last pair first), `functionality`, `typing`".
+-- A round: "drain (last pair first), `functionality`, `typing`", and the laws of identities and composites: "The pass runs after typing in each round"
+-- (02, M-102).
 
 -- what the passes of a round work on, and whether one of them reported work
 pub record Turn : Type 0 where
@@ -112,11 +115,53 @@ typed w t = reports w (t .apps) (grew (t .core) w) t
 unfoldable pub typingPass : Sig → List PredApp → Turn → Turn
 typingPass g preds t = typed (imposeAll (demands g (t .apps) preds) (t .core)) t
 
+-- `morphism_operation_constraints`, for id and comp (02, M-102): each law of the applications that the pass begins with, in order, is carried out on the
+-- table as it is then. It reports an application that was inserted, or two results with different roots. Where a record 5 stands no application of id
+-- or comp is accepted (7), and the pass does nothing.
+
+-- "may add applications, so close and settle may now meet number 9": where an entry is needed and its table is at its limit, the number is met
+unfoldable pub appliedTurn : Applied → Turn → Turn
+appliedTurn a t =
+    elim (a .full) [
+      | true ↦ turn (types.with-met noRoom (t .core)) (t .apps) (t .worked)
+      | false ↦ reports (types.with-links (a .links) (types.with-pairs (a .pairs) (t .core))) (a .apps) (a .yes) t
+    ]
+
+unfoldable pub applyTurn : FuncApp → Turn → Turn
+applyTurn x t = appliedTurn (insertFuncAppOrEquate x (t .core .links) (t .core .pairs) (t .apps)) t
+
+-- what a side is looked up under: the parents as they are stored, the element's root (the result 0 is not read)
+unfoldable pub keyOf : List ℕ → List ℕ → Side → FuncApp
+keyOf ls ps x = func-app (x .func) ps (rootOf ls (x .el) ∷ []) 0
+
+-- the value that was found, if there is one, is the value at the key y too
+unfoldable pub giveTo : FuncApp → Option FuncApp → Turn → Turn
+giveTo y none t = t
+giveTo y (some x) t = applyTurn (func-app (y .func) (y .parents) (y .args) (x .result)) t
+
+unfoldable pub give : FuncApp → FuncApp → Turn → Turn
+give x y t = giveTo y (lookupOf compareFuncApp x (t .apps)) t
+
+-- from the left key to the right one, then from the right to the left
+unfoldable pub equalize : FuncApp → FuncApp → Turn → Turn
+equalize l r t = give r l (give l r t)
+
+unfoldable pub obey : MapLaw → Turn → Turn
+obey (application x) t = applyTurn x t
+obey (equation ps l r) t = equalize (keyOf (t .core .links) ps l) (keyOf (t .core .links) ps r) t
+
+unfoldable pub obeyAll : List MapLaw → Turn → Turn
+obeyAll [] t = t
+obeyAll (x ∷ xs) t = obeyAll xs (obey x t)
+
+unfoldable pub operationPass : Sig → List PredApp → Turn → Turn
+operationPass g preds t = obeyAll (mapLaws (g .models) (t .apps)) t
+
 abbrev pub Pass : Type 0
 Pass = Sig → List PredApp → Turn → Turn
 
 unfoldable pub passes : List Pass
-passes = drainPass ∷ functionalityPass ∷ typingPass ∷ []
+passes = drainPass ∷ functionalityPass ∷ typingPass ∷ operationPass ∷ []
 
 unfoldable pub runPasses : List Pass → Sig → List PredApp → Turn → Turn
 runPasses [] g preds t = t
@@ -158,7 +203,7 @@ roundsFrom (suc k) g preds t =
 
 -- more rounds than a close of a valid structure can take
 unfoldable pub fuel : ℕ
-fuel = 2 * ((maxFacts + 2) * (maxEls + 1))
+fuel = 2 * ((maxFacts + maxFuncApps + 2) * (maxEls + 1))
 
 unfoldable pub rounds : Sig → List PredApp → List FuncApp → Core → Rounds
 rounds g preds apps w = roundsFrom fuel g preds (round g preds apps w)
@@ -212,7 +257,7 @@ reportOf c = report (ltb 1 (c .rounds .count) || grew (c .rounds .core) (c .core
 unfoldable pub afterClose : CloseRun → Structure → Structure
 afterClose c s = canonicaliseRefs (c .core .links) (withCore (c .core) (c .rounds .apps) s)
 
--- the number first met refuses
+-- the number first met refuses: "Of 9 and 11 in one close, the one met first is given." (02, M-102)
 unfoldable pub metCauses : Option ℕ → List Cause
 metCauses none = []
 metCauses (some n) = n if true ∷ []

@@ -1,5 +1,7 @@
 pub mod Structure
 pub mod Types
+pub mod Applying
+pub mod MapLaws
 pub mod Close
 pub mod Conflicts
 pub mod Valid

@@ -10,7 +10,7 @@ use Rattle.ids.specs.Table.{present, placed, rewriteInto}
 use Rattle.unification.specs.Roots.{rootOf, mergedOf}
 use Rattle.semantics.specs.Structure.{Fact, Pair, pair, compareFact, factAt, canonicalFact, maxFacts}
 
--- The part of the structure that merges and imposed facts alter, with what a close counts in it.
+-- The part of the structure that merges, imposed facts and the laws of maps alter, with what a close counts in it.
 pub record Core : Type 0 where
   pub links : List ℕ
   pub marks : List Bool

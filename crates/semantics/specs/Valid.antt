@@ -1,9 +1,9 @@
--- What holds of every signature and structure that calls can make (`calls-valid`, crate validity): numbers, orders and limits, and what the
--- numbers 4, 6 and 7 keep out.
+-- What holds of every signature and structure that calls can make (`calls-valid`, crate validity): numbers, orders and limits, and, as far as
+-- theorems need it, what the numbers 4, 6, 7, 8 and 12 keep out.
 use Prim.Native.Nat.{ℕ, _≤_, _<_}
 use mathlib.Core.Path.{_≡_}
 use mathlib.Core.Bool.{true, false}
-use mathlib.Core.List.{List}
+use mathlib.Core.List.{List, [], _∷_, _++_}
 use lib.ListN.{length}
 use Rattle.ids.specs.declared.Ordering.{Ordering}
 use Rattle.ids.specs.Limits.{maxList}
@@ -11,11 +11,11 @@ use Rattle.ids.specs.Sorted.{All, Sorted}
 use Rattle.unification.specs.Roots.{maxEls, rootOf, Formed}
 use Rattle.signature.specs.Model.{Sig, Kind, plain, model, enum, mor, TypeM, PredM, FuncM, ModelM, MorAppM, maxTypes, maxPreds, maxFuncs}
 use Rattle.signature.specs.Model.{maxModels, maxMorApps}
-use Rattle.signature.specs.Calls.{functions, isModel}
+use Rattle.signature.specs.Calls.{functions, repeats, isModel}
 use Rattle.semantics.specs.Structure.{Fact, FuncApp, PredApp, Pair, Var, Ambient, Structure, maxPairs, maxImpositions, maxFuncApps}
 use Rattle.semantics.specs.Structure.{maxPredApps, maxFacts, maxVars, compareFact, compareFuncApp, comparePredApp, compareVar}
 use Rattle.semantics.specs.Structure.{compareAmbient, empty}
-use Rattle.semantics.specs.Calls.{isReserved}
+use Rattle.semantics.specs.Calls.{isReserved, isMisapplied}
 
 -- every number of a list is below n
 abbrev pub Below : ℕ → List ℕ → Type 0
@@ -94,6 +94,11 @@ pub record MorAppValid (n k : ℕ) (m : MorAppM) : Type 0 where
   -- its members are of a type
   pub member-type : m .member-type < n
 
+-- the functions that the models name
+unfoldable pub functionsIn : List ModelM → List ℕ
+functionsIn [] = []
+functionsIn (m ∷ ms) = functions m ++ functionsIn ms
+
 -- the signature
 pub record ValidSig (g : Sig) : Type 0 where
   -- the types, which name each other
@@ -106,6 +111,8 @@ pub record ValidSig (g : Sig) : Type 0 where
   pub models : Queue (ModelValid (length (g .types)) (length (g .funcs))) maxModels (g .models)
   -- the morphism application functions, which name types and functions
   pub mor-apps : Queue (MorAppValid (length (g .types)) (length (g .funcs))) maxMorApps (g .mor-apps)
+  -- no function stands twice in the models: number 8, "function in records 4 and 5 .. given again"
+  pub once : repeats (functionsIn (g .models)) ≡ false
 
 -- The structure.
 
@@ -203,9 +210,13 @@ pub record ValidStructure (c : Counts) (s : Structure) : Type 0 where
   -- the impositions, in the order in which they were queued
   pub impositions : Queue (FactValid c) maxImpositions (s .impositions)
 
--- it is no application of id, comp or a morphism application function, which number 7 refuses
+-- it is no application of a morphism application function, nor of id or comp where a record 5 stands, which number 7 refuses
 abbrev pub Unreserved : Sig → FuncApp → Type 0
 Unreserved g x = isReserved g (x .func) ≡ false
+
+-- an application of id has one argument, one of comp two: number 12 refuses any other
+abbrev pub WellApplied : Sig → FuncApp → Type 0
+WellApplied g x = isMisapplied x (g .models) ≡ false
 
 -- its type is a Model: number 6 refuses any other
 abbrev pub OfModel : Sig → Ambient → Type 0
@@ -215,8 +226,10 @@ OfModel g a = isModel g (a .typ) ≡ true
 pub record Valid (g : Sig) (s : Structure) : Type 0 where
   pub sig : ValidSig g
   pub structure : ValidStructure (countsOf g s) s
-  -- "In our domain no application names a morphism application function or a model's id or comp"
+  -- no application names a morphism application function, nor a model's id or comp where a record 5 stands
   pub unreserved : All (Unreserved g) (s .func-apps)
+  -- id is applied to one argument, comp to two
+  pub well-applied : All (WellApplied g) (s .func-apps)
   -- an ambient's type is a Model
   pub of-models : All (OfModel g) (s .ambients)
   -- number 4, "kinds 1 to 5 after any accepted of 6 to 14" (and 15: 02, M-100): while the signature may still grow nothing is stored, so that no later record makes

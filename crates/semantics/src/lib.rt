@@ -1,1 +1,1 @@
-// The definitions of document 01 as `specs/` has them, with what is proved of them alone. There is no code here.
+// The definitions of documents 01 and 02 as `specs/` has them, with what is proved of them alone. There is no code here.

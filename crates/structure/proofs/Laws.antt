@@ -28,7 +28,8 @@ use Rattle.signature.specs.Model.{Sig}
 use Rattle.semantics.specs.Structure as model
 use Rattle.semantics.specs.Structure.{Ambient, maxPairs, with-links, with-marks, with-pairs}
 use Rattle.semantics.specs.Calls as calls
-use Rattle.semantics.specs.Calls.{Answer, Step, Equated, equate, ambientOf, haveAmbients, ambientEls, answers, machine, leaves, settledBy}
+use Rattle.semantics.specs.Applying.{Equated, equate}
+use Rattle.semantics.specs.Calls.{Answer, Step, ambientOf, haveAmbients, ambientEls, answers, machine, leaves, settledBy}
 use Rattle.semantics.specs.Calls.{Call, Rule, asks, says, withEquality, rule, acceptance, refusal, stepBy, step}
 use Rattle.bindings.specs.View.{boundOf, ambientElOf}
 use Rattle.equalities.specs.declared.Equated as equalities

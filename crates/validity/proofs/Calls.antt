@@ -1,6 +1,5 @@
 -- The empty signature and structure are valid, and every call keeps them so.
 use mathlib.Core.Path.{_≡_, refl, ap, _∙_}
-use mathlib.Core.Logic.{inl, inr}
 use mathlib.Core.Bool.{Bool, true, false, not, _&&_}
 use mathlib.Core.List.{List, [], _∷_, _++_}
 use mathlib.Core.Option.{Option, none, some}
@@ -14,51 +13,42 @@ use Rattle.ids.specs.declared.Ordering.the-variants.{Less}
 use Rattle.ids.specs.Ids.{tooLong}
 use Rattle.ids.specs.Table.{present, placed, lookupOf}
 use Rattle.ids.proofs.Judging.{NoneApplies}
-use Rattle.ids.proofs.Sorted.{All, all-map, all-at, Ordered, no-test, placed-all, placed-sorted, placed-present, placed-absent, lookup-sound}
+use Rattle.ids.proofs.Sorted.{All, all-map, all-at, Ordered, no-test, placed-all, placed-sorted, lookup-sound}
 use Rattle.ids.proofs.Sorted.{keys-few}
-use Rattle.unification.specs.Roots.{maxEls, rootOf, shortOf, Formed, findCauses}
-use Rattle.unification.proofs.Laws.{short-length}
-use Rattle.unification.proofs.Theorems.{added-formed, short-formed, short-root}
+use Rattle.unification.specs.Roots.{maxEls, shortOf, findCauses}
+use Rattle.unification.proofs.Theorems.{added-formed}
 use Rattle.signature.specs.Model as signature
 use Rattle.signature.specs.Model.{Sig}
 use Rattle.signature.specs.Calls.{isType, isFunc, isModel}
 use Rattle.semantics.specs.Structure.{Fact, FuncApp, PredApp, Pair, pair, Var, Ambient, Structure, empty, maxPairs, maxImpositions}
 use Rattle.semantics.specs.Structure.{maxFuncApps, maxPredApps, maxVars, compareFuncApp, comparePredApp, compareVar, compareAmbient}
 use Rattle.semantics.specs.Structure.{canonicalFact, canonicalFuncApp, with-links, with-pairs}
-use Rattle.semantics.specs.Calls.{isEl, areEls, isPred, elCauses, withEl, equate, equalityCauses, withEquality, isImposed}
-use Rattle.semantics.specs.Calls.{impositionCauses, withImposition, Applied, applied, appliedEqual, applyAt, insertFuncAppOrEquate, appliedTo}
+use Rattle.semantics.specs.Applying.{equate}
+use Rattle.semantics.specs.Calls.{isEl, areEls, isPred, elCauses, withEl, equalityCauses, withEquality, isImposed}
+use Rattle.semantics.specs.Applying.{Applied, applied, appliedEqual, applyAt, insertFuncAppOrEquate}
+use Rattle.semantics.specs.Calls.{impositionCauses, withImposition, appliedTo}
 use Rattle.semantics.specs.Calls.{applicationCauses, withApplied, predicationCauses, withPredApp, variableCauses, withVar, ambientCauses}
 use Rattle.semantics.specs.Calls.{withAmbient, Call, push-type, push-pred, push-func, push-model, push-mor-app, push-el, equate-els}
 use Rattle.semantics.specs.Calls.{impose-type, apply-func, apply-pred, bind-var, bind-ambient, close, type-conflicts, settle, root, root-const}
 use Rattle.semantics.specs.Calls.{lookup-type, ambient-parents, Answer, Machine, start, equalityRule, impositionRule, applicationRule}
 use Rattle.semantics.specs.Calls.{closeRule, settleRule, rule, settledBy, leaves, acceptance, step, afterCalls}
 use Rattle.semantics.specs.Valid.{Counts, countsAt, countsOf, FactValid, FuncAppValid, PredAppValid, VarValid, AmbientValid, OnRoot}
-use Rattle.semantics.specs.Valid.{Table, ValidSig, ValidStructure, Unreserved, OfModel, Valid}
+use Rattle.semantics.specs.Valid.{Table, ValidSig, ValidStructure, Unreserved, WellApplied, OfModel, Valid}
 use Rattle.semantics.proofs.Orders.{func-app-ordered, pred-app-ordered, var-ordered, ambient-ordered, order-less}
-use Rattle.semantics.proofs.Cases.{test, and-first, and-second, or-first, or-second}
+use Rattle.semantics.proofs.Cases.{and-first, and-second, or-first, or-second}
+use Rattle.semantics.proofs.Equating.{short-relinked, equate-relinked}
 use Rattle.semantics.proofs.Links.{length-push, added-is, root-push}
 use Rattle.semantics.proofs.Judged.{step-by, listed-if}
 use Rattle.semantics.proofs.Settling.{run-keeps}
 use Rattle.validity.proofs.Imposing.{canonical-valid}
-use Rattle.validity.proofs.Entering.{canonical-entry}
+use Rattle.validity.proofs.Entering.{canonical-entry, canonical-unreserved, canonical-well-applied}
+use Rattle.validity.proofs.Operating.{Admitted}
 use Rattle.validity.proofs.Closing.{after-close}
-use Rattle.validity.proofs.Growing.{CountsGrow, table-more, queue-more, queue-push, pair-more, fact-more, func-app-more, pred-app-more}
+use Rattle.validity.proofs.Growing.{CountsGrow, table-place, table-more, queue-more, queue-push, pair-more, fact-more, func-app-more, pred-app-more}
 use Rattle.validity.proofs.Growing.{var-more, ambient-more, counted}
 use Rattle.validity.proofs.Replacing.{flags-valid, links-valid, pairs-valid, impositions-valid, func-apps-valid, pred-apps-valid}
 use Rattle.validity.proofs.Replacing.{vars-valid, ambients-valid}
 use Rattle.validity.proofs.Signatures.{empty-sig, empty-valid, type-valid, pred-valid, func-valid, model-valid, mor-app-valid}
-
--- one entry placed in a table that has room for it, or has it
-table-place : {A : Type 0} {P : A → Type 0} {cmp : A → A → Ordering} {limit : ℕ} → Ordered cmp → (x : A) (l : List A) → P x → Table P cmp limit l
-    → (present cmp x l ≡ false → length l < limit) → Table P cmp limit (placed cmp x l)
-table-place {A} {P} {cmp} {limit} o x l p t room = record {
-  each = placed-all cmp x P l p (t .each);
-  sorted = placed-sorted o x l (t .sorted);
-  most = elim (test (present cmp x l)) [
-    | inl e ↦ rw (placed-present cmp x l e) (t .most)
-    | inr e ↦ omega (arith, placed-absent cmp x l e, room e)
-  ];
-}
 
 -- one entry placed in a table whose keys bound the number of its entries
 table-key : {A : Type 0} {P : A → Type 0} {cmp : A → A → Ordering} {limit : ℕ} → Ordered cmp → (key : A → ℕ)
@@ -90,6 +80,7 @@ ambient-less x y e = order-less (x .typ) (y .typ) e
 record ValidEffect (g : Sig) (t : Structure) : Type 0 where
   structure : ValidStructure (countsOf g t) t
   unreserved : All (Unreserved g) (t .func-apps)
+  well-applied : All (WellApplied g) (t .func-apps)
   of-models : All (OfModel g) (t .ambients)
 
 leaves-valid : (g : Sig) (t : Structure) → ValidSig g → ValidEffect g t → (a : Answer) → Valid g (leaves true a t)
@@ -98,13 +89,14 @@ leaves-valid g t sig e a = record {
   sig = sig;
   structure = flags-valid (countsOf g t) t (e .structure) true a;
   unreserved = e .unreserved;
+  well-applied = e .well-applied;
   of-models = e .of-models;
   unstarted = λ q. no-test refl q;
 }
 
 -- what is valid with its flags is so without
 effect-of : {g : Sig} {t : Structure} → Valid g t → ValidEffect g t
-effect-of v = record { structure = v .structure; unreserved = v .unreserved; of-models = v .of-models }
+effect-of v = record { structure = v .structure; unreserved = v .unreserved; well-applied = v .well-applied; of-models = v .of-models }
 
 module _ (g : Sig) (s : Structure) (v : Valid g s) where
   abbrev c : Counts
@@ -114,8 +106,9 @@ module _ (g : Sig) (s : Structure) (v : Valid g s) where
   vs = v .structure
 
   -- an effect that adds no element
-  keeps : (t : Structure) → ValidStructure c t → All (Unreserved g) (t .func-apps) → All (OfModel g) (t .ambients) → ValidEffect g t
-  keeps t h a m = record { structure = counted g (length (s .links)) t h; unreserved = a; of-models = m }
+  keeps : (t : Structure) → ValidStructure c t → All (Unreserved g) (t .func-apps) → All (WellApplied g) (t .func-apps) → All (OfModel g) (t .ambients)
+      → ValidEffect g t
+  keeps t h a b m = record { structure = counted g (length (s .links)) t h; unreserved = a; well-applied = b; of-models = m }
 
   -- Kind 6.
 
@@ -148,25 +141,20 @@ module _ (g : Sig) (s : Structure) (v : Valid g s) where
     structure =
         counted g (suc (length (s .links))) (withEl mark s) (unfold withEl in added-valid mark (leb-false maxEls (length (s .links)) (clear .0)));
     unreserved = v .unreserved;
+    well-applied = v .well-applied;
     of-models = v .of-models;
   }
 
   -- Kind 7.
 
-  -- a find of an element
-  shorter : (ks : List ℕ) (e : ℕ) → Formed ks → length ks ≡ length (s .links) → ((x : ℕ) → rootOf ks x ≡ rootOf (s .links) x) → e < length (s .links)
-      → Formed (shortOf ks e) × ((length (shortOf ks e) ≡ length (s .links)) × ((x : ℕ) → rootOf (shortOf ks e) x ≡ rootOf (s .links) x))
-  shorter ks e f l r h = (short-formed ks e f, (short-length ks e ∙ l, λ x. short-root ks e (omega arith) f x ∙ r x))
-
   equated-valid : (a b : ℕ) → a < length (s .links) → b < length (s .links) → length (s .pairs) < maxPairs
       → ValidStructure c (withEquality (equate (s .links) (s .pairs) a b) s)
   unfolding equate withEquality
   equated-valid a b la lb room =
-      let one = shorter (s .links) a (vs .links) refl (λ x. refl) la in
-      let two = shorter (shortOf (s .links) a) b (one .0) (one .1 .0) (one .1 .1) lb in
+      let r = equate-relinked (s .links) (s .pairs) a b (vs .links) la lb in
       let ps : List Pair = pair a b ∷ s .pairs in
       let q = pairs-valid c s vs ps (record { each = (record { lhs = la; rhs = lb }, vs .pairs .each); most = room }) in
-      links-valid c (with-pairs ps s) q (shortOf (shortOf (s .links) a) b) (two .0) (two .1 .0) (two .1 .1)
+      links-valid c (with-pairs ps s) q (shortOf (shortOf (s .links) a) b) (r .formed) (r .long) (r .roots)
 
   equality-valid : (a b : ℕ) → NoneApplies (equalityCauses s a b) → ValidEffect g (withEquality (equate (s .links) (s .pairs) a b) s)
   unfolding equalityCauses withEquality
@@ -174,19 +162,19 @@ module _ (g : Sig) (s : Structure) (v : Valid g s) where
       let d = not-false (isEl s a && isEl s b) (clear .0) in
       keeps _ (equated-valid a b (ltb-true a (length (s .links)) (and-first (isEl s a) (isEl s b) d))
       (ltb-true b (length (s .links)) (and-second (isEl s a) (isEl s b) d)) (leb-false maxPairs (length (s .pairs)) (clear .1 .0)))
-      (v .unreserved) (v .of-models)
+      (v .unreserved) (v .well-applied) (v .of-models)
 
   -- Kind 8.
 
   imposed-valid : (f : Fact) → FactValid c f → (queued : Bool) → (not queued && leb maxImpositions (length (s .impositions))) ≡ false
       → ValidEffect g (withImposition queued (canonicalFact (s .links) f) s)
   unfolding withImposition
-  imposed-valid f new true t = keeps s vs (v .unreserved) (v .of-models)
+  imposed-valid f new true t = keeps s vs (v .unreserved) (v .well-applied) (v .of-models)
   imposed-valid f new false t =
       let entry = canonicalFact (s .links) f in
       keeps _ (impositions-valid c s vs (s .impositions ++ (entry ∷ []))
       (queue-push (λ x k. k) maxImpositions (s .impositions) entry (vs .impositions) (leb-false maxImpositions (length (s .impositions)) t)
-      (canonical-valid c (s .links) f new))) (v .unreserved) (v .of-models)
+      (canonical-valid c (s .links) f new))) (v .unreserved) (v .well-applied) (v .of-models)
 
   imposition-valid : (f : Fact) → NoneApplies (impositionCauses g s f)
       → ValidEffect g (withImposition (isImposed (canonicalFact (s .links) f) (s .impositions)) (canonicalFact (s .links) f) s)
@@ -204,15 +192,16 @@ module _ (g : Sig) (s : Structure) (v : Valid g s) where
 
   -- Kind 9.
 
-  module _ (x : FuncApp) (new : FuncAppValid c x) (free : Unreserved g x) where
+  module _ (x : FuncApp) (new : Admitted g c x) where
     applied-valid : (o : Option FuncApp) → lookupOf compareFuncApp x (s .func-apps) ≡ o
         → applyAt o x (s .links) (s .pairs) (s .func-apps) .full ≡ false
         → ValidEffect g (withApplied (applyAt o x (s .links) (s .pairs) (s .func-apps)) s)
     unfolding applyAt withApplied
     applied-valid none q t =
         keeps _ (func-apps-valid c s vs (placed compareFuncApp x (s .func-apps))
-        (table-place func-app-ordered x (s .func-apps) new (vs .func-apps) (λ e. leb-false maxFuncApps (length (s .func-apps)) t)))
-        (placed-all compareFuncApp x (Unreserved g) (s .func-apps) free (v .unreserved)) (v .of-models)
+        (table-place func-app-ordered x (s .func-apps) (new .valid) (vs .func-apps) (λ e. leb-false maxFuncApps (length (s .func-apps)) t)))
+        (placed-all compareFuncApp x (Unreserved g) (s .func-apps) (new .unreserved) (v .unreserved))
+        (placed-all compareFuncApp x (WellApplied g) (s .func-apps) (new .well-applied) (v .well-applied)) (v .of-models)
     applied-valid (some y) q t = go (eqb (y .result) (x .result)) t
       where
         old : FuncAppValid c y
@@ -226,16 +215,11 @@ module _ (g : Sig) (s : Structure) (v : Valid g s) where
 
         go : (b : Bool) → (elim b as (λ _. Applied) [ true ↦ same | false ↦ other ]) .full ≡ false
             → ValidEffect g (withApplied (elim b as (λ _. Applied) [ true ↦ same | false ↦ other ]) s)
-        go true t = keeps s vs (v .unreserved) (v .of-models)
+        go true t = keeps s vs (v .unreserved) (v .well-applied) (v .of-models)
         go false t =
             (unfold appliedEqual withEquality in
-            keeps _ (equated-valid (y .result) (x .result) (old .result) (new .result) (leb-false maxPairs (length (s .pairs)) t))
-            (v .unreserved) (v .of-models))
-
-  -- roots are taken of its parents, arguments and result, and its function stays
-  canonical-unreserved : (x : FuncApp) → Unreserved g x → Unreserved g (canonicalFuncApp (s .links) x)
-  unfolding canonicalFuncApp
-  canonical-unreserved x h = h
+            keeps _ (equated-valid (y .result) (x .result) (old .result) (new .valid .result) (leb-false maxPairs (length (s .pairs)) t))
+            (v .unreserved) (v .well-applied) (v .of-models))
 
   application-valid : (x : FuncApp) → NoneApplies (applicationCauses g s x) → ValidEffect g (withApplied (appliedTo s x) s)
   unfolding applicationCauses insertFuncAppOrEquate
@@ -255,7 +239,12 @@ module _ (g : Sig) (s : Structure) (v : Valid g s) where
         result = ltb-true (x .result) (length (s .links)) (and-second (areEls s (x .args)) results f);
       } in
       let y = canonicalFuncApp (s .links) x in
-      applied-valid y (canonical-entry c (s .links) x new .valid) (canonical-unreserved x (clear .1 .1 .0)) _ refl (clear .1 .1 .1 .0)
+      let entry : Admitted g c y = record {
+        valid = canonical-entry c (s .links) x new .valid;
+        unreserved = canonical-unreserved g (s .links) x (clear .1 .1 .0);
+        well-applied = canonical-well-applied g (s .links) x (clear .1 .1 .1 .0);
+      } in
+      applied-valid y entry _ refl (clear .1 .1 .1 .1 .0)
 
   -- Kind 10.
 
@@ -275,7 +264,7 @@ module _ (g : Sig) (s : Structure) (v : Valid g s) where
       let full = leb maxPredApps (length (s .pred-apps)) in
       keeps _ (pred-apps-valid c s vs (placed comparePredApp x (s .pred-apps)) (table-place pred-app-ordered x (s .pred-apps) new (vs .pred-apps)
       (λ e. leb-false maxPredApps (length (s .pred-apps)) (room-if (present comparePredApp x (s .pred-apps)) full (clear .1 .1 .0) e))))
-      (v .unreserved) (v .of-models)
+      (v .unreserved) (v .well-applied) (v .of-models)
 
   -- Kinds 11 and 12: the keys bound the number of entries.
 
@@ -287,7 +276,7 @@ module _ (g : Sig) (s : Structure) (v : Valid g s) where
         el = ltb-true (x .el) (length (s .links)) (not-false (isEl s (x .el)) (clear .1 .0));
       } in
       keeps _ (vars-valid c s vs (placed compareVar x (s .vars))
-      (table-key var-ordered (λ (y : Var). y .key) var-less (λ y k. k .key) x (s .vars) new (vs .vars))) (v .unreserved) (v .of-models)
+      (table-key var-ordered (λ (y : Var). y .key) var-less (λ y k. k .key) x (s .vars) new (vs .vars))) (v .unreserved) (v .well-applied) (v .of-models)
 
   ambient-valid : (x : Ambient) → NoneApplies (ambientCauses g s x) → ValidEffect g (withAmbient x s)
   unfolding ambientCauses withAmbient
@@ -298,7 +287,7 @@ module _ (g : Sig) (s : Structure) (v : Valid g s) where
         el = ltb-true (x .el) (length (s .links)) (and-second (isType g (x .typ)) (isEl s (x .el)) d);
       } in
       keeps _ (ambients-valid c s vs (placed compareAmbient x (s .ambients))
-      (table-key ambient-ordered (λ (y : Ambient). y .typ) ambient-less (λ y k. k .typ) x (s .ambients) new (vs .ambients))) (v .unreserved)
+      (table-key ambient-ordered (λ (y : Ambient). y .typ) ambient-less (λ y k. k .typ) x (s .ambients) new (vs .ambients))) (v .unreserved) (v .well-applied)
       (placed-all compareAmbient x (OfModel g) (s .ambients) (not-false (isModel g (x .typ)) (clear .1 .0)) (v .of-models))
 
   -- A find.
@@ -307,12 +296,13 @@ module _ (g : Sig) (s : Structure) (v : Valid g s) where
   unfolding findCauses empty
   find-valid e clear =
       let there = leb-false (length (s .links)) e (clear .0) in
-      let r = shorter (s .links) e (vs .links) refl (λ x. refl) there in
+      let r = short-relinked (s .links) e (vs .links) there in
       let t = with-links (shortOf (s .links) e) s in
       record {
         sig = v .sig;
-        structure = counted g (length (s .links)) t (links-valid c s vs (shortOf (s .links) e) (r .0) (r .1 .0) (r .1 .1));
+        structure = counted g (length (s .links)) t (links-valid c s vs (shortOf (s .links) e) (r .formed) (r .long) (r .roots));
         unreserved = v .unreserved;
+        well-applied = v .well-applied;
         of-models = v .of-models;
         -- an empty structure has no element to find
         unstarted = λ q. absurd (omega (arith, there, ap (λ (z : Structure). length (z .links)) (v .unstarted q)));

@@ -5,7 +5,7 @@ use mathlib.Core.Logic.{_⊎_, inl, inr}
 use mathlib.Core.Bool.{Bool, true, false, _&&_}
 use mathlib.Core.List.{List, [], map, List·Memᴰ}
 use mathlib.Core.Option.{Option, none, some}
-use Prim.Native.Nat.{ℕ, _+_}
+use Prim.Native.Nat.{ℕ, _+_, _≤_}
 use native.Mathlib.Omega.{arith}
 use lib.ListN.{length, length-map}
 use Rattle.ids.specs.Answers.{Answered, Outcome, outcome, accepted, refused, refusing, accepting}
@@ -14,26 +14,25 @@ use Rattle.ids.proofs.Judging.{decided-refuses, decided-accepts, decided-by}
 use Rattle.ids.proofs.Sorted.{All, all-map, all-image, rewrite-all, rewrite-sorted, rewrite-length, sorted-image}
 use Rattle.unification.proofs.Laws.{root-le}
 use Rattle.signature.specs.Model.{Sig}
-use Rattle.semantics.specs.Structure.{Fact, PredApp, Var, Structure, compareFact, comparePredApp, compareVar, compareFuncApp, maxFuncApps}
+use Rattle.semantics.specs.Structure.{Fact, PredApp, Var, Structure, compareFact, comparePredApp, compareVar, compareFuncApp, maxFuncApps, maxPairs}
 use Rattle.semantics.specs.Structure.{canonicalFact, canonicalPredApp, canonicalVar, empty}
 use Rattle.semantics.specs.Types.{Core}
-use Rattle.semantics.specs.Close.{Turn, CloseRun, Closed, round, rounds, roundsFrom, isNone, fuel, coreAtStart, canonicaliseRefs, withCore, imposedAfter, goesOn}
+use Rattle.semantics.specs.Close.{Turn, CloseRun, Closed, round, rounds, roundsFrom, isNone, fuel, coreAtStart, canonicaliseRefs, withCore, imposedAfter}
 use Rattle.semantics.specs.Close.{closeRun, closeCauses, reportOf, afterClose, closeBy, close}
 use Rattle.semantics.specs.Valid.{Counts, countsOf, FactValid, PredAppValid, VarValid, FuncAppValid, OnRoot, Queue, Table, ValidStructure, Unreserved}
-use Rattle.semantics.specs.Valid.{Valid}
+use Rattle.semantics.specs.Valid.{WellApplied, Valid}
 use Rattle.semantics.proofs.Orders.{fact-ordered, pred-app-ordered}
 use Rattle.semantics.proofs.Counts.{roots}
 use Rattle.semantics.proofs.Computes.{everything}
 use Rattle.semantics.specs.Calls as calls
 use Rattle.semantics.specs.Calls.{Machine, Step, closed, refusal, step}
 use Rattle.semantics.proofs.Judged.{close-first, closedAnswer, close-steps}
-use Rattle.semantics.proofs.Queues.{Room}
-use Rattle.semantics.proofs.Pairs.{Imposes, RoundFits, rounds-fit, impositions-fit}
+use Rattle.semantics.proofs.Pairs.{Imposes, imposes, RoundFits, rounds-fit}
 use Rattle.validity.specs.Numbers.{closeNumbers, MayMeet}
-use Rattle.validity.proofs.Drain.{ValidCore}
+use Rattle.validity.proofs.Drain.{ValidCore, Advances}
 use Rattle.validity.proofs.Imposing.{Imposed, imposeAll-advances, roots-listed, canonical-valid, canonical-rooted}
-use Rattle.validity.proofs.Turns.{Begins, AfterRound}
-use Rattle.validity.proofs.Fuel.{LastRoundOf, Reached, more-fuel, rounds-end, rounds-after}
+use Rattle.validity.proofs.Turns.{Begins, AfterRound, Within, round-within}
+use Rattle.validity.proofs.Fuel.{LastRoundOf, more-fuel, rounds-end, rounds-begin, rounds-advance}
 use Rattle.validity.proofs.Growing.{counted}
 
 pub core-valid : (c : Counts) (s : Structure) → ValidStructure c s → ValidCore c (coreAtStart s)
@@ -44,7 +43,7 @@ core-valid c s v = record {
   marks = v .marks;
   facts = v .facts;
   rooted = v .facts-rooted;
-  pairs = v .pairs;
+  pairs = v .pairs .each;
   met = tt;
 }
 
@@ -120,7 +119,13 @@ module _ (g : Sig) (s : Structure) (v : Valid g s) where
   -- The rounds.
 
   begins : Begins g c (coreAtStart s) (s .func-apps)
-  begins = record { valid = core-valid c s vs; apps = vs .func-apps; unreserved = v .unreserved }
+  begins = record {
+    valid = core-valid c s vs;
+    most = (unfold coreAtStart in vs .pairs .most);
+    apps = vs .func-apps;
+    unreserved = v .unreserved;
+    well-applied = v .well-applied;
+  }
 
   pub close-fuel : (j : ℕ)
       → roundsFrom (fuel + j) g (s .pred-apps) (round g (s .pred-apps) (s .func-apps) (coreAtStart s))
@@ -133,20 +138,28 @@ module _ (g : Sig) (s : Structure) (v : Valid g s) where
   close-ends =
       rounds-end g (v .sig) (c .els) (s .pred-apps) (vs .pred-apps .each) (vs .els-most) (coreAtStart s) (s .func-apps) begins
 
+  -- what the last round began with is valid, and so is what it left
+  pub close-begins : Begins g c (close-ends .before .1) (close-ends .before .0)
+  unfolding close-ends
+  close-begins =
+      rounds-begin g (v .sig) (c .els) (s .pred-apps) (vs .pred-apps .each) (vs .els-most) (coreAtStart s) (s .func-apps) begins
+
+  pub close-within : Within g c (close-ends .before .1) (close-ends .before .0) (close-ends .turn)
+  close-within =
+      subst (Within g c (close-ends .before .1) (close-ends .before .0)) (sym (close-ends .is))
+      (round-within g (v .sig) (c .els) (s .pred-apps) (vs .pred-apps .each) (close-ends .before .1) (close-ends .before .0) close-begins)
+
   last : Turn
   last = close-ends .turn
 
-  last-reached : Reached g c (coreAtStart s) last
+  last-advances : Advances c (coreAtStart s) (last .core)
   unfolding last close-ends
-  last-reached =
-      rounds-after g (v .sig) (c .els) (s .pred-apps) (vs .pred-apps .each) (vs .els-most) (coreAtStart s) (s .func-apps) begins
+  last-advances =
+      rounds-advance g (v .sig) (c .els) (s .pred-apps) (vs .pred-apps .each) (vs .els-most) (coreAtStart s) (s .func-apps) begins
 
   last-after : AfterRound g c last
-  last-after = last-reached .after
-
-  last-ends : goesOn last ≡ false
   unfolding last
-  last-ends = close-ends .ends
+  last-after = close-within .after
 
   -- the whole run: the rounds, and what the impositions leave
   ran : CloseRun
@@ -164,17 +177,33 @@ module _ (g : Sig) (s : Structure) (v : Valid g s) where
   unfolding ran closeRun imposedAfter
   to-end =
       imposeAll-advances c (s .impositions) (ran .rounds .core) (vs .impositions .each) (subst (ValidCore c) (sym ran-core) (last-after .begins .valid))
-      (subst Room (sym ran-core) (last-after .room))
 
-  -- no number met: the last round did not work, so that no pair waits
+  -- a number that the rounds met is met to the end
+  pub rounds-met : closeRun g s .core .met ≡ none → closeRun g s .rounds .core .met ≡ none
+  unfolding ran
+  rounds-met q = to-end .advances .met q
+
+  -- no number met in the rounds: the last one did not work, so that no pair waits
+  pub close-idle : closeRun g s .rounds .core .met ≡ none → close-ends .turn .worked ≡ false
+  unfolding ran last
+  close-idle q = idle-if (last .worked) (last .core .met) (sym (ap (λ (w : Core). w .met) ran-core) ∙ q) (close-ends .ends)
+
+  rounds-empty : ran .rounds .core .met ≡ none → ran .rounds .core .pairs ≡ []
+  unfolding ran last
+  rounds-empty q = ap (λ (w : Core). w .pairs) ran-core ∙ last-after .idle (close-idle q)
+
   end-empty : ran .core .met ≡ none → ran .core .pairs ≡ []
   end-empty q =
-      let m : last .core .met ≡ none = sym (ap (λ (w : Core). w .met) ran-core) ∙ to-end .advances .met q in
-      let p : ran .rounds .core .pairs ≡ [] = ap (λ (w : Core). w .pairs) ran-core ∙ last-after .idle (idle m) in
+      let p = rounds-empty (to-end .advances .met q) in
       elim (to-end .place) [ inl z ↦ z .1 ∙ p | inr z ↦ z .0 ]
-    where
-      idle : last .core .met ≡ none → last .worked ≡ false
-      idle m = idle-if (last .worked) (last .core .met) m last-ends
+
+  end-most : length (ran .core .pairs) ≤ maxPairs
+  end-most =
+      let few = ap (λ (w : Core). length (w .pairs)) ran-core in
+      elim (to-end .place) [
+        | inl z ↦ omega (arith, ap length (z .1), few, last-after .begins .most)
+        | inr z ↦ omega (arith, ap length (z .0))
+      ]
 
   after-valid : ValidStructure c (afterClose ran s)
   unfolding afterClose canonicaliseRefs withCore
@@ -192,7 +221,7 @@ module _ (g : Sig) (s : Structure) (v : Valid g s) where
         pred-apps = preds-table c ls _ (s .pred-apps) (vs .pred-apps);
         vars = vars-table c ls _ (s .vars) (vs .vars);
         ambients = vs .ambients;
-        pairs = w .pairs;
+        pairs = record { each = w .pairs; most = end-most };
         impositions = impositions-queue c ls _ (s .impositions) (vs .impositions);
       }
 
@@ -203,6 +232,7 @@ module _ (g : Sig) (s : Structure) (v : Valid g s) where
     sig = v .sig;
     structure = counted g (c .els) (afterClose ran s) after-valid;
     unreserved = (unfold afterClose canonicaliseRefs withCore in subst (All (Unreserved g)) (sym ran-apps) (last-after .begins .unreserved));
+    well-applied = (unfold afterClose canonicaliseRefs withCore in subst (All (WellApplied g)) (sym ran-apps) (last-after .begins .well-applied));
     of-models = (unfold afterClose canonicaliseRefs withCore in v .of-models);
     unstarted = λ q. close-nothing g s (v .unstarted (unfold afterClose canonicaliseRefs withCore in q));
   }
@@ -219,7 +249,7 @@ module _ (g : Sig) (s : Structure) (v : Valid g s) where
   pub close-roots : roots (afterClose (closeRun g s) s .links) + reportOf (closeRun g s) .merges ≡ roots (s .links)
   unfolding ran afterClose canonicaliseRefs withCore reportOf coreAtStart
   close-roots =
-      let rounds-roots = ap (λ (w : Core). roots (w .links) + w .merges) ran-core ∙ last-reached .advances .sum in
+      let rounds-roots = ap (λ (w : Core). roots (w .links) + w .merges) ran-core ∙ last-advances .sum in
       omega (arith, to-end .advances .sum, rounds-roots)
 
   -- one of the numbers that refuse a close, "structure before the close"
@@ -274,10 +304,15 @@ module _ (g : Sig) (s : Structure) (v : Valid g s) where
   pub close-valid : Valid g (close g s .after)
   close-valid = by-close (Valid g) v after-close
 
-  -- at every moment of the close at most `maxPairs` pairs wait: in each round, and while the impositions are imposed, also those of a close
-  -- that 11 refuses
-  pub close-fits : ((k : ℕ) → RoundFits g s (vs .func-apps .most) (vs .pairs .most) k) × Imposes (rounds g (s .pred-apps) (s .func-apps) (coreAtStart s) .core)
-  close-fits = (rounds-fit g s (vs .func-apps .most) (vs .pairs .most), impositions-fit g s (vs .func-apps .most) (vs .pairs .most))
+  -- at every moment of the close at most `maxPairs` pairs wait: in each round, and, where the rounds met no number, while the impositions are imposed,
+  -- also those of a close that 11 refuses then
+  pub close-fits : ((k : ℕ) → RoundFits g s (vs .func-apps .most) (vs .pairs .most) k)
+      × (closeRun g s .rounds .core .met ≡ none → Imposes (closeRun g s .rounds .core))
+  unfolding ran
+  close-fits = (
+    rounds-fit g s (vs .func-apps .most) (vs .pairs .most),
+    λ q. imposes (ran .rounds .core) (omega (arith, ap length (rounds-empty q))),
+  )
 
 -- The call: refused with one of those numbers, and everything as it was, or accepted.
 pub close-step-answers : (m : Machine) → Valid (m .sig) (m .structure)

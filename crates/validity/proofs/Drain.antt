@@ -1,25 +1,26 @@
 -- What merges and drains keep of a valid structure, and what they lower.
 use mathlib.Core.Path.{_≡_, refl, sym, ap, subst, _∙_}
 use mathlib.Core.Logic.{_≢_, _⊎_, inl, inr}
-use mathlib.Core.Bool.{Bool, true, false, _&&_}
-use mathlib.Core.List.{List, [], _∷_}
-use mathlib.Core.Option.{none}
+use mathlib.Core.Bool.{Bool, true, false, not, _&&_, _||_}
+use mathlib.Core.List.{List, [], _∷_, List·Memᴰ}
+use mathlib.Core.Option.{Option, none, some}
 use Prim.Native.Nat.{ℕ, _+_, _-_, _*_, _≤_, _<_, min, max}
 use native.Mathlib.Omega.{arith}
 use lib.ListN.{length, set, length-set}
 use lib.Dec.{eqb}
-use borrow.Author.Tests.{eqb-false, ne-eqb}
-use Rattle.ids.proofs.Sorted.{All, all-map, rewrite-all, rewrite-sorted, rewrite-length}
+use borrow.Author.Tests.{eqb-false, eq-eqb, ne-eqb}
+use Rattle.ids.proofs.Sorted.{All, all-map, rewrite-all, rewrite-sorted, rewrite-length, no-test}
 use Rattle.unification.specs.Roots.{rootOf, mergedOf, Formed}
-use Rattle.unification.proofs.Numbers.{less-or}
+use Rattle.unification.proofs.Numbers.{less-or, same-or}
 use Rattle.unification.proofs.Laws.{root-le, root-root, joined, joined-other, root-merged, merged-less}
-use Rattle.unification.proofs.Theorems.{merged-formed}
-use Rattle.semantics.specs.Structure.{Fact, Pair, compareFact, factAt, maxFacts, maxPairs}
-use Rattle.semantics.specs.Types.{Core, with-pairs, mergedMarks, marked, movedFacts, merge, joinRoots, join, drainPairs, drain}
-use Rattle.semantics.specs.Valid.{Counts, FactValid, PairValid, OnRoot, Queue, Table}
+use Rattle.unification.proofs.Theorems.{merged-formed, Same}
+use Rattle.semantics.specs.Structure.{Fact, Pair, compareFact, factAt, maxFacts, maxFuncApps}
+use Rattle.semantics.specs.Types.{Core, with-links, with-pairs, with-met, firstMet, mergedMarks, marked, movedFacts, merge, joinRoots, join, drainPairs}
+use Rattle.semantics.specs.Types.{drain}
+use Rattle.semantics.specs.Valid.{Counts, FactValid, PairValid, OnRoot, Table}
 use Rattle.semantics.proofs.Orders.{fact-ordered}
-use Rattle.semantics.proofs.Counts.{roots, roots-merged}
-use Rattle.validity.specs.Numbers.{MayMeet}
+use Rattle.semantics.proofs.Counts.{roots, roots-merged, roots-alike}
+use Rattle.validity.specs.Numbers.{closeNumbers, MayMeet}
 
 -- what is valid of the part of a structure that merges and imposed facts alter
 pub record ValidCore (c : Counts) (w : Core) : Type 0 where
@@ -28,21 +29,22 @@ pub record ValidCore (c : Counts) (w : Core) : Type 0 where
   pub marks : length (w .marks) ≡ c .els
   pub facts : Table (FactValid c) compareFact maxFacts (w .facts)
   pub rooted : All (OnRoot (w .links)) (w .facts)
-  pub pairs : Queue (PairValid c) maxPairs (w .pairs)
+  -- each pair that waits, however many do: imposing queues one more and drains them all at once
+  pub pairs : All (PairValid c) (w .pairs)
   pub met : MayMeet (w .met)
 
--- what a close can still do: merge two roots, each of which may free every fact, or add a fact
+-- what merges and insertions of facts can still do: a merge may free every fact and every key of the applications
 unfoldable pub remaining : Core → ℕ
-remaining w = (maxFacts + 2) * roots (w .links) + (maxFacts + 1 - length (w .facts))
+remaining w = (maxFacts + maxFuncApps + 2) * roots (w .links) + (maxFacts + 1 - length (w .facts))
 
--- from w to v: what v holds is valid, and each merge and each added fact lowers what remains to do by one at least
+-- from w to v: what v holds is valid, and each merge and each added fact lowers what remains to do, a merge by more than there are applications
 pub record Advances (c : Counts) (w v : Core) : Type 0 where
   pub valid : ValidCore c v
   pub merges : w .merges ≤ v .merges
   pub added : w .added ≤ v .added
   -- each merge makes one root fewer, marks or not
   pub sum : roots (v .links) + v .merges ≡ roots (w .links) + w .merges
-  pub lowered : remaining v + (v .merges + v .added) ≤ remaining w + (w .merges + w .added)
+  pub lowered : remaining v + ((maxFuncApps + 2) * v .merges + v .added) ≤ remaining w + ((maxFuncApps + 2) * w .merges + w .added)
   -- a number that was met stays
   pub met : v .met ≡ none → w .met ≡ none
 
@@ -59,17 +61,60 @@ advances-then c w v u a b = record {
   met = λ q. a .met (b .met q);
 }
 
--- other pairs
-pub requeued-advances : (c : Counts) (ps : List Pair) (w : Core) → ValidCore c w → Queue (PairValid c) maxPairs ps → Advances c w (with-pairs ps w)
+-- other links with the same roots, and other pairs
+pub relinked-advances : (c : Counts) (ls : List ℕ) (ps : List Pair) (w : Core) → ValidCore c w → Formed ls → length ls ≡ length (w .links)
+    → ((e : ℕ) → rootOf ls e ≡ rootOf (w .links) e) → All (PairValid c) ps → Advances c w (with-links ls (with-pairs ps w))
 unfolding remaining
-requeued-advances c ps w h q = record {
-  valid = record { els = h .els; links = h .links; marks = h .marks; facts = h .facts; rooted = h .rooted; pairs = q; met = h .met };
+relinked-advances c ls ps w h f l same q =
+    let alike = roots-alike (w .links) ls l same in
+    record {
+      valid = record {
+        els = l ∙ h .els;
+        links = f;
+        marks = h .marks;
+        facts = h .facts;
+        rooted = all-map (λ (x : Fact) (k : OnRoot (w .links) x). same (x .el) ∙ k) (w .facts) (h .rooted);
+        pairs = q;
+        met = h .met;
+      };
+      merges = omega arith;
+      added = omega arith;
+      sum = omega (arith, alike);
+      lowered = omega (arith, alike);
+      met = λ z. z;
+    }
+
+-- other pairs
+pub requeued-advances : (c : Counts) (ps : List Pair) (w : Core) → ValidCore c w → All (PairValid c) ps → Advances c w (with-pairs ps w)
+requeued-advances c ps w h q = relinked-advances c (w .links) ps w h (h .links) refl (λ e. refl) q
+
+-- a number that refuses a close is met
+pub met-advances : (c : Counts) (n : ℕ) → List·Memᴰ n closeNumbers → (w : Core) → ValidCore c w → Advances c w (with-met n w)
+unfolding remaining
+met-advances c n listed w h = record {
+  valid = record {
+    els = h .els;
+    links = h .links;
+    marks = h .marks;
+    facts = h .facts;
+    rooted = h .rooted;
+    pairs = h .pairs;
+    met = first (w .met) (h .met);
+  };
   merges = omega arith;
   added = omega arith;
   sum = refl;
   lowered = omega arith;
-  met = λ z. z;
+  met = back (w .met);
 }
+  where
+    first : (o : Option ℕ) → MayMeet o → MayMeet (firstMet n o)
+    first none m = listed
+    first (some k) m = m
+
+    back : (o : Option ℕ) → firstMet n o ≡ none → o ≡ none
+    back none q = refl
+    back (some k) q = q
 
 -- A merge.
 
@@ -159,29 +204,82 @@ module _ (c : Counts) where
 abbrev pub TwoRoots : List ℕ → Pair → Type 0
 TwoRoots ls p = rootOf ls (p .lhs) ≢ rootOf ls (p .rhs)
 
-join-merges : (p : Pair) (w : Core) → TwoRoots (w .links) p → w .merges < join p w .merges
+-- a pair of one class leaves all as it was, one of two roots is merged
+join-either : (p : Pair) (w : Core)
+    → (Same (w .links) (p .lhs) (p .rhs) × (join p w ≡ w)) ⊎ (TwoRoots (w .links) p × (w .merges < join p w .merges))
 unfolding join joinRoots merge
-join-merges p w h = rw (join, joinRoots, ne-eqb (rootOf (w .links) (p .lhs)) (rootOf (w .links) (p .rhs)) h) (omega arith)
+join-either p w = elim (same-or (rootOf (w .links) (p .lhs)) (rootOf (w .links) (p .rhs))) [
+  | inl e ↦ inl (e, rw (join, joinRoots, eq-eqb (rootOf (w .links) (p .lhs)) (rootOf (w .links) (p .rhs)) e))
+  | inr n ↦ inr (n, rw (join, joinRoots, ne-eqb (rootOf (w .links) (p .lhs)) (rootOf (w .links) (p .rhs)) n) (omega arith))
+]
 
 join-more : (p : Pair) (w : Core) → w .merges ≤ join p w .merges
-unfolding join joinRoots merge
-join-more p w = go (rootOf (w .links) (p .lhs)) (rootOf (w .links) (p .rhs)) (eqb (rootOf (w .links) (p .lhs)) (rootOf (w .links) (p .rhs)))
-  where
-    go : (a b : ℕ) (t : Bool) → w .merges ≤ (elim t as (λ _. Core) [ true ↦ w | false ↦ merge (min a b) (max a b) w ]) .merges
-    go a b true = omega arith
-    go a b false = omega arith
+join-more p w = elim (join-either p w) [ inl e ↦ omega (arith, ap (λ (v : Core). v .merges) (e .1)) | inr e ↦ omega (arith, e .1) ]
 
 drainPairs-more : (ps : List Pair) (w : Core) → w .merges ≤ drainPairs ps w .merges
 unfolding drainPairs
 drainPairs-more [] w = omega arith
 drainPairs-more (p ∷ ps) w = omega (arith, join-more p w, drainPairs-more ps (join p w))
 
--- where the pair that was queued last has two roots, they are merged
+-- whether some pair of a list has two roots
+unfoldable pub someApart : List ℕ → List Pair → Bool
+someApart ls [] = false
+someApart ls (p ∷ ps) = not (eqb (rootOf ls (p .lhs)) (rootOf ls (p .rhs))) || someApart ls ps
+
+-- the first of a list has one root, or two
+apart-rest : (ls : List ℕ) (p : Pair) (ps : List Pair) → Same ls (p .lhs) (p .rhs) → someApart ls (p ∷ ps) ≡ someApart ls ps
+unfolding someApart
+apart-rest ls p ps e = rw (eq-eqb (rootOf ls (p .lhs)) (rootOf ls (p .rhs)) e)
+
+pub apart-first : (ls : List ℕ) (p : Pair) (ps : List Pair) → TwoRoots ls p → someApart ls (p ∷ ps) ≡ true
+unfolding someApart
+apart-first ls p ps n = rw (ne-eqb (rootOf ls (p .lhs)) (rootOf ls (p .rhs)) n)
+
+-- where some pair has two roots they are drained with a merge
+drainPairs-apart : (ps : List Pair) (w : Core) → someApart (w .links) ps ≡ true → w .merges < drainPairs ps w .merges
+unfolding drainPairs
+drainPairs-apart [] w q = no-test q (unfold someApart in refl)
+drainPairs-apart (p ∷ ps) w q = elim (join-either p w) [
+  | inl e ↦
+      subst (λ (v : Core). w .merges < drainPairs ps v .merges) (sym (e .1)) (drainPairs-apart ps w (sym (apart-rest (w .links) p ps (e .0)) ∙ q))
+  | inr e ↦ omega (arith, e .1, drainPairs-more ps (join p w))
+]
+
+pub drain-apart : (w : Core) → someApart (w .links) (w .pairs) ≡ true → w .merges < drain w .merges
+unfolding drain
+drain-apart w q = drainPairs-apart (w .pairs) (with-pairs [] w) q
+
 pub drain-merges : (w : Core) (p : Pair) (ps : List Pair) → w .pairs ≡ p ∷ ps → TwoRoots (w .links) p → w .merges < drain w .merges
-unfolding drain drainPairs
-drain-merges w p ps q two =
-    subst (λ (l : List Pair). w .merges < drainPairs l (with-pairs [] w) .merges) (sym q)
-    (omega (arith, join-merges p (with-pairs [] w) two, drainPairs-more ps (join p (with-pairs [] w))))
+drain-merges w p ps q two = drain-apart w (ap (someApart (w .links)) q ∙ apart-first (w .links) p ps two)
+
+-- other links with the same roots, and one more pair
+
+pub apart-alike : (ls ks : List ℕ) → ((e : ℕ) → rootOf ks e ≡ rootOf ls e) → (ps : List Pair) → someApart ks ps ≡ someApart ls ps
+unfolding someApart
+apart-alike ls ks same [] = refl
+apart-alike ls ks same (p ∷ ps) = rw (same (p .lhs), same (p .rhs), apart-alike ls ks same ps)
+
+pub apart-more : (ls : List ℕ) (p : Pair) (ps : List Pair) → someApart ls ps ≡ true → someApart ls (p ∷ ps) ≡ true
+unfolding someApart
+apart-more ls p ps q = rw q (or-true (not (eqb (rootOf ls (p .lhs)) (rootOf ls (p .rhs)))))
+  where
+    or-true : (b : Bool) → (b || true) ≡ true
+    or-true true = refl
+    or-true false = refl
+
+-- either no link is altered, or there was a merge
+drainPairs-place : (ps : List Pair) (w : Core) → (drainPairs ps w .links ≡ w .links) ⊎ (w .merges < drainPairs ps w .merges)
+unfolding drainPairs
+drainPairs-place [] w = inl refl
+drainPairs-place (p ∷ ps) w = elim (join-either p w) [
+  | inl e ↦
+      subst (λ (v : Core). (drainPairs ps v .links ≡ w .links) ⊎ (w .merges < drainPairs ps v .merges)) (sym (e .1)) (drainPairs-place ps w)
+  | inr e ↦ inr (omega (arith, e .1, drainPairs-more ps (join p w)))
+]
+
+pub drain-place : (w : Core) → (drain w .links ≡ w .links) ⊎ (w .merges < drain w .merges)
+unfolding drain
+drain-place w = drainPairs-place (w .pairs) (with-pairs [] w)
 
 drainPairs-advances : (c : Counts) (ps : List Pair) (w : Core) → ValidCore c w → All (PairValid c) ps → Advances c w (drainPairs ps w)
 unfolding drainPairs
@@ -196,8 +294,8 @@ module _ (c : Counts) (w : Core) (h : ValidCore c w) where
 
   first : Advances c w start
   unfolding start
-  first = requeued-advances c [] w h (record { each = tt; most = omega arith })
+  first = requeued-advances c [] w h tt
 
   pub drain-advances : Advances c w (drain w)
   unfolding drain start
-  drain-advances = advances-then c w start (drainPairs (w .pairs) start) first (drainPairs-advances c (w .pairs) start (first .valid) (h .pairs .each))
+  drain-advances = advances-then c w start (drainPairs (w .pairs) start) first (drainPairs-advances c (w .pairs) start (first .valid) (h .pairs))

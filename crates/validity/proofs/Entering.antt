@@ -4,12 +4,15 @@ use mathlib.Core.Bool.{Bool, true, false}
 use mathlib.Core.List.{List, [], _∷_}
 use Prim.Native.Nat.{ℕ, _<_}
 use native.Mathlib.Omega.{arith}
+use lib.ListN.{length-map}
 use Rattle.ids.proofs.Sorted.{All, all-map, Sorted}
 use Rattle.unification.specs.Roots.{rootOf}
 use Rattle.unification.proofs.Laws.{root-le, root-root}
+use Rattle.signature.specs.Model.{Sig, ModelM}
 use Rattle.semantics.specs.Structure.{FuncApp, Pair, compareFuncApp, canonicalFuncApp}
 use Rattle.semantics.specs.Close.{Rewritten, enter, enterAll}
-use Rattle.semantics.specs.Valid.{Counts, FuncAppValid, PairValid}
+use Rattle.semantics.specs.Calls.{misapplies, isMisapplied}
+use Rattle.semantics.specs.Valid.{Counts, FuncAppValid, PairValid, Unreserved, WellApplied}
 use Rattle.semantics.proofs.Functionality.{enter-cases, enterAll-all, enterAll-sorted, enterAll-pairs}
 use Rattle.semantics.proofs.Queues.{fresh}
 use Rattle.validity.proofs.Drain.{TwoRoots}
@@ -68,3 +71,17 @@ module _ (c : Counts) (ls : List ℕ) where
         (all-map (λ x k. (omega (arith, root-le ls (x .result), k .result), root-root ls (x .result))) xs v) tt tt;
     report = enterAll-report ls xs fresh refl;
   }
+
+-- An application that is rewritten: its function stays, and it has as many arguments.
+
+pub canonical-unreserved : (g : Sig) (ls : List ℕ) (x : FuncApp) → Unreserved g x → Unreserved g (canonicalFuncApp ls x)
+unfolding canonicalFuncApp
+canonical-unreserved g ls x h = h
+
+misapplied-alike : (ls : List ℕ) (x : FuncApp) (ms : List ModelM) → isMisapplied (canonicalFuncApp ls x) ms ≡ isMisapplied x ms
+unfolding isMisapplied misapplies canonicalFuncApp
+misapplied-alike ls x [] = refl
+misapplied-alike ls x (m ∷ ms) = rw (length-map (x .args) (rootOf ls), misapplied-alike ls x ms)
+
+pub canonical-well-applied : (g : Sig) (ls : List ℕ) (x : FuncApp) → WellApplied g x → WellApplied g (canonicalFuncApp ls x)
+canonical-well-applied g ls x h = misapplied-alike ls x (g .models) ∙ h

@@ -1,4 +1,4 @@
--- The rounds of a close of a valid structure, marks or not, end with one in which no pass reports work or number 11 was met: fuel never ends them.
+-- The rounds of a close of a valid structure, marks or not, end with one in which no pass reports work or a number was met: fuel never ends them.
 use mathlib.Core.Path.{_≡_, refl, sym, ap, _∙_}
 use mathlib.Core.Logic.{inl, inr}
 use mathlib.Core.Bool.{true, false}
@@ -14,7 +14,8 @@ use Rattle.semantics.specs.Close.{Turn, Rounds, rounds, round, isNone, lastRoun
 use Rattle.semantics.specs.Valid.{Counts, countsAt, PredAppValid, ValidSig}
 use Rattle.semantics.proofs.Cases.{test, and-first}
 use Rattle.validity.proofs.Drain.{Advances, advances-then}
-use Rattle.validity.proofs.Turns.{Begins, AfterRound, Within, measure, measure-fuel, measure-falls, round-within}
+use Rattle.validity.proofs.Turns.{Begins, AfterRound, Within, round-within}
+use Rattle.validity.proofs.Lowering.{measure, measure-fuel, measure-falls}
 
 -- the last of the rounds of `roundsFrom`, with its report
 unfoldable pub lastFrom : ℕ → Sig → List PredApp → Turn → Turn
@@ -67,6 +68,7 @@ pub record Reached (g : Sig) (c : Counts) (w : Core) (t : Turn) : Type 0 where
 
 -- the last round of some, with its report: it is a round, and no round follows
 pub record LastRoundOf (g : Sig) (preds : List PredApp) (r : Rounds) : Type 0 where
+  -- the applications and the core that it begins with
   pub before : List FuncApp × Core
   pub turn : Turn
   pub is : turn ≡ round g preds (before .0) (before .1)
@@ -76,7 +78,7 @@ pub record LastRoundOf (g : Sig) (preds : List PredApp) (r : Rounds) : Type 0 wh
   pub ends : goesOn turn ≡ false
 
 module _ (g : Sig) (v : ValidSig g) (n : ℕ) (preds : List PredApp) (pv : All (PredAppValid (countsAt g n)) preds) where
-  within : (t : Turn) → AfterRound g (countsAt g n) t → Within g (countsAt g n) (t .core) (round g preds (t .apps) (t .core))
+  within : (t : Turn) → AfterRound g (countsAt g n) t → Within g (countsAt g n) (t .core) (t .apps) (round g preds (t .apps) (t .core))
   within t h = round-within g v n preds pv (t .core) (t .apps) (h .begins)
 
   on : (t : Turn) → AfterRound g (countsAt g n) t → AfterRound g (countsAt g n) (round g preds (t .apps) (t .core))
@@ -86,7 +88,7 @@ module _ (g : Sig) (v : ValidSig g) (n : ℕ) (preds : List PredApp) (pv : All (
       → goesOn (round g preds (t .apps) (t .core)) ≡ true → measure (round g preds (t .apps) (t .core)) < k
   less k t h l e =
       let u = round g preds (t .apps) (t .core) in
-      omega (arith, measure-falls g (countsAt g n) t u h (within t h) (and-first (u .worked) (isNone (u .core .met)) e))
+      omega (arith, measure-falls g (countsAt g n) t u (within t h) (and-first (u .worked) (isNone (u .core .met)) e))
 
   -- any fuel above the measure of a round will do
   pub rounds-enough : (k j : ℕ) (t : Turn) → AfterRound g (countsAt g n) t → (goesOn t ≡ true → measure t < k) → (goesOn t ≡ true → measure t < j)
@@ -129,20 +131,22 @@ module _ (g : Sig) (v : ValidSig g) (n : ℕ) (preds : List PredApp) (pv : All (
     | inr e ↦ rw (last-stop g preds (suc k) t e) h
   ]
 
-  -- it is a round
-  last-round : (k : ℕ) (t : Turn) → (b : List FuncApp × Core) × (t ≡ round g preds (b .0) (b .1))
-      → (b : List FuncApp × Core) × (lastFrom k g preds t ≡ round g preds (b .0) (b .1))
+  -- it is a round, of what a round may begin with
+  abbrev RoundOf : Turn → Type 0
+  RoundOf t = (b : List FuncApp × Core) × (t ≡ round g preds (b .0) (b .1)) × Begins g (countsAt g n) (b .1) (b .0)
+
+  last-round : (k : ℕ) (t : Turn) → AfterRound g (countsAt g n) t → RoundOf t → RoundOf (lastFrom k g preds t)
   unfolding next
-  last-round zero t r = (unfold lastFrom in r)
-  last-round (suc k) t r = elim (test (goesOn t)) [
-    | inl e ↦ rw (last-on g preds k t e) (last-round k (round g preds (t .apps) (t .core)) ((t .apps, t .core), refl))
+  last-round zero t h r = (unfold lastFrom in r)
+  last-round (suc k) t h r = elim (test (goesOn t)) [
+    | inl e ↦ rw (last-on g preds k t e) (last-round k (round g preds (t .apps) (t .core)) (on t h) ((t .apps, t .core), refl, h .begins))
     | inr e ↦ rw (last-stop g preds (suc k) t e) r
   ]
 
   -- The rounds of a close.
 
   module _ (few : n ≤ maxEls) (w : Core) (xs : List FuncApp) (b : Begins g (countsAt g n) w xs) where
-    first : Within g (countsAt g n) w (round g preds xs w)
+    first : Within g (countsAt g n) w xs (round g preds xs w)
     first = round-within g v n preds pv w xs b
 
     begin : AfterRound g (countsAt g n) (round g preds xs w)
@@ -154,22 +158,30 @@ module _ (g : Sig) (v : ValidSig g) (n : ℕ) (preds : List PredApp) (pv : All (
         let l = measure-fuel g (countsAt g n) (round g preds xs w) few begin in
         rounds-enough (fuel + j) fuel (round g preds xs w) begin (λ e. omega (arith, l)) (λ e. l)
 
+    last : RoundOf (lastFrom fuel g preds (round g preds xs w))
+    last = last-round fuel (round g preds xs w) begin ((xs, w), refl, b)
+
     -- the last round reports no work, or a number was met
     pub rounds-end : LastRoundOf g preds (rounds g preds xs w)
     unfolding rounds
     rounds-end =
         let t = round g preds xs w in
-        let l = last-round fuel t ((xs, w), refl) in
         let r = rounds-last g preds fuel t in
         record {
-          before = l .0;
+          before = last .0;
           turn = lastFrom fuel g preds t;
-          is = l .1;
+          is = last .1;
           core = r .0;
           apps = r .1;
           ends = last-ends fuel t begin (λ e. measure-fuel g (countsAt g n) t few begin);
         }
 
-    pub rounds-after : Reached g (countsAt g n) w (rounds-end .turn)
+    -- what it begins with is valid
+    pub rounds-begin : Begins g (countsAt g n) (rounds-end .before .1) (rounds-end .before .0)
     unfolding rounds-end
-    rounds-after = last-after w fuel (round g preds xs w) (record { after = begin; advances = first .advances })
+    rounds-begin = last .2
+
+    -- how far it is from where the first began
+    pub rounds-advance : Advances (countsAt g n) w (rounds-end .turn .core)
+    unfolding rounds-end
+    rounds-advance = last-after w fuel (round g preds xs w) (record { after = begin; advances = first .advances }) .advances

@@ -1,17 +1,21 @@
 -- What is valid stays so where more is declared.
-use mathlib.Core.Path.{sym, subst}
+use mathlib.Core.Path.{_≡_, sym, subst}
+use mathlib.Core.Logic.{inl, inr}
+use mathlib.Core.Bool.{false}
 use mathlib.Core.List.{List, [], _∷_, _++_}
 use Prim.Native.Nat.{ℕ, _≤_, _<_}
 use native.Mathlib.Omega.{arith}
 use lib.ListN.{length}
 use Rattle.ids.specs.declared.Ordering.{Ordering}
-use Rattle.ids.proofs.Sorted.{all-map, all-join}
+use Rattle.ids.specs.Table.{present, placed}
+use Rattle.ids.proofs.Sorted.{Ordered, all-map, all-join, placed-all, placed-sorted, placed-present, placed-absent}
 use Rattle.signature.specs.Model.{Sig, Kind, plain, model, enum, mor, TypeM, PredM, FuncM, ModelM, MorAppM}
 use Rattle.signature.specs.Calls.{functions}
 use Rattle.semantics.specs.Structure.{Fact, FuncApp, PredApp, Pair, Var, Ambient, Structure}
 use Rattle.semantics.specs.Valid.{Below, Listed, Queue, Table, KindDeclared, TypeValid, PredValid, FuncValid, ModelValid, MorAppValid}
 use Rattle.semantics.specs.Valid.{Counts, countsAt, countsOf, PairValid, FactValid, FuncAppValid, PredAppValid, VarValid, AmbientValid}
 use Rattle.semantics.specs.Valid.{ValidStructure}
+use Rattle.semantics.proofs.Cases.{test}
 use Rattle.semantics.proofs.Links.{length-push}
 
 -- Tables of which more is true.
@@ -29,6 +33,18 @@ module _ {A : Type 0} {P Q : A → Type 0} (f : (x : A) → P x → Q x) where
     each = all-join Q l (x ∷ []) (all-map f l (q .each)) (new, tt);
     most = omega (arith, length-push l x);
   }
+
+-- one entry placed in a table that has room for it, or has it
+pub table-place : {A : Type 0} {P : A → Type 0} {cmp : A → A → Ordering} {limit : ℕ} → Ordered cmp → (x : A) (l : List A) → P x → Table P cmp limit l
+    → (present cmp x l ≡ false → length l < limit) → Table P cmp limit (placed cmp x l)
+table-place {A} {P} {cmp} {limit} o x l p t room = record {
+  each = placed-all cmp x P l p (t .each);
+  sorted = placed-sorted o x l (t .sorted);
+  most = elim (test (present cmp x l)) [
+    | inl e ↦ rw (placed-present cmp x l e) (t .most)
+    | inr e ↦ omega (arith, placed-absent cmp x l e, room e)
+  ];
+}
 
 module _ {n m : ℕ} (k : n ≤ m) where
   pub below-more : (l : List ℕ) → Below n l → Below m l

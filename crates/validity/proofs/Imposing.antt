@@ -2,8 +2,7 @@
 use mathlib.Core.Path.{_≡_, refl, sym, _∙_}
 use mathlib.Core.Logic.{_⊎_, inl, inr}
 use mathlib.Core.Bool.{Bool, true, false, not, _&&_, _||_}
-use mathlib.Core.List.{List, [], _∷_, map, List·Memᴰ·head}
-use mathlib.Core.Option.{Option, none, some}
+use mathlib.Core.List.{List, [], _∷_, map, List·Memᴰ·head, List·Memᴰ·tail}
 use Prim.Native.Nat.{ℕ, _<_}
 use native.Mathlib.Omega.{arith}
 use lib.ListN.{length, length-map}
@@ -16,13 +15,13 @@ use Rattle.unification.specs.Roots.{rootOf}
 use Rattle.unification.proofs.Laws.{root-le, root-root}
 use Rattle.semantics.specs.Structure.{Fact, compareFact, canonicalFact, maxFacts, pair}
 use Rattle.semantics.specs.Types.{Core, with-pairs, with-added, with-met, marked, drain, factsAt, concreteTypesOf, refineRoots, refine, refineParents}
-use Rattle.semantics.specs.Types.{refineAll, insertFact, insertCanonical, impose, imposeAll, firstMet}
+use Rattle.semantics.specs.Types.{refineAll, insertFact, insertCanonical, impose, imposeAll}
 use Rattle.semantics.specs.Valid.{Counts, FactValid, OnRoot, Below, Listed}
 use Rattle.semantics.proofs.Orders.{fact-ordered}
 use Rattle.semantics.proofs.Cases.{and-first}
-use Rattle.semantics.proofs.Queues.{Room, still-room, drain-pairs, refine-queue, refineParents-queue, impose-queue}
-use Rattle.validity.specs.Numbers.{MayMeet}
-use Rattle.validity.proofs.Drain.{ValidCore, Advances, remaining, advances-none, advances-then, requeued-advances, drain-advances, drain-merges}
+use Rattle.semantics.proofs.Queues.{drain-pairs}
+use Rattle.validity.proofs.Drain.{ValidCore, Advances, remaining, advances-none, advances-then, requeued-advances, met-advances}
+use Rattle.validity.proofs.Drain.{drain-advances, drain-merges}
 
 -- Roots of what is valid.
 
@@ -86,23 +85,19 @@ module _ (c : Counts) where
   abbrev pub queued : ℕ → ℕ → Core → Core
   queued a b w = with-pairs (pair a b ∷ w .pairs) w
 
-  -- the queue that is drained at once has at most `maxPairs` pairs
-  pub queued-advances : (a b : ℕ) (w : Core) → a < c .els → b < c .els → ValidCore c w → Room w → Advances c w (queued a b w)
-  queued-advances a b w la lb h r = requeued-advances c (pair a b ∷ w .pairs) w h (record {
-    each = (record { lhs = la; rhs = lb }, h .pairs .each);
-    most = r;
-  })
+  pub queued-advances : (a b : ℕ) (w : Core) → a < c .els → b < c .els → ValidCore c w → Advances c w (queued a b w)
+  queued-advances a b w la lb h = requeued-advances c (pair a b ∷ w .pairs) w h (record { lhs = la; rhs = lb }, h .pairs)
 
   refineRoots-advances : (a b : ℕ) (w : Core) → a < c .els → b < c .els → rootOf (w .links) a ≡ a → rootOf (w .links) b ≡ b
-      → ValidCore c w → Room w → Imposed c w (refineRoots a b w)
+      → ValidCore c w → Imposed c w (refineRoots a b w)
   unfolding refineRoots
-  refineRoots-advances a b w la lb ra rb h r = go (not (eqb a b) && (marked (w .marks) a || marked (w .marks) b)) refl
+  refineRoots-advances a b w la lb ra rb h = go (not (eqb a b) && (marked (w .marks) a || marked (w .marks) b)) refl
     where
       go : (t : Bool) → (not (eqb a b) && (marked (w .marks) a || marked (w .marks) b)) ≡ t
           → Imposed c w (elim t [ true ↦ drain (queued a b w) | false ↦ w ])
       go false t = idle c w h
       go true t =
-          let q = queued-advances a b w la lb h r in
+          let q = queued-advances a b w la lb h in
           let n = eqb-false a b (not-true (eqb a b) (and-first (not (eqb a b)) (marked (w .marks) a || marked (w .marks) b) t)) in
           record {
             advances = advances-then c w (queued a b w) (drain (queued a b w)) q (drain-advances c (queued a b w) (q .valid));
@@ -112,62 +107,35 @@ module _ (c : Counts) where
             );
           }
 
-  refine-advances : (a b : ℕ) (w : Core) → a < c .els → b < c .els → ValidCore c w → Room w → Imposed c w (refine a b w)
+  refine-advances : (a b : ℕ) (w : Core) → a < c .els → b < c .els → ValidCore c w → Imposed c w (refine a b w)
   unfolding refine
-  refine-advances a b w la lb h r =
+  refine-advances a b w la lb h =
       refineRoots-advances (rootOf (w .links) a) (rootOf (w .links) b) w (omega (arith, root-le (w .links) a)) (omega (arith, root-le (w .links) b))
-      (root-root (w .links) a) (root-root (w .links) b) h r
+      (root-root (w .links) a) (root-root (w .links) b) h
 
-  refineParents-advances : (ps qs : List ℕ) (w : Core) → Below (c .els) ps → Below (c .els) qs → ValidCore c w → Room w → Imposed c w (refineParents ps qs w)
+  refineParents-advances : (ps qs : List ℕ) (w : Core) → Below (c .els) ps → Below (c .els) qs → ValidCore c w → Imposed c w (refineParents ps qs w)
   unfolding refineParents
-  refineParents-advances [] qs w lp lq h r = idle c w h
-  refineParents-advances (p ∷ ps) [] w lp lq h r = idle c w h
-  refineParents-advances (p ∷ ps) (q ∷ qs) w lp lq h r =
-      let a = refine-advances p q w (lp .0) (lq .0) h r in
+  refineParents-advances [] qs w lp lq h = idle c w h
+  refineParents-advances (p ∷ ps) [] w lp lq h = idle c w h
+  refineParents-advances (p ∷ ps) (q ∷ qs) w lp lq h =
+      let a = refine-advances p q w (lp .0) (lq .0) h in
       then c w (refine p q w) (refineParents ps qs (refine p q w)) a
-      (refineParents-advances ps qs (refine p q w) (lp .1) (lq .1) (a .advances .valid) (still-room w (refine p q w) (refine-queue p q w) r))
+      (refineParents-advances ps qs (refine p q w) (lp .1) (lq .1) (a .advances .valid))
 
-  refineAll-advances : (gs : List Fact) (f : Fact) (w : Core) → All (FactValid c) gs → FactValid c f → ValidCore c w → Room w → Imposed c w (refineAll gs f w)
+  refineAll-advances : (gs : List Fact) (f : Fact) (w : Core) → All (FactValid c) gs → FactValid c f → ValidCore c w → Imposed c w (refineAll gs f w)
   unfolding refineAll
-  refineAll-advances [] f w lg lf h r = idle c w h
-  refineAll-advances (g ∷ gs) f w lg lf h r = go (eqb (g .typ) (f .typ)) (λ v. refineAll-advances gs f v (lg .1) lf)
+  refineAll-advances [] f w lg lf h = idle c w h
+  refineAll-advances (g ∷ gs) f w lg lf h = go (eqb (g .typ) (f .typ)) (λ v. refineAll-advances gs f v (lg .1) lf)
     where
-      go : (t : Bool) → ((v : Core) → ValidCore c v → Room v → Imposed c v (refineAll gs f v))
+      go : (t : Bool) → ((v : Core) → ValidCore c v → Imposed c v (refineAll gs f v))
           → Imposed c w (refineAll gs f (elim t [ true ↦ refineParents (g .parents) (f .parents) w | false ↦ w ]))
       go true rest =
           let v = refineParents (g .parents) (f .parents) w in
-          let a = refineParents-advances (g .parents) (f .parents) w (lg .0 .parents .below) (lf .parents .below) h r in
-          then c w v (refineAll gs f v) a (rest v (a .advances .valid) (still-room w v (refineParents-queue (g .parents) (f .parents) w) r))
-      go false rest = rest w h r
+          let a = refineParents-advances (g .parents) (f .parents) w (lg .0 .parents .below) (lf .parents .below) h in
+          then c w v (refineAll gs f v) a (rest v (a .advances .valid))
+      go false rest = rest w h
 
   -- A fact is inserted.
-
-  with-met-only : (w : Core) → ValidCore c w → Advances c w (with-met tooManyFacts w)
-  unfolding remaining
-  with-met-only w h = record {
-    valid = record {
-      els = h .els;
-      links = h .links;
-      marks = h .marks;
-      facts = h .facts;
-      rooted = h .rooted;
-      pairs = h .pairs;
-      met = met-first (w .met) (h .met);
-    };
-    merges = omega arith;
-    added = omega arith;
-    sum = refl;
-    lowered = omega arith;
-    met = met-back (w .met);
-  }
-    where
-      met-first : (o : Option ℕ) → MayMeet o → MayMeet (firstMet tooManyFacts o)
-      met-first none m = List·Memᴰ·head refl
-      met-first (some n) m = m
-
-      met-back : (o : Option ℕ) → firstMet tooManyFacts o ≡ none → o ≡ none
-      met-back none q = refl
-      met-back (some m) q = q
 
   pub insertFact-advances : (f : Fact) (w : Core) → FactValid c f → OnRoot (w .links) f → ValidCore c w → Imposed c w (insertFact f w)
   unfolding insertFact remaining
@@ -202,24 +170,24 @@ module _ (c : Counts) where
             };
             place = inl (refl, refl);
           }
-      go false false p q = record { advances = with-met-only w h; place = inl (refl, refl) }
+      go false false p q = record { advances = met-advances c tooManyFacts (List·Memᴰ·tail (List·Memᴰ·head refl)) w h; place = inl (refl, refl) }
 
   insertCanonical-advances : (f : Fact) (w : Core) → FactValid c f → ValidCore c w → Imposed c w (insertCanonical f w)
   unfolding insertCanonical
   insertCanonical-advances f w v h =
       insertFact-advances (canonicalFact (w .links) f) w (canonical-valid c (w .links) f v) (canonical-rooted (w .links) f) h
 
-  pub impose-advances : (f : Fact) (w : Core) → FactValid c f → ValidCore c w → Room w → Imposed c w (impose f w)
+  pub impose-advances : (f : Fact) (w : Core) → FactValid c f → ValidCore c w → Imposed c w (impose f w)
   unfolding impose
-  impose-advances f w v h r =
+  impose-advances f w v h =
       let gs = concreteTypesOf (w .links) (w .facts) (f .el) in
-      let a = refineAll-advances gs f w (types-valid c (w .links) (w .facts) (f .el) (h .facts .each)) v h r in
+      let a = refineAll-advances gs f w (types-valid c (w .links) (w .facts) (f .el) (h .facts .each)) v h in
       then c w (refineAll gs f w) (insertCanonical f (refineAll gs f w)) a (insertCanonical-advances f (refineAll gs f w) v (a .advances .valid))
 
-  pub imposeAll-advances : (fs : List Fact) (w : Core) → All (FactValid c) fs → ValidCore c w → Room w → Imposed c w (imposeAll fs w)
+  pub imposeAll-advances : (fs : List Fact) (w : Core) → All (FactValid c) fs → ValidCore c w → Imposed c w (imposeAll fs w)
   unfolding imposeAll
-  imposeAll-advances [] w v h r = idle c w h
-  imposeAll-advances (f ∷ fs) w v h r =
-      let a = impose-advances f w (v .0) h r in
+  imposeAll-advances [] w v h = idle c w h
+  imposeAll-advances (f ∷ fs) w v h =
+      let a = impose-advances f w (v .0) h in
       then c w (impose f w) (imposeAll fs (impose f w)) a
-      (imposeAll-advances fs (impose f w) (v .1) (a .advances .valid) (still-room w (impose f w) (impose-queue f w) r))
+      (imposeAll-advances fs (impose f w) (v .1) (a .advances .valid))

@@ -2,7 +2,9 @@ pub mod Drain
 pub mod Imposing
 pub mod Entering
 pub mod Demands
+pub mod Operating
 pub mod Turns
+pub mod Lowering
 pub mod Fuel
 pub mod Closing
 pub mod Growing

@@ -1,35 +1,41 @@
--- "In our domain no application names a morphism application function or a model's id or comp": after every list of calls.
+-- "Number 7 remains for record 5 functions, and for id and comp where a record 5 stands", and 12 refuses "an id application without exactly one argument, or a
+-- comp without exactly two" (02, M-102): what is stored after every list of calls.
 use mathlib.Core.Path.{_≡_, refl, sym, ap, _∙_}
 use mathlib.Core.Logic.{_≢_, inl, inr}
-use mathlib.Core.Bool.{true, false, _||_}
+use mathlib.Core.Bool.{Bool, true, false, not, _&&_}
 use mathlib.Core.List.{List, [], _∷_, List·Memᴰ, List·Memᴰ·not-nil, List·Memᴰ·cases-cons}
 use Prim.Native.Nat.{ℕ}
-use lib.Dec.{eqb}
-use borrow.Author.Tests.{eqb-false}
+use lib.ListN.{length}
+use lib.Dec.{eqb, ltb}
+use borrow.Author.Tests.{eqb-true, eqb-false, eq-eqb, not-false}
 use Rattle.ids.proofs.Sorted.{all-at, no-test}
 use Rattle.signature.specs.Model.{Sig, Kind, plain, model, enum, mor, ModelM, MorAppM, typeAt}
 use Rattle.signature.specs.Calls.{kindIsModel, isModel, inMorApps}
 use Rattle.semantics.specs.Structure.{FuncApp, Ambient}
-use Rattle.semantics.specs.Calls.{isIdOrComp, isReserved, Call, start, afterCalls}
-use Rattle.semantics.specs.Valid.{Unreserved, OfModel}
-use Rattle.semantics.proofs.Cases.{or-first, or-second}
+use Rattle.semantics.specs.Calls.{isIdOrComp, isReserved, misapplies, isMisapplied, Call, start, afterCalls}
+use Rattle.semantics.specs.Valid.{Unreserved, WellApplied, OfModel}
+use Rattle.semantics.proofs.Cases.{and-fails, or-first, or-second}
+use Rattle.validity.proofs.Operating.{is-operation, no-mor-apps}
 use Rattle.validity.proofs.Calls.{calls-valid}
 
--- the function f is no id, no comp and no morphism application function of the signature
-pub record NotReserved (g : Sig) (f : ℕ) : Type 0 where
-  pub id : (m : ModelM) → List·Memᴰ m (g .models) → f ≢ m .id
-  pub comp : (m : ModelM) → List·Memᴰ m (g .models) → f ≢ m .comp
-  pub mor-app : (m : MorAppM) → List·Memᴰ m (g .mor-apps) → f ≢ m .func
+-- an application of no morphism application function; one of a model's id or comp only where there is no such function, and then of id with one
+-- argument and of comp with two
+pub record NotReserved (g : Sig) (x : FuncApp) : Type 0 where
+  pub mor-app : (m : MorAppM) → List·Memᴰ m (g .mor-apps) → x .func ≢ m .func
+  pub id : (m : ModelM) → List·Memᴰ m (g .models) → x .func ≡ m .id → (g .mor-apps ≡ []) × (length (x .args) ≡ 1)
+  pub comp : (m : ModelM) → List·Memᴰ m (g .models) → x .func ≡ m .comp → (g .mor-apps ≡ []) × (length (x .args) ≡ 2)
 
-not-id-or-comp : (f : ℕ) (ms : List ModelM) → isIdOrComp f ms ≡ false → (m : ModelM) → List·Memᴰ m ms → (f ≢ m .id) × (f ≢ m .comp)
-unfolding isIdOrComp
-not-id-or-comp f [] e m k = absurd (List·Memᴰ·not-nil k)
-not-id-or-comp f (n ∷ ns) e m k = elim (List·Memᴰ·cases-cons k) [
-  | inl q ↦
-      let here = or-first (eqb f (n .id) || eqb f (n .comp)) (isIdOrComp f ns) e in
-      rw q (eqb-false f (n .id) (or-first (eqb f (n .id)) (eqb f (n .comp)) here), eqb-false f (n .comp) (or-second (eqb f (n .id)) (eqb f (n .comp)) here))
-  | inr j ↦ not-id-or-comp f ns (or-second (eqb f (n .id) || eqb f (n .comp)) (isIdOrComp f ns) e) m j
+well-applied : (x : FuncApp) (ms : List ModelM) → isMisapplied x ms ≡ false → (m : ModelM) → List·Memᴰ m ms → misapplies m x ≡ false
+unfolding isMisapplied
+well-applied x [] e m k = absurd (List·Memᴰ·not-nil k)
+well-applied x (n ∷ ns) e m k = elim (List·Memᴰ·cases-cons k) [
+  | inl q ↦ rw q (or-first (misapplies n x) (isMisapplied x ns) e)
+  | inr j ↦ well-applied x ns (or-second (misapplies n x) (isMisapplied x ns) e) m j
 ]
+
+-- the test that an application of f has n arguments
+arity-if : (f h k n : ℕ) → f ≡ h → (eqb f h && not (eqb k n)) ≡ false → k ≡ n
+arity-if f h k n e t = eqb-true k n (not-false (eqb k n) (and-fails (eqb f h) (not (eqb k n)) (eq-eqb f h e) t))
 
 not-mor-app : (f : ℕ) (ms : List MorAppM) → inMorApps f ms ≡ false → (m : MorAppM) → List·Memᴰ m ms → f ≢ m .func
 unfolding inMorApps
@@ -39,22 +45,39 @@ not-mor-app f (n ∷ ns) e m k = elim (List·Memᴰ·cases-cons k) [
   | inr j ↦ not-mor-app f ns (or-second (eqb (n .func) f) (inMorApps f ns) e) m j
 ]
 
-pub not-reserved : (g : Sig) (f : ℕ) → isReserved g f ≡ false → NotReserved g f
-unfolding isReserved
-not-reserved g f e =
-    let models = not-id-or-comp f (g .models) (or-first (isIdOrComp f (g .models)) (inMorApps f (g .mor-apps)) e) in
+pub not-reserved : (g : Sig) (x : FuncApp) → isReserved g (x .func) ≡ false → isMisapplied x (g .models) ≡ false → NotReserved g x
+unfolding isReserved misapplies
+not-reserved g x r a =
+    let named = inMorApps (x .func) (g .mor-apps) in
+    let operation = isIdOrComp (x .func) (g .models) && ltb 0 (length (g .mor-apps)) in
     record {
-      id = λ m k. models m k .0;
-      comp = λ m k. models m k .1;
-      mor-app = not-mor-app f (g .mor-apps) (or-second (isIdOrComp f (g .models)) (inMorApps f (g .mor-apps)) e);
+      mor-app = not-mor-app (x .func) (g .mor-apps) (or-first named operation r);
+      id = λ m k e. (
+        free (m .id) e (is-operation (g .models) m k .0),
+        arity-if (x .func) (m .id) (length (x .args)) 1 e (or-first (ids m) (comps m) (well-applied x (g .models) a m k)),
+      );
+      comp = λ m k e. (
+        free (m .comp) e (is-operation (g .models) m k .1),
+        arity-if (x .func) (m .comp) (length (x .args)) 2 e (or-second (ids m) (comps m) (well-applied x (g .models) a m k)),
+      );
     }
+  where
+    free : (f : ℕ) → x .func ≡ f → isIdOrComp f (g .models) ≡ true → g .mor-apps ≡ []
+    free f e op = no-mor-apps g (x .func) (ap (λ (h : ℕ). isIdOrComp h (g .models)) e ∙ op) r
 
--- after any calls no stored application is of an id, a comp or a morphism application function of the signature
+    ids : ModelM → Bool
+    ids m = eqb (x .func) (m .id) && not (eqb (length (x .args)) 1)
+
+    comps : ModelM → Bool
+    comps m = eqb (x .func) (m .comp) && not (eqb (length (x .args)) 2)
+
+-- after any calls each stored application is so
 pub applications-not-reserved : (ks : List Call) (x : FuncApp) → List·Memᴰ x (afterCalls ks start .structure .func-apps)
-    → NotReserved (afterCalls ks start .sig) (x .func)
+    → NotReserved (afterCalls ks start .sig) x
 applications-not-reserved ks x k =
     let m = afterCalls ks start in
-    not-reserved (m .sig) (x .func) (all-at (Unreserved (m .sig)) (m .structure .func-apps) (calls-valid ks .unreserved) x k)
+    not-reserved (m .sig) x (all-at (Unreserved (m .sig)) (m .structure .func-apps) (calls-valid ks .unreserved) x k)
+    (all-at (WellApplied (m .sig)) (m .structure .func-apps) (calls-valid ks .well-applied) x k)
 
 model-if : (k : Kind) → kindIsModel k ≡ true → k ≡ model
 model-if plain e = no-test e refl

@@ -1,6 +1,6 @@
 -- Each call of kinds 1 to 5 keeps the signature valid, and the structure over it: it is accepted only while nothing is stored.
 use mathlib.Core.Path.{_≡_, refl, sym, subst}
-use mathlib.Core.Bool.{true, false, _&&_}
+use mathlib.Core.Bool.{true, false, _&&_, _||_}
 use mathlib.Core.List.{List, [], _∷_, _++_}
 use Prim.Native.Nat.{_≤_}
 use native.Mathlib.Omega.{arith}
@@ -13,12 +13,13 @@ use Rattle.unification.proofs.Theorems.{none-formed}
 use Rattle.signature.specs.Model.{Sig, Kind, plain, model, enum, mor, TypeM, PredM, FuncM, ModelM, MorAppM, maxTypes, maxPreds, maxFuncs}
 use Rattle.signature.specs.Model as signature
 use Rattle.signature.specs.Model.{maxModels, maxMorApps, with-types, with-preds, with-funcs, with-models, with-mor-apps}
-use Rattle.signature.specs.Calls.{isType, areTypes, isFunc, modelDeclared, functions, modelIdsDeclared, typeCauses, withType, predCauses}
+use Rattle.signature.specs.Calls.{isType, areTypes, isFunc, modelDeclared, modelGiven, functions, repeats, anyGiven, modelIdsDeclared, typeCauses, withType, predCauses}
 use Rattle.signature.specs.Calls.{withPred, funcCauses, withFunc, modelCauses, withModel, morAppCauses, withMorApp}
 use Rattle.semantics.specs.Structure.{Structure, empty}
-use Rattle.semantics.specs.Valid.{KindDeclared, ValidSig, Valid}
+use Rattle.semantics.specs.Valid.{KindDeclared, functionsIn, ValidSig, Valid}
 use Rattle.semantics.proofs.Cases.{and-first, and-second, or-first, or-second}
 use Rattle.semantics.proofs.Links.{length-push}
+use Rattle.semantics.proofs.ModelFunctions.{once-more}
 use Rattle.semantics.proofs.Judged.{below-if, listed-if}
 use Rattle.validity.proofs.Growing.{queue-more, queue-push, kind-more, listed-more, type-more, pred-more, func-more, model-more}
 use Rattle.validity.proofs.Growing.{mor-app-more}
@@ -53,6 +54,7 @@ empty-valid g sig = record {
     impositions = record { each = tt; most = omega arith };
   };
   unreserved = tt;
+  well-applied = tt;
   of-models = tt;
   unstarted = λ q. refl;
 }
@@ -77,6 +79,7 @@ module _ (g : Sig) (s : Structure) (v : Valid g s) where
         funcs = queue-more (func-more more) maxFuncs (g .funcs) (v .sig .funcs);
         models = queue-more (model-more more (le-refl (length (g .funcs)))) maxModels (g .models) (v .sig .models);
         mor-apps = queue-more (mor-app-more more (le-refl (length (g .funcs)))) maxMorApps (g .mor-apps) (v .sig .mor-apps);
+        once = v .sig .once;
       })
 
   pub pred-valid : (p : PredM) → NoneApplies (predCauses (s .started) g p) → Valid (withPred g p) s
@@ -95,6 +98,7 @@ module _ (g : Sig) (s : Structure) (v : Valid g s) where
         funcs = v .sig .funcs;
         models = v .sig .models;
         mor-apps = v .sig .mor-apps;
+        once = v .sig .once;
       })
 
   pub func-valid : (f : FuncM) → NoneApplies (funcCauses (s .started) g f) → Valid (withFunc g f) s
@@ -117,6 +121,7 @@ module _ (g : Sig) (s : Structure) (v : Valid g s) where
         });
         models = queue-more (model-more (le-refl (length (g .types))) more) maxModels (g .models) (v .sig .models);
         mor-apps = queue-more (mor-app-more (le-refl (length (g .types))) more) maxMorApps (g .mor-apps) (v .sig .mor-apps);
+        once = v .sig .once;
       })
 
   pub model-valid : (m : ModelM) → NoneApplies (modelCauses (s .started) g m) → Valid (withModel g m) s
@@ -126,6 +131,8 @@ module _ (g : Sig) (s : Structure) (v : Valid g s) where
       let rest = isType g (m .mor) && funcs in
       let d = not-false (isType g (m .typ) && rest) (clear .1 .0) in
       let e = and-second (isType g (m .typ)) rest d in
+      let given = anyGiven g (functions m) in
+      let again = or-second (modelGiven (m .typ) (g .models)) (repeats (functions m) || given) (clear .1 .1 .1 .0) in
       let few = leb-false maxModels (length (g .models)) (clear .1 .1 .1 .1 .0) in
       declared _ (clear .0) (record {
         types = v .sig .types;
@@ -137,6 +144,7 @@ module _ (g : Sig) (s : Structure) (v : Valid g s) where
           funcs = below-if (length (g .funcs)) (functions m) (and-second (isType g (m .mor)) funcs e);
         });
         mor-apps = v .sig .mor-apps;
+        once = once-more g m (v .sig .once) (or-first (repeats (functions m)) given again) (or-second (repeats (functions m)) given again);
       })
 
   pub mor-app-valid : (m : MorAppM) → NoneApplies (morAppCauses (s .started) g m) → Valid (withMorApp g m) s
@@ -156,14 +164,16 @@ module _ (g : Sig) (s : Structure) (v : Valid g s) where
           morphism-type = ltb-true (m .morphism-type) (length (g .types)) (and-first (isType g (m .morphism-type)) (isType g (m .member-type)) e);
           member-type = ltb-true (m .member-type) (length (g .types)) (and-second (isType g (m .morphism-type)) (isType g (m .member-type)) e);
         });
+        once = v .sig .once;
       })
 
 pub empty-sig : ValidSig signature.empty
-unfolding signature.empty
+unfolding signature.empty functionsIn repeats
 empty-sig = record {
   types = record { each = tt; most = omega arith };
   preds = record { each = tt; most = omega arith };
   funcs = record { each = tt; most = omega arith };
   models = record { each = tt; most = omega arith };
   mor-apps = record { each = tt; most = omega arith };
+  once = refl;
 }

@@ -2,10 +2,10 @@
 use Prim.Native.Nat.{ℕ}
 use mathlib.Core.List.{List, [], _∷_, List·Memᴰ}
 use mathlib.Core.Option.{Option, none, some}
-use Rattle.ids.specs.Answers.{tooManyFacts}
+use Rattle.ids.specs.Answers.{noRoom, tooManyFacts}
 
 abbrev pub closeNumbers : List ℕ
-closeNumbers = tooManyFacts ∷ []
+closeNumbers = noRoom ∷ tooManyFacts ∷ []
 
 -- the number first met, if there is one, is one of them
 abbrev pub MayMeet : Option ℕ → Type 0

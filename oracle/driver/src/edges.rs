@@ -1,11 +1,11 @@
 //! Fixed histories: P1 to P10, every refusal number for every kind that can
-//! meet it, and the edges of document 01 and of settle.
+//! meet it, and the edges of document 01, of settle and of maps.
 
 use oracle::record::{AMBIENT_LOOKUP, TYPE_LOOKUP};
 use oracle::stream::{Entry, SHEET, SHEET_WITH_DUMPS};
 
 use crate::history::{bytes, chained, record, History, Words};
-use crate::{proved, settled, settles};
+use crate::{maps, proved, settled, settles};
 
 /// All fixed histories in order. Small ones with dumps.
 pub fn all() -> Vec<Entry> {
@@ -39,6 +39,13 @@ pub fn all() -> Vec<Entry> {
         entries.push(history.list_with_dumps());
         entries.push(history.without_finds().sheet_with_dumps());
     }
+    for history in maps::small() {
+        entries.push(history.list_with_dumps());
+        entries.push(history.without_finds().sheet_with_dumps());
+        if history.has_closes() {
+            entries.push(history.with_settles().list_with_dumps());
+        }
+    }
     entries.extend(settled::all().iter().map(History::list_with_flags));
     for history in settled::accepted() {
         entries.push(history.without_finds().sheet_with_dumps());
@@ -57,6 +64,21 @@ pub fn all() -> Vec<Entry> {
         entries.extend([history.list_with_flags(), history.with_settles().list_with_flags()]);
     }
     entries.push(fact_limits()[0].without_finds().sheet());
+    for history in maps::limits() {
+        let settling = history.with_settles();
+        entries.extend([history.list_with_flags(), settling.without_finds().sheet()]);
+    }
+    for count in [129, 130] {
+        entries.push(maps::identities(count).close().sheet());
+    }
+    for history in
+        [maps::reversed_chain(127), maps::forward_chain(127), maps::chains_in_boxes(4, 30)]
+    {
+        entries.extend([history.list(), history.with_settles().sheet()]);
+    }
+    entries.push(maps::one_more_than_elements(31).list());
+    let refused = [maps::refused_in_full(), maps::nine_in_a_second_close(true)];
+    entries.extend(refused.iter().map(History::list_with_dumps));
     entries.push(refused_close_in_full().list_with_dumps());
     entries.push(refused_close_in_full().with_settles().list_with_dumps());
     entries.extend([deep_links(256), long_rounds()].map(|history| history.with_settles().list()));
@@ -214,8 +236,8 @@ pub fn numbered_refusals() -> Vec<(History, Vec<Numbered>)> {
         (5, record(9, 5, 2, &[3], &[1])),         // parent
         (5, record(9, 5, 2, &[0], &[3])),         // argument
         (5, record(9, 2, 3, &[], &[0])),          // not 7
-        (7, record(9, 2, 0, &[], &[])),           // id
-        (7, record(9, 3, 0, &[], &[])),           // comp
+        (7, record(9, 2, 0, &[], &[])),           // id, not 12
+        (7, record(9, 3, 0, &[], &[])),           // comp, not 12
         (7, record(9, 4, 0, &[], &[])),           // morphism application
         (0, record(9, 0, 0, &[], &[1])),          // dom
         (0, record(9, 1, 0, &[], &[1])),          // cod
@@ -239,7 +261,9 @@ pub fn numbered_refusals() -> Vec<(History, Vec<Numbered>)> {
             after.push((3, altered(kind, word, 5))); // count, slot or unused word
         }
     }
-    vec![(signature(), before), (beginning(), after)]
+    let mut all = vec![(signature(), before), (beginning(), after)];
+    all.extend(maps::numbered_refusals());
+    all
 }
 
 /// Small histories, each for one sentence of document 01 or of README.md.
@@ -582,10 +606,12 @@ fn structure_limits() -> Vec<History> {
     vec![
         els,
         pairs,
-        pairs_by_applications(),
+        pairs_by_applications(false),
+        pairs_by_applications(true),
         pairs_by_stale_results(),
         impositions(),
-        function_applications(),
+        function_applications(false),
+        function_applications(true),
         predicate_applications(),
         deep_links(256),
         long_rounds(),
@@ -595,18 +621,24 @@ fn structure_limits() -> Vec<History> {
 
 /// With all pairs queued an application needs no pair if its key is new or its
 /// result is the stored one.
-fn pairs_by_applications() -> History {
+fn pairs_by_applications(with_record_5: bool) -> History {
     let mut h = History::new();
     h.model(&[]).mor(0, &[]);
-    for _ in 0..5 {
+    for _ in 0..6 {
         h.func(&[], &[], 0);
     }
-    h.model_ids(0, 1, [1, 2, 3, 4]).els(2).apply(0, &[], &[], 0);
+    h.model_ids(0, 1, [1, 2, 3, 4]);
+    if with_record_5 {
+        h.mor_app(5, 1, 0);
+    }
+    h.els(2).apply(0, &[], &[], 0).apply(3, &[], &[0], 0);
     for _ in 0..256 {
         h.equal(0, 1);
     }
     h.apply(0, &[], &[], 1).apply(0, &[], &[], 0).apply(0, &[], &[0], 1);
-    h.apply(3, &[], &[], 0).apply(0, &[], &[], 2); // 7, 5
+    // With a record 5 it is 7 for all of these; else 9, 12, 12.
+    h.apply(3, &[], &[0], 1).apply(3, &[], &[], 0).apply(4, &[], &[0], 0);
+    h.apply(0, &[], &[], 2).apply(3, &[], &[], 2); // 5
     h.close().apply(0, &[], &[], 1).close();
     h
 }
@@ -638,20 +670,26 @@ fn impositions() -> History {
     h
 }
 
-fn function_applications() -> History {
+fn function_applications(with_record_5: bool) -> History {
     let mut h = History::new();
     h.plain(&[]).model(&[]).mor(1, &[]);
-    for _ in 0..5 {
+    for _ in 0..6 {
         h.func(&[], &[0], 0);
     }
-    h.model_ids(1, 2, [1, 2, 3, 4]).els(16);
+    h.model_ids(1, 2, [1, 2, 3, 4]);
+    if with_record_5 {
+        h.mor_app(5, 2, 0);
+    }
+    h.els(16);
     for left in 0..16 {
         for right in 0..16 {
             h.apply(0, &[left], &[right], left);
         }
     }
     h.apply(0, &[], &[], 0).apply(0, &[0], &[0], 0).apply(0, &[0], &[0], 1); // 9, no, yes
-    h.apply(3, &[], &[], 0).apply(8, &[], &[], 0); // 7, 5
+                                                                             // With a record 5 it is 7 for all of these; else 9, 12, 9, 12.
+    h.apply(3, &[], &[0], 0).apply(3, &[], &[], 0).apply(4, &[], &[0, 0], 0).apply(4, &[], &[0], 0);
+    h.apply(8, &[], &[], 0).apply(3, &[], &[], 16); // 5
     h.close().apply(0, &[], &[], 0).apply(0, &[], &[1, 1], 1);
     h
 }

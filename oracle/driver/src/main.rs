@@ -3,6 +3,7 @@
 mod compare;
 mod edges;
 mod history;
+mod maps;
 mod mutants;
 mod proved;
 mod random;

@@ -4,6 +4,7 @@ use oracle::record::{Record, Table};
 use oracle::stream::Entry;
 
 use crate::history::{bytes, chained, record, History, Words};
+use crate::maps;
 use crate::rng::Rng;
 use crate::settles::{as_many_closes, Copies};
 
@@ -17,7 +18,7 @@ pub fn entry(seed: u64, number: u64) -> Entry {
         damage_records(&mut rng, &mut history.records);
     }
     // The structure after every record of a long history would be too much.
-    let dumps = history.records.len() <= 60 && rng.percent(60);
+    let dumps = history.records.len() <= 60 && rng.percent(75);
     match (sheet, dumps) {
         (false, false) if rng.percent(80) => history.list_with_flags(),
         (false, false) => history.list(),
@@ -44,6 +45,8 @@ struct Maker<'a> {
     preds: Vec<(usize, usize)>,
     funcs: Vec<(usize, usize)>,
     barred: Vec<u16>,
+    /// The functions of each model whose maps are composed, and their parents.
+    maps: Vec<([u16; 4], usize)>,
     els: usize,
     /// How many elements in a hundred are marked.
     marks: usize,
@@ -63,6 +66,7 @@ impl<'a> Maker<'a> {
             preds: Vec::new(),
             funcs: Vec::new(),
             barred: Vec::new(),
+            maps: Vec::new(),
             els: 0,
             marks,
             near,
@@ -87,6 +91,14 @@ impl<'a> Maker<'a> {
             5..=24 => {
                 self.settle_slowly();
                 self.rng.between(0, 10)
+            }
+            25..=31 => {
+                self.fill_with_maps();
+                self.rng.between(0, 12)
+            }
+            32..=61 => {
+                self.join_boxes();
+                self.rng.between(0, 12)
             }
             _ => {
                 self.declare();
@@ -122,6 +134,12 @@ impl<'a> Maker<'a> {
         }
         if self.rng.percent(25) {
             self.declare_models();
+        }
+        if self.rng.percent(50) {
+            self.declare_maps();
+        }
+        if !self.maps.is_empty() && self.rng.percent(15) {
+            self.declare_maps();
         }
     }
 
@@ -187,6 +205,129 @@ impl<'a> Maker<'a> {
             self.add_call();
         }
         self.history.settle();
+    }
+
+    /// A structure in which laws need about as many applications or pairs as there is
+    /// room for, at once, in the second close of a settle, or beside as many facts.
+    fn fill_with_maps(&mut self) {
+        self.types = vec![(0, 1), (0, 3), (1, 0)];
+        self.funcs = vec![(0, 1), (0, 1), (0, 1), (0, 2), (0, 0)];
+        let mut parents = 0;
+        let fill = |h: &mut History, count: usize| _ = maps::fill(h, count as u16);
+        match self.rng.below(7) {
+            0 => {
+                let count = self.rng.between(127, 131);
+                self.history = maps::identities(count as u16);
+                self.els = count + 1;
+            }
+            5 => {
+                let count = self.rng.between(125, 130);
+                self.history = maps::composites(count as u16);
+                self.els = count + 4;
+            }
+            1 => {
+                let count = self.rng.between(103, 128);
+                self.history = maps::identities(count as u16);
+                self.history.els(255 - count);
+                self.els = 256;
+                // Pairs of functionality.
+                let others = self.rng.between(254, 259) - 2 * (count - 1);
+                for el in 0..=others as u16 {
+                    self.history.apply(maps::FILL, &[], &[130 + el], 190 + el);
+                    self.history.equal(130, 130 + el);
+                }
+            }
+            2 => {
+                self.history = maps::signature();
+                self.add_els(20, 40);
+                fill(&mut self.history, self.rng.between(240, 255));
+            }
+            3 => {
+                self.history = maps::many_facts();
+                self.types = vec![(0, 1), (0, 3), (1, 0), (0, 0), (0, 0), (0, 0), (0, 0), (0, 0)];
+                self.preds = vec![(0, 4)];
+                self.els = 256;
+                fill(&mut self.history, self.rng.between(250, 254));
+                self.history.apply(maps::ID, &[], &[16], 17);
+                for _ in 0..self.rng.between(0, 2) {
+                    let arity = self.rng.between(0, 3);
+                    self.history.holds(0, &[], &[255; 4][..arity]);
+                }
+            }
+            6 => {
+                let (chains, count) = (self.rng.between(2, 4), self.rng.between(3, 14));
+                self.history = maps::chains_in_boxes(chains as u16, count as u16);
+                self.history.records.truncate(self.history.records.len() - 3);
+                self.types = vec![(0, 1), (1, 0), (0, 1), (0, 3)];
+                self.funcs = vec![(2, 1), (2, 1), (2, 1), (2, 2)];
+                self.preds = vec![(1, 1)];
+                parents = 2;
+                self.els = 4 * chains + count + 2;
+            }
+            _ => {
+                self.history = maps::under_boxes();
+                self.types = vec![(0, 1), (1, 0), (0, 1), (0, 3)];
+                self.funcs = vec![(1, 1), (1, 1), (1, 1), (1, 2), (0, 0), (1, 0)];
+                self.preds = vec![(1, 1)];
+                parents = 1;
+                self.history.els(17);
+                self.history.marked_el().marked_el().els(2);
+                self.els = 21;
+                fill(&mut self.history, self.rng.between(248, 253));
+                // Boxes 16, 17 and 18 join at the end of a close, some maps are in one
+                // and some in another.
+                for _ in 0..self.rng.between(2, 4) {
+                    let [f, g, h] = [(); 3].map(|()| self.rng.below(8) as u16);
+                    let (one, other) = (self.rng.between(16, 18), self.rng.between(16, 18));
+                    self.history.apply(maps::COMP, &[one as u16], &[f, g], h);
+                    let (func, x) = (self.rng.below(2) as u16, self.rng.below(21) as u16);
+                    self.history.apply(func, &[other as u16], &[self.rng.pick(&[f, g, h])], x);
+                }
+                for _ in 0..self.rng.between(2, 3) {
+                    let parent = self.rng.between(16, 18) as u16;
+                    self.history.impose(19, 1, &[parent]);
+                }
+            }
+        }
+        self.maps = vec![([maps::DOM, maps::COD, maps::ID, maps::COMP], parents)];
+        self.near = self.rng.pick(&[6, 30]);
+        for _ in 0..self.rng.between(0, 2) {
+            self.add_map();
+        }
+        if self.rng.percent(20) {
+            self.add_call();
+        }
+        self.add_close();
+    }
+
+    /// Maps in boxes that join in typing, so that the laws of that round find keys and
+    /// results that are no roots. The boxes may be maps themselves.
+    fn join_boxes(&mut self) {
+        self.history = maps::under_boxes();
+        self.types = vec![(0, 1), (1, 0), (0, 1), (0, 3)];
+        self.funcs = vec![(1, 1), (1, 1), (1, 1), (1, 2), (0, 0), (1, 0)];
+        self.preds = vec![(1, 1)];
+        self.maps = vec![([maps::DOM, maps::COD, maps::ID, maps::COMP], 1)];
+        self.marks = self.rng.pick(&[30, 60]);
+        self.near = self.rng.between(3, 6);
+        self.add_els(6, 12);
+        for _ in 0..self.rng.between(1, 2) {
+            let part = self.an_el();
+            for _ in 0..self.rng.between(2, 4) {
+                let parent = self.an_el();
+                match self.rng.below(5) {
+                    0..=1 => _ = self.history.holds(0, &[parent], &[part]),
+                    2..=3 => _ = self.history.apply(maps::PART, &[parent], &[], part),
+                    _ => _ = self.history.impose(part, 1, &[parent]),
+                }
+            }
+        }
+        for _ in 0..self.rng.between(2, 7) {
+            self.add_map();
+        }
+        if self.rng.percent(70) {
+            self.add_close();
+        }
     }
 
     fn add_els(&mut self, least: usize, most: usize) {
@@ -273,11 +414,55 @@ impl<'a> Maker<'a> {
         }
         let funcs = [first, first + 1, first + 2, first + 3];
         self.history.model_ids(model, mor, funcs);
-        self.barred.extend(&funcs[2..]);
-        if self.rng.percent(50) {
+        if self.rng.percent(30) {
             let member = self.a_type();
             self.history.mor_app(first + 4, mor, member);
-            self.barred.push(first + 4);
+            self.barred.extend([first + 2, first + 3, first + 4]);
+        } else {
+            self.maps.push((funcs, 0));
+        }
+    }
+
+    /// A model whose maps are composed. Its functions come in any order; they have no
+    /// parent or as many as the other relations, and mostly the types that they should.
+    fn declare_maps(&mut self) {
+        let count = self.rng.pick(&[0, 0, 1, 1, 2]);
+        let models = self.types_of_kind(1);
+        let parents: Vec<u16> = match models.first() {
+            Some(&model) => vec![model; count],
+            None => Vec::new(),
+        };
+        let under = if self.rng.percent(50) { &parents[..] } else { &[] };
+        let model = self.types.len() as u16;
+        let mor = model + 1;
+        self.history.model(under).mor(model, under);
+        self.types.extend([(under.len(), 1), (under.len(), 3)]);
+        let mut order = [0, 1, 2, 3];
+        for at in 1..4 {
+            order.swap(at, self.rng.below(at + 1));
+        }
+        let first = self.funcs.len() as u16;
+        let mut funcs = [0; 4];
+        for (place, which) in order.into_iter().enumerate() {
+            let (mut domain, mut codomain) = match which {
+                2 => (vec![model], mor),
+                3 => (vec![mor, mor], mor),
+                _ => (vec![mor], model),
+            };
+            if self.rng.percent(20) {
+                domain = self.some_types(2);
+                codomain = self.a_type();
+            }
+            self.history.func(&parents, &domain, codomain);
+            self.funcs.push((parents.len(), domain.len()));
+            funcs[which] = first + place as u16;
+        }
+        self.history.model_ids(model, mor, funcs);
+        self.maps.push((funcs, parents.len()));
+        if self.rng.percent(4) {
+            let func = self.funcs.len() as u16;
+            self.history.func(&[], &[], model).mor_app(func, mor, model);
+            self.funcs.push((0, 0));
         }
     }
 
@@ -314,6 +499,7 @@ impl<'a> Maker<'a> {
         match self.rng.below(if self.is_list { 120 } else { 100 }) {
             0..=13 => _ = self.history.equal(a, b),
             14..=31 => self.add_imposition(a),
+            32..=57 if !self.maps.is_empty() && self.rng.percent(70) => self.add_map(),
             32..=57 => self.add_application(),
             58..=67 => self.add_predicate(),
             68..=78 => self.add_close(),
@@ -367,6 +553,7 @@ impl<'a> Maker<'a> {
                 81..=88 => self.add_close(),
                 89..=90 => _ = self.history.equal(a, self.els as u16 - 1),
                 91..=93 => self.add_imposition(a),
+                94..=97 if !self.maps.is_empty() && self.rng.percent(70) => self.add_map(),
                 94..=97 => self.add_application(),
                 98..=99 => self.add_predicate(),
                 100..=104 => _ = self.history.root(a),
@@ -456,6 +643,45 @@ impl<'a> Maker<'a> {
         let (parents, args) = (self.some_els(parents), self.some_els(args));
         let result = self.an_el();
         self.history.apply(func, &parents, &args, result);
+    }
+
+    /// Maps of a model: what one of them is, a chain of composites, or identities with
+    /// one result.
+    fn add_map(&mut self) {
+        let ([dom, cod, id, comp], count) = self.rng.pick(&self.maps);
+        let count = if self.rng.percent(4) { self.rng.between(0, 4) } else { count };
+        let parents = self.some_els(count);
+        let [a, b, c] = [(); 3].map(|()| self.an_el());
+        match self.rng.below(20) {
+            0..=3 => _ = self.history.apply(id, &parents, &[a], b),
+            4..=9 => _ = self.history.apply(comp, &parents, &[a, b], c),
+            10..=13 => _ = self.history.apply(dom, &parents, &[a], b),
+            14..=16 => _ = self.history.apply(cod, &parents, &[a], b),
+            17 => {
+                // Each map is the one before it, or after it, composed with another.
+                let length = self.rng.between(2, 8);
+                let chain = self.some_els(length);
+                let is_first = self.rng.percent(50);
+                for pair in chain.windows(2) {
+                    let args = if is_first { [pair[0], a] } else { [a, pair[0]] };
+                    self.history.apply(comp, &parents, &args, pair[1]);
+                }
+                let func = if is_first { dom } else { cod };
+                let end = self.rng.pick(&[chain[0], chain[length - 1]]);
+                self.history.apply(func, &parents, &[end], b);
+            }
+            18 => {
+                for _ in 0..self.rng.between(2, 5) {
+                    let el = self.an_el();
+                    self.history.apply(id, &parents, &[el], a);
+                }
+            }
+            _ => {
+                let (func, count) = (self.rng.pick(&[id, comp]), self.rng.between(0, 4));
+                let args = self.some_els(count);
+                self.history.apply(func, &parents, &args, b);
+            }
+        }
     }
 
     fn add_predicate(&mut self) {

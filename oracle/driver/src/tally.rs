@@ -16,12 +16,15 @@ pub struct Tally {
     merges: usize,
     conflicts: usize,
     refusals: BTreeMap<u16, usize>,
+    /// Those of closes and settles.
+    close_refusals: BTreeMap<u16, usize>,
     settled: FoundSettled,
 }
 
 impl Tally {
     pub fn add(&mut self, entries: &[Entry], answers: &str) {
         self.settled.add(entries, answers);
+        self.add_refused_closes(entries, answers);
         self.histories += entries.len();
         self.bytes += entries.iter().map(|entry| entry.bytes.len()).sum::<usize>();
         for line in answers.lines() {
@@ -50,6 +53,35 @@ impl Tally {
     }
 }
 
+impl Tally {
+    fn add_refused_closes(&mut self, entries: &[Entry], answers: &str) {
+        let (mut kinds, mut given) = (Vec::new(), 0);
+        for line in answers.lines() {
+            let words: Vec<&str> = line.split(' ').collect();
+            match words[..] {
+                ["=", index] => {
+                    kinds = record_kinds(&entries[index.parse::<usize>().expect("an index")]);
+                    given = 0;
+                }
+                ["refused", number, ref place @ ..] => {
+                    let at = match place {
+                        ["at", index] => index.parse().expect("an index"),
+                        _ => given,
+                    };
+                    if kinds.get(at).is_some_and(|kind| [13, 15].contains(kind)) {
+                        let number = number.parse().expect("a number");
+                        *self.close_refusals.entry(number).or_default() += 1;
+                    }
+                    given += 1;
+                }
+                // A line of a dump begins with one letter; a conflict is no whole answer.
+                [word, ..] => given += usize::from(word.len() > 1 && word != "conflict"),
+                [] => {}
+            }
+        }
+    }
+}
+
 impl fmt::Display for Tally {
     fn fmt(&self, f: &mut fmt::Formatter) -> fmt::Result {
         write!(f, "{} histories, {} bytes: ", self.histories, self.bytes)?;
@@ -59,6 +91,10 @@ impl fmt::Display for Tally {
             self.closes, self.settles, self.merges, self.conflicts
         )?;
         self.refusals.iter().try_for_each(|(number, count)| write!(f, " {number}:{count}"))?;
+        write!(f, ", of closes and settles")?;
+        self.close_refusals
+            .iter()
+            .try_for_each(|(number, count)| write!(f, " {number}:{count}"))?;
         let FoundSettled { calls, no, yes, refused } = self.settled;
         write!(f, "; {calls} calls of lists found it settled, of kinds 7 to 10 ")?;
         write!(f, "{no} answered with no, {yes} with yes, {refused} refused")
@@ -110,6 +146,13 @@ impl FoundSettled {
 
 /// The kinds of a list's calls, the last one first. A sheet has none.
 fn kinds_of(entry: &Entry) -> Vec<u16> {
-    let records = entry.bytes.chunks_exact(record::BYTES).filter(|_| entry.is_list());
-    records.rev().map(|bytes| Record::read(bytes).kind()).collect()
+    let mut kinds = if entry.is_list() { record_kinds(entry) } else { Vec::new() };
+    kinds.reverse();
+    kinds
+}
+
+/// The kinds of the records in the order in which they stand.
+fn record_kinds(entry: &Entry) -> Vec<u16> {
+    let records = entry.bytes.chunks_exact(record::BYTES);
+    records.map(|bytes| Record::read(bytes).kind()).collect()
 }

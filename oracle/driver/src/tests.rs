@@ -12,7 +12,7 @@ use crate::compare::{first_difference, stream_of, Subject};
 use crate::history::History;
 use crate::rng::Rng;
 use crate::settled::{self, Calls};
-use crate::{edges, histories, proved, random, settles, shrink, SAMPLE};
+use crate::{edges, histories, maps, proved, random, settles, shrink, SAMPLE};
 
 /// What an entry prints, without the line that begins it.
 fn answers(entry: &Entry) -> Vec<String> {
@@ -248,6 +248,111 @@ fn p1_to_p10_asked_after_every_call() {
     }
 }
 
+/// The applications that a history leaves.
+fn apps(h: &History) -> Vec<String> {
+    tagged(&structure(h), "a ")
+}
+
+/// The applications that a close leaves beside those that are given.
+fn apps_given_by(build: &dyn Fn(&mut History)) -> Vec<String> {
+    let mut h = maps::signature();
+    h.els(6);
+    build(&mut h);
+    let before = apps(&h);
+    let mut after = apps(h.close());
+    after.retain(|app| !before.contains(app));
+    after
+}
+
+#[test]
+fn each_law_alone() {
+    use maps::{COD, COMP, DOM, ID};
+    let identity = apps_given_by(&|h| _ = h.apply(ID, &[], &[0], 1));
+    assert_eq!(identity, ["a 0 / 1 = 0", "a 1 / 1 = 0"]);
+    // The composite 2 of 0 and 1: from a value to where it is given.
+    let laws = [((DOM, 0), (DOM, 2)), ((COD, 1), (COD, 2)), ((COD, 0), (DOM, 1))];
+    for (one, other) in laws {
+        for ((func, el), (to_func, to)) in [(one, other), (other, one)] {
+            let given = apps_given_by(&|h| {
+                h.apply(COMP, &[], &[0, 1], 2).apply(func, &[], &[el], 5);
+            });
+            assert_eq!(given, [format!("a {to_func} / {to} = 5")]);
+        }
+    }
+    assert!(apps_given_by(&|h| _ = h.apply(COMP, &[], &[0, 1], 2)).is_empty());
+}
+
+#[test]
+fn laws_beside_equalities() {
+    let h = maps::beside_the_book();
+    assert_eq!(list(&h)[h.records.len() - 2..], ["close 1 2 3", "close 0 0 1"]);
+    assert_eq!(tagged(&structure(&h), "e ")[3..], ["e 3 0 0", "e 4 4 0", "e 5 4 0"]);
+}
+
+/// Laws whose premises name exact elements would find nothing here, and leave 0 and 1
+/// apart.
+#[test]
+fn laws_reach_past_the_elements_given() {
+    let mut h = maps::signature();
+    h.els(4).apply(maps::COMP, &[], &[1, 1], 0);
+    h.apply(maps::DOM, &[], &[2], 0).apply(maps::DOM, &[], &[3], 1);
+    h.equal(1, 2).equal(0, 3).close();
+    assert_eq!(tagged(&structure(&h), "e "), ["e 0 0 0", "e 1 0 0", "e 2 1 0", "e 3 0 0"]);
+}
+
+#[test]
+fn identities_with_one_result() {
+    assert_eq!(list(maps::identities(129).close()).last(), Some(&"close 1 128 3".to_string()));
+    let mut h = maps::identities(130);
+    let before = structure(&h);
+    assert_eq!(list(h.close()).last(), Some(&"refused 9".to_string()));
+    assert_eq!(structure(&h), before);
+}
+
+/// Rounds that merges do not bound, and neither do elements.
+#[test]
+fn chains_of_composites() {
+    for count in [2, 6, 127] {
+        let lines = list(&maps::reversed_chain(count));
+        assert!(lines.contains(&format!("close 1 0 {}", count + 1)));
+        assert!(list(&maps::forward_chain(count)).contains(&"close 1 0 2".to_string()));
+    }
+    let h = maps::chains_in_boxes(4, 30);
+    assert!(list(&h).contains(&"close 1 3 129".to_string()));
+    assert_eq!(tagged(&structure(&h), "e ").len(), 48);
+}
+
+#[test]
+fn nine_and_eleven_in_one_close() {
+    let last_line = |mut h: History| list(h.close()).pop().expect("it closes");
+    assert_eq!(last_line(maps::nine_and_eleven(false, false)), "close 1 0 3");
+    assert_eq!(last_line(maps::nine_and_eleven(true, false)), "refused 9");
+    assert_eq!(last_line(maps::nine_and_eleven(false, true)), "refused 11");
+    assert_eq!(last_line(maps::nine_and_eleven(true, true)), "refused 9");
+    assert_eq!(last_line(maps::eleven_before_nine()), "refused 11");
+    assert_eq!(last_line(maps::nine_before_impositions()), "refused 9");
+}
+
+#[test]
+fn a_settle_meets_nine_after_an_accepted_close() {
+    let accepted = maps::nine_in_a_second_close(false);
+    assert!(list(&accepted).contains(&"settle 3 1".to_string()));
+    let refused = maps::nine_in_a_second_close(true);
+    let settle = refused.records.iter().position(|words| words[1] == 15).expect("it settles");
+    let closes = ["refused 9", "root 17 0", "close 1 1 2", "refused 9", "refused 9"];
+    assert_eq!(list(&refused)[settle..], closes);
+    assert_eq!(structure_after(&refused, settle), structure_after(&refused, settle + 1));
+}
+
+#[test]
+fn settles_of_one_close_more_than_elements() {
+    for els in 2..=31 {
+        let h = maps::one_more_than_elements(els);
+        assert_eq!(list(&h).last(), Some(&format!("settle {} {}", els + 1, els - 1)));
+        assert_eq!(tagged(&structure(&h), "e ").len(), els.into());
+    }
+}
+
 /// A history that may grow by `limit` records of one kind and no more.
 fn assert_limit(start: &History, limit: u16, grow: &dyn Fn(&mut History, u16)) {
     let mut h = start.clone();
@@ -335,13 +440,13 @@ const NUMBERS: [(u16, &[u16]); 19] = [
     (6, &[3, 9]),
     (7, &[3, 5, 9]),
     (8, &[3, 5, 9]),
-    (9, &[3, 5, 7, 9]),
+    (9, &[3, 5, 7, 9, 12]),
     (10, &[3, 5, 9]),
     (11, &[3, 5, 8]),
     (12, &[3, 5, 6, 8]),
-    (13, &[3, 11]),
+    (13, &[3, 9, 11]),
     (14, &[3]),
-    (15, &[3, 11]),
+    (15, &[3, 9, 11]),
     (101, &[5]),
     (102, &[5]),
     (103, &[3, 5]),

@@ -1,14 +1,16 @@
-//! The book of 01's conservation rule: it is fed calls and answers, reads no
-//! structure, and says what the classes must be. It also says, by 02's own words,
-//! whether the structure is settled.
+//! The book of the conservation rule, as M-102 has it: it is fed calls and answers,
+//! reads no structure, and says what the classes must be. It also says, by 02's own
+//! words, whether the structure is settled.
 
-use std::collections::BTreeMap;
+use std::collections::{BTreeMap, BTreeSet};
 
 use crate::answer::{Answer, Closed};
 use crate::record::Record;
 
 #[derive(Clone, Default)]
 pub struct Book {
+    /// dom, cod, id and comp of each model.
+    models: Vec<[u16; 4]>,
     els: usize,
     has_marks: bool,
     equalities: Vec<(u16, u16)>,
@@ -58,6 +60,10 @@ impl Book {
     /// Takes in an accepted call.
     pub fn enter(&mut self, record: &Record, answer: &Answer) {
         match record.kind() {
+            4 => {
+                let funcs = record.args();
+                self.models.push([0, 1, 2, 3].map(|place| funcs[place]));
+            }
             6 => {
                 self.els += 1;
                 self.has_marks |= record.a() == 1;
@@ -79,43 +85,107 @@ impl Book {
     }
 
     /// A close runs at most two rounds more than it merges, where no element is
-    /// marked.
+    /// marked and neither id nor comp was applied.
     pub fn assert_rounds(&self, closed: &Closed) {
+        let is_operation = |app: &Record| {
+            self.models.iter().any(|[_, _, id, comp]| [*id, *comp].contains(&app.a()))
+        };
         let most = closed.merges + 2;
-        assert!(self.has_marks || closed.rounds <= most, "rounds are at most merges and two");
+        assert!(
+            self.has_marks || self.apps.iter().any(is_operation) || closed.rounds <= most,
+            "rounds are at most merges and two"
+        );
     }
 
-    /// After a close the roots are those of the smallest fitting partition.
-    /// Marked elements may be joined beyond it, so then there is nothing to say.
+    /// After a close the roots are those of the smallest closed pair. Marked elements
+    /// may be joined beyond it, so then there is nothing to say.
     pub fn assert_smallest(&self, roots: &[usize]) {
         if !self.has_marks {
-            assert_eq!(self.smallest_partition(), roots, "the smallest fitting partition");
+            assert_eq!(self.smallest_partition(), roots, "the smallest partition");
         }
     }
 
-    /// The least element of each element's class.
+    /// The least element of each element's class in the smallest pair of a partition
+    /// and a set of applications such that: equal elements may stand for each other in
+    /// an application; the equalities and applications accepted are in it; results of
+    /// one function at one key are equal; and the laws of id and comp hold. Of the set
+    /// the applications to least elements are kept, and the pair grows until it is
+    /// closed.
     fn smallest_partition(&self) -> Vec<usize> {
         let mut least: Vec<usize> = (0..self.els).collect();
         for &(a, b) in &self.equalities {
             join(&mut least, a.into(), b.into());
         }
+        let mut apps: BTreeSet<(Key, usize)> = self.apps.iter().map(as_given).collect();
         loop {
-            let mut results: BTreeMap<_, usize> = BTreeMap::new();
+            apps = apps.into_iter().map(|(key, el)| (key.at(&least), least[el])).collect();
+            let mut results: BTreeMap<&Key, usize> = BTreeMap::new();
             let mut joined = false;
-            for app in &self.apps {
-                let of = |els: &[u16]| -> Vec<usize> {
-                    els.iter().map(|&el| least[usize::from(el)]).collect()
-                };
-                let key = (app.a(), of(app.parents()), of(app.args()));
-                let result = usize::from(app.b());
-                let first = *results.entry(key).or_insert(result);
-                joined |= join(&mut least, first, result);
+            for (key, result) in &apps {
+                let first = *results.entry(key).or_insert(*result);
+                joined |= join(&mut least, first, *result);
             }
-            if !joined {
+            if joined {
+                continue;
+            }
+            let mut demanded = Vec::new();
+            for (key, &result) in &results {
+                self.demand(key, result, &results, &mut demanded);
+            }
+            let before = apps.len();
+            apps.extend(demanded);
+            if apps.len() == before {
                 return least;
             }
         }
     }
+
+    /// What the laws demand of one application beside the others.
+    fn demand(
+        &self,
+        key: &Key,
+        result: usize,
+        results: &BTreeMap<&Key, usize>,
+        demanded: &mut Vec<(Key, usize)>,
+    ) {
+        for &[dom, cod, id, comp] in &self.models {
+            let at = |func: u16, el: usize| Key { func, args: vec![el], ..key.clone() };
+            if key.func == id {
+                demanded.extend([dom, cod].map(|func| (at(func, result), key.args[0])));
+            }
+            if key.func == comp {
+                let (f, g, h) = (key.args[0], key.args[1], result);
+                for (one, other) in
+                    [(at(dom, f), at(dom, h)), (at(cod, g), at(cod, h)), (at(cod, f), at(dom, g))]
+                {
+                    for (from, to) in [(&one, &other), (&other, &one)] {
+                        demanded.extend(results.get(from).map(|&value| (to.clone(), value)));
+                    }
+                }
+            }
+        }
+    }
+}
+
+/// A function, and the elements that it is applied to.
+#[derive(Clone, PartialEq, Eq, PartialOrd, Ord)]
+struct Key {
+    func: u16,
+    parents: Vec<usize>,
+    args: Vec<usize>,
+}
+
+impl Key {
+    /// The same of the least elements.
+    fn at(&self, least: &[usize]) -> Key {
+        let of = |els: &[usize]| els.iter().map(|&el| least[el]).collect();
+        Key { func: self.func, parents: of(&self.parents), args: of(&self.args) }
+    }
+}
+
+fn as_given(app: &Record) -> (Key, usize) {
+    let of = |els: &[u16]| els.iter().map(|&el| el.into()).collect();
+    (Key { func: app.a(), parents: of(app.parents()), args: of(app.args()) }, app.b().into())
 }
 
 /// Puts two elements together; says whether they were apart.

@@ -180,12 +180,34 @@ fn a_close_can_make_impositions_equal() {
     assert_eq!(queued[0], queued[1]);
 }
 
-/// In the domain of document 01 the two morphism passes change nothing; this is
-/// the least that shows why number 7 is there: an application of id that has
-/// its argument makes the Rust add applications of dom and cod.
+/// An application of id makes the Rust add applications of dom and cod.
 #[test]
 fn an_application_of_id_adds_applications() {
     let mut structure = applied(1, 2, &[0]);
     structure.close(&model());
     assert_eq!(structure.func_apps.len(), 3);
+}
+
+/// With more arguments than it needs id is taken by its first one. We give 12.
+#[test]
+fn id_with_two_arguments_is_taken_by_the_first() {
+    let mut structure = applied(2, 2, &[1, 0]);
+    structure.close(&model());
+    let (func, parents, args) = (FuncId::new(0), Vec::new(), vec![ElId(0)]);
+    assert_eq!(structure.func_apps.get(&FuncApp { func, parents, args }), Some(&ElId(1)));
+}
+
+/// 130 identities with one result queue 258 pairs at a time. The Rust closes; we
+/// give 9.
+#[test]
+fn a_close_queues_any_number_of_pairs() {
+    let mut structure = applied(130, 2, &[0]);
+    for el in 1..130 {
+        let (func, parents, args) = (FuncId::new(2), Vec::new(), vec![ElId(el)]);
+        structure.insert_func_app_or_equate(FuncApp { func, parents, args }, ElId(0));
+    }
+    structure.morphism_operation_constraints(&model());
+    assert_eq!(structure.pending_equalities.len(), 258);
+    structure.close(&model());
+    assert_eq!(structure.els.len(), 1);
 }

@@ -1,5 +1,5 @@
-//! A child of the structure module: the calls of document 01 over the Rust's
-//! own methods, with 01's refusals and limits around them.
+//! A child of the structure module: the calls of documents 01 and 02 over the
+//! Rust's own methods, with their refusals and limits around them.
 
 #![warn(dead_code, unreachable_code, unused_variables, clippy::all)]
 
@@ -42,8 +42,14 @@ pub struct Oracle {
     book: Book,
 }
 
-/// The close met its 1,025th fact.
-struct TooManyFacts;
+/// The number that a close met.
+struct Met(u16);
+
+/// An entry needed, its table at its limit.
+const NO_ROOM: Met = Met(9);
+
+/// The 1,025th fact.
+const TOO_MANY_FACTS: Met = Met(11);
 
 impl Oracle {
     /// The calls of kinds 1 to 15. A refused one leaves everything as it was.
@@ -82,8 +88,9 @@ impl Oracle {
         // The Rust has no limits. An entry was needed and its table at its
         // limit exactly when the table is over its limit afterwards.
         let mut next = self.clone();
-        let Ok(answer) = next.carry_out(record) else {
-            return Answer::Refused(11);
+        let answer = match next.carry_out(record) {
+            Ok(answer) => answer,
+            Err(Met(number)) => return Answer::Refused(number),
         };
         if next.is_over_a_limit() {
             return Answer::Refused(9);
@@ -163,7 +170,7 @@ impl Oracle {
         count
     }
 
-    /// The lowest of the numbers 3 to 8 that applies.
+    /// The first that applies of the numbers 3 to 7, 12 and 8.
     fn refusal(&self, record: &Record) -> Option<u16> {
         if !record.is_well_formed() {
             return Some(3);
@@ -180,6 +187,9 @@ impl Oracle {
         }
         if record.kind() == 9 && self.is_barred(FuncId::new(record.a())) {
             return Some(7);
+        }
+        if record.kind() == 9 && self.is_misapplied(record) {
+            return Some(12);
         }
         self.is_given_again(record).then_some(8)
     }
@@ -213,11 +223,23 @@ impl Oracle {
         }
     }
 
-    /// Whether `func` is id, comp or a morphism application function.
+    /// Whether `func` is a morphism application function or, where there is one, id
+    /// or comp.
     fn is_barred(&self, func: FuncId) -> bool {
         let mut models = self.signature.iter_model_decls();
-        models.any(|(_, ids)| [ids.id, ids.comp].contains(&func))
-            || self.signature.types_for_mor_app_func(func).is_some()
+        let is_operation = models.any(|(_, ids)| [ids.id, ids.comp].contains(&func));
+        self.signature.types_for_mor_app_func(func).is_some()
+            || (is_operation && self.signature.sizes().mor_apps > 0)
+    }
+
+    /// Whether id is applied to other than one argument, or comp to other than two.
+    fn is_misapplied(&self, record: &Record) -> bool {
+        let func = FuncId::new(record.a());
+        let mut models = self.signature.iter_model_decls();
+        models.any(|(_, ids)| {
+            (func == ids.id && record.arg_count() != 1)
+                || (func == ids.comp && record.arg_count() != 2)
+        })
     }
 
     /// Whether a record of kind 4 or 5 has named `func`.
@@ -264,8 +286,8 @@ impl Oracle {
             || structure.pred_apps.len() > MAX_APPS
     }
 
-    /// The effect of a record that numbers 3 to 8 let pass.
-    fn carry_out(&mut self, record: &Record) -> Result<Answer, TooManyFacts> {
+    /// The effect of a record that numbers 3 to 8 and 12 let pass.
+    fn carry_out(&mut self, record: &Record) -> Result<Answer, Met> {
         let (a, b) = (record.a(), record.b());
         let (parents, args) = (record.parents(), record.args());
         let (signature, structure) = (&mut self.signature, &mut self.structure);
@@ -334,31 +356,36 @@ impl Oracle {
         })
     }
 
-    /// The Rust's close pass by pass, so that merges and rounds can be counted
-    /// and facts watched. The real close must do the same.
-    fn close(&mut self) -> Result<Closed, TooManyFacts> {
+    /// The Rust's close pass by pass, so that merges and rounds can be counted and
+    /// facts, applications and pairs watched. The real close must do the same.
+    fn close(&mut self) -> Result<Closed, Met> {
         let mut real = self.structure.clone();
         let classes = self.structure.els.len();
         let mut changed = false;
         let mut rounds = 0;
+        // Facts and applications that the close added.
+        let mut added = 0;
         loop {
             rounds += 1;
             let drained = self.structure.drain_equalities();
             let equated = self.structure.functionality();
             // So a queue of `MAX_PAIRS` has room for the pair of an imposing.
             assert!(self.structure.pending_equalities.len() < MAX_PAIRS);
-            let typed = self.type_apps()?;
-            if !drained && !equated && !typed {
+            let typed = self.type_apps(&mut added)?;
+            let obeyed = self.obey_operations(&mut added)?;
+            if !drained && !equated && !typed && !obeyed {
                 break;
             }
             changed = true;
         }
+        assert!(self.structure.pending_equalities.is_empty(), "an idle round queues nothing");
         for (el, ct) in self.structure.pending_type_impositions.clone() {
-            changed |= self.impose(el, ct)?;
+            changed |= self.impose(el, ct, &mut added)?;
         }
         self.structure.canonicalise_refs();
         // A merge takes one class away, and nothing else does.
         let merges = classes - self.structure.els.len();
+        assert!(rounds - 1 <= 2 * merges + added, "rounds end");
 
         let real_changed = real.close(&self.signature);
         assert_eq!(real_changed, changed, "the real close answers otherwise");
@@ -370,14 +397,15 @@ impl Oracle {
     /// Closes until one reports no change. Each close is a call of its own on a
     /// copy, so that what is asserted of a close is asserted of each, and nothing
     /// is kept where one is refused.
-    fn settle(&mut self) -> Result<Answer, TooManyFacts> {
+    fn settle(&mut self) -> Result<Answer, Met> {
         let mut copy = self.clone();
         let (mut closes, mut merges) = (0, 0);
+        let mut is_quiet_next = false;
         loop {
             let closed = match copy.answer(&Record::of_kind(13)) {
                 Answer::Closed(closed) => closed,
-                Answer::Refused(11) => return Err(TooManyFacts),
-                _ => unreachable!("a close is refused with 11 or not at all"),
+                Answer::Refused(number) => return Err(Met(number)),
+                _ => unreachable!("a close is accepted or refused"),
             };
             closes += 1;
             merges += closed.merges;
@@ -386,7 +414,8 @@ impl Oracle {
             }
             let elements = self.structure.unification.len();
             assert!(closes <= elements, "a settle closes at most once more than elements");
-            assert!(closes == 1 || closed.merges > 0, "after a close a change is a merge");
+            assert!(!is_quiet_next, "a close that merges nothing is followed by a quiet one");
+            is_quiet_next = closed.merges == 0;
         }
         self.structure = copy.structure;
         self.settled = copy.settled;
@@ -394,13 +423,13 @@ impl Oracle {
     }
 
     /// The Rust's `typing`, one imposing at a time.
-    fn type_apps(&mut self) -> Result<bool, TooManyFacts> {
+    fn type_apps(&mut self, added: &mut usize) -> Result<bool, Met> {
         let mut changed = false;
         let func_apps = self.structure.func_apps.clone();
         for app in func_apps.keys() {
             for (index, &arg) in app.args.iter().enumerate() {
                 if let Some(ct) = func_domain_type_at(&self.signature, app, index) {
-                    changed |= self.impose(arg, ct)?;
+                    changed |= self.impose(arg, ct, added)?;
                 }
             }
         }
@@ -408,24 +437,44 @@ impl Oracle {
             let arity = self.signature.pred(app.pred).arity.clone();
             for (&arg, typ) in app.args.iter().zip(arity) {
                 if let Some(ct) = concrete_type_at(&self.signature, typ, &app.parents) {
-                    changed |= self.impose(arg, ct)?;
+                    changed |= self.impose(arg, ct, added)?;
                 }
             }
         }
         for (app, &result) in &func_apps {
             if let Some(ct) = func_codomain_type_at(&self.signature, app) {
-                changed |= self.impose(result, ct)?;
+                changed |= self.impose(result, ct, added)?;
             }
         }
         Ok(changed)
     }
 
-    /// One imposing. Facts grow only here, by one, after any merges.
-    fn impose(&mut self, el: ElId, ct: ConcreteType) -> Result<bool, TooManyFacts> {
+    /// One imposing. Facts grow only here, by one, after any merges. One that comes
+    /// with a merge is not counted as added.
+    fn impose(&mut self, el: ElId, ct: ConcreteType, added: &mut usize) -> Result<bool, Met> {
+        let classes = self.structure.els.len();
         let changed = self.structure.impose_concrete_type(el, ct);
         if changed && self.facts() > MAX_FACTS {
-            return Err(TooManyFacts);
+            return Err(TOO_MANY_FACTS);
         }
+        *added += usize::from(changed && self.structure.els.len() == classes);
+        Ok(changed)
+    }
+
+    /// The Rust's own `morphism_operation_constraints`. It adds no fact, and while it
+    /// runs applications and pairs only grow in number: so an entry was needed and its
+    /// table at its limit exactly when the table is over its limit afterwards, and 11
+    /// is not met in between.
+    fn obey_operations(&mut self, added: &mut usize) -> Result<bool, Met> {
+        let (facts, apps) = (self.facts(), self.structure.func_apps.len());
+        let changed = self.structure.morphism_operation_constraints(&self.signature);
+        assert_eq!(self.facts(), facts, "the laws add no fact");
+        if self.structure.func_apps.len() > MAX_APPS
+            || self.structure.pending_equalities.len() > MAX_PAIRS
+        {
+            return Err(NO_ROOM);
+        }
+        *added += self.structure.func_apps.len() - apps;
         Ok(changed)
     }
 

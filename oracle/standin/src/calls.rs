@@ -1,6 +1,8 @@
 //! The public calls with their refusals.
 
-use crate::close::{close, settle, Closed, Full, Settled};
+use std::mem;
+
+use crate::close::{close, settle, Closed, Met, Settled};
 use crate::faults::Fault;
 use crate::state::{App, Fact, Find, Model, MorApp, Relation, State, Type, Words};
 
@@ -111,6 +113,7 @@ impl State {
             (YesSettles, _) => is_yes,
             (NoSettles, Said(false)) => true,
             (ElevenSettles, Refused(11)) => true,
+            (NineSettles, Refused(9)) => [13, 15].contains(&w[1]),
             _ => false,
         };
         let is_taken = is_yes && !stays;
@@ -139,30 +142,47 @@ impl State {
                 self.begun |= w[1] >= 6 && !unseen;
                 answer
             }
-            Err(Full) => {
-                if let Some(before) = before.filter(|_| !self.is(Fault::RefusedCloseWorks)) {
-                    *self = before;
+            Err(Met(number)) => {
+                if let Some(before) = before {
+                    self.leave_refused(number, before);
                 }
-                Answer::Refused(11)
+                Answer::Refused(number)
             }
+        }
+    }
+
+    /// The state after a close that is refused with this number.
+    fn leave_refused(&mut self, number: u16, before: State) {
+        match self.fault {
+            Some(Fault::RefusedCloseWorks) => {}
+            Some(Fault::NineKeepsWork) if number == 9 => {}
+            Some(Fault::NineKeepsLinks) if number == 9 => {
+                let links = mem::take(&mut self.links);
+                *self = State { links, ..before };
+            }
+            _ => *self = before,
         }
     }
 
     fn refusal(&self, w: &Words) -> Option<u16> {
         let order = match self.fault {
-            Some(Fault::FourBeforeThree) => [4, 3, 5, 6, 7, 8, 9],
-            Some(Fault::FiveBeforeThree) => [5, 3, 4, 6, 7, 8, 9],
-            Some(Fault::FiveBeforeFour) => [3, 5, 4, 6, 7, 8, 9],
-            Some(Fault::SixBeforeFour) => [3, 6, 4, 5, 7, 8, 9],
-            Some(Fault::SixBeforeFive) => [3, 4, 6, 5, 7, 8, 9],
-            Some(Fault::SevenBeforeFive) => [3, 4, 7, 5, 6, 8, 9],
-            Some(Fault::EightBeforeFive) => [3, 4, 8, 5, 6, 7, 9],
-            Some(Fault::EightBeforeSix) => [3, 4, 5, 8, 6, 7, 9],
-            Some(Fault::NineBeforeFive) => [3, 4, 9, 5, 6, 7, 8],
-            Some(Fault::NineBeforeSix) => [3, 4, 5, 9, 6, 7, 8],
-            Some(Fault::NineBeforeSeven) => [3, 4, 5, 6, 9, 7, 8],
-            Some(Fault::NineBeforeEight) => [3, 4, 5, 6, 7, 9, 8],
-            _ => [3, 4, 5, 6, 7, 8, 9],
+            Some(Fault::FourBeforeThree) => [4, 3, 5, 6, 7, 12, 8, 9],
+            Some(Fault::FiveBeforeThree) => [5, 3, 4, 6, 7, 12, 8, 9],
+            Some(Fault::FiveBeforeFour) => [3, 5, 4, 6, 7, 12, 8, 9],
+            Some(Fault::SixBeforeFour) => [3, 6, 4, 5, 7, 12, 8, 9],
+            Some(Fault::SixBeforeFive) => [3, 4, 6, 5, 7, 12, 8, 9],
+            Some(Fault::SevenBeforeFive) => [3, 4, 7, 5, 6, 12, 8, 9],
+            Some(Fault::EightBeforeFive) => [3, 4, 8, 5, 6, 7, 12, 9],
+            Some(Fault::EightBeforeSix) => [3, 4, 5, 8, 6, 7, 12, 9],
+            Some(Fault::NineBeforeFive) => [3, 4, 9, 5, 6, 7, 12, 8],
+            Some(Fault::NineBeforeSix) => [3, 4, 5, 9, 6, 7, 12, 8],
+            Some(Fault::NineBeforeSeven) => [3, 4, 5, 6, 9, 7, 12, 8],
+            Some(Fault::NineBeforeEight) => [3, 4, 5, 6, 7, 12, 9, 8],
+            Some(Fault::TwelveBeforeThree) => [12, 3, 4, 5, 6, 7, 8, 9],
+            Some(Fault::TwelveBeforeFive) => [3, 4, 12, 5, 6, 7, 8, 9],
+            Some(Fault::TwelveBeforeSeven) => [3, 4, 5, 6, 12, 7, 8, 9],
+            Some(Fault::TwelveAfterNine) => [3, 4, 5, 6, 7, 8, 9, 12],
+            _ => [3, 4, 5, 6, 7, 12, 8, 9],
         };
         order.into_iter().find(|&number| self.applies(number, w))
     }
@@ -175,6 +195,7 @@ impl State {
             5 => self.is_any_undeclared(w),
             6 => self.is_wrong_type(w),
             7 => w[1] == 9 && self.is_barred(w[2]),
+            12 => w[1] == 9 && self.is_misapplied(w),
             8 => self.is_given_again(w),
             _ => self.has_no_room(w),
         }
@@ -281,14 +302,54 @@ impl State {
     }
 
     fn is_barred(&self, func: u16) -> bool {
+        use Fault::*;
         let barred = match self.fault {
-            Some(Fault::DomAndCodBarred) => 0..4,
-            Some(Fault::CompFree) => 2..3,
+            Some(DomAndCodBarred) => 0..4,
+            Some(CompFree) => 2..3,
+            Some(IdFree) => 3..4,
             _ => 2..4,
         };
+        let stands = |model: &Model| match self.fault {
+            Some(SevenWithoutRecord5) => true,
+            Some(OperationsFree) => false,
+            Some(SevenForOwnMor) => self.mor_apps.iter().any(|entry| entry.types[0] == model.mor),
+            _ => !self.mor_apps.is_empty(),
+        };
         let mut models = self.models.iter();
-        models.any(|model| model.funcs[barred.clone()].contains(&func))
-            || self.mor_apps.iter().any(|entry| entry.func == func)
+        models.any(|model| stands(model) && model.funcs[barred.clone()].contains(&func))
+            || (self.mor_apps.iter().any(|entry| entry.func == func) && !self.is(Record5Free))
+    }
+
+    /// Whether id has other than one argument, or comp other than two.
+    fn is_misapplied(&self, w: &Words) -> bool {
+        use Fault::*;
+        let is_wrong = |place: usize, count: u16| {
+            let is_operation = self.models.iter().any(|model| model.funcs[place] == w[2]);
+            is_operation && w[5] != count
+        };
+        let (of_id, of_comp) = (is_wrong(2, 1), is_wrong(3, 2));
+        match self.fault {
+            Some(NoTwelve) => false,
+            Some(IdTakesMore) => (of_id && w[5] == 0) || of_comp,
+            Some(IdTakesNone) => (of_id && w[5] > 0) || of_comp,
+            Some(IdTakesTwo) => is_wrong(2, 2) || of_comp,
+            Some(CompTakesMore) => of_id || (of_comp && w[5] < 2),
+            Some(CompTakesLess) => of_id || (of_comp && w[5] > 2),
+            Some(TwelveForParents) => {
+                let operations = self.models.iter().flat_map(|model| &model.funcs[2..]);
+                let declared = self.funcs.get(usize::from(w[2])).map(|func| func.parents.len());
+                let is_other = declared != Some(usize::from(w[4]));
+                of_id || of_comp || ({ operations }.any(|&func| func == w[2]) && is_other)
+            }
+            Some(TwelveByDomain) => {
+                let operations = self.models.iter().flat_map(|model| &model.funcs[2..]);
+                let declared = self.funcs.get(usize::from(w[2])).map(|func| func.domain.len());
+                let is_other = declared != Some(usize::from(w[5]));
+                { operations }.any(|&func| func == w[2]) && is_other
+            }
+            Some(TwelveForDomAndCod) => of_id || of_comp || is_wrong(0, 1) || is_wrong(1, 1),
+            _ => of_id || of_comp,
+        }
     }
 
     fn is_given_again(&self, w: &Words) -> bool {
@@ -399,7 +460,7 @@ impl State {
         app(w)
     }
 
-    fn stored_result(&self, key: &App) -> Option<u16> {
+    pub fn stored_result(&self, key: &App) -> Option<u16> {
         let place = self.func_apps.binary_search_by(|(app, _)| app.cmp(key));
         place.ok().map(|place| self.func_apps[place].1)
     }
@@ -411,7 +472,7 @@ impl State {
         stored != self.root(result)
     }
 
-    fn carry_out(&mut self, w: &Words) -> Result<Answer, Full> {
+    fn carry_out(&mut self, w: &Words) -> Result<Answer, Met> {
         let (parents, args) = (parents(w), args(w));
         Ok(match w[1] {
             1 => {
@@ -424,7 +485,7 @@ impl State {
                 Answer::Number(table.len() - 1)
             }
             4 => {
-                self.models.push(Model { typ: w[2], funcs: args });
+                self.models.push(Model { typ: w[2], mor: w[3], funcs: args });
                 Answer::Number(self.models.len() - 1)
             }
             5 => {
@@ -480,7 +541,7 @@ impl State {
     }
 
     /// Queues the pair as given; says whether the roots differ.
-    fn equate(&mut self, a: u16, b: u16) -> bool {
+    pub fn equate(&mut self, a: u16, b: u16) -> bool {
         let roots = [self.root(a), self.root(b)];
         let shortened = match self.fault {
             Some(Fault::EquateLeavesLinks) => vec![],
@@ -501,6 +562,16 @@ impl State {
     fn apply(&mut self, w: &Words) -> bool {
         let key = self.func_key(w);
         let result = if self.is(Fault::ApplicationResultAsGiven) { w[3] } else { self.root(w[3]) };
+        let links = self.links.clone();
+        let said = self.store_or_equate(key, result);
+        if self.is(Fault::ApplicationLeavesLinks) {
+            self.links = links;
+        }
+        said
+    }
+
+    /// Stores the application, or queues its result with the one that is stored.
+    pub fn store_or_equate(&mut self, key: App, result: u16) -> bool {
         match self.func_apps.binary_search_by(|(app, _)| app.cmp(&key)) {
             Err(place) => {
                 self.func_apps.insert(place, (key, result));
@@ -511,12 +582,7 @@ impl State {
                 if !self.queues_result(stored, result) {
                     return false;
                 }
-                let links = self.links.clone();
-                let differ = self.equate(stored, result);
-                if self.is(Fault::ApplicationLeavesLinks) {
-                    self.links = links;
-                }
-                differ || self.is(Fault::ApplicationSaysQueued)
+                self.equate(stored, result) || self.is(Fault::ApplicationSaysQueued)
             }
         }
     }

@@ -11,40 +11,60 @@ pub struct Closed {
     pub rounds: u16,
 }
 
-/// The close met its 1,025th fact.
-pub struct Full;
+/// The number that a close met.
+pub struct Met(pub u16);
+
+/// An entry needed, its table at its limit.
+pub const NO_ROOM: Met = Met(9);
+
+/// The 1,025th fact.
+pub const TOO_MANY_FACTS: Met = Met(11);
 
 /// A close at work.
-struct Work<'a> {
-    state: &'a mut State,
+pub struct Work<'a> {
+    pub state: &'a mut State,
     merges: u16,
+    /// Whether number 9 was met, and the pairs that functionality queued last; only
+    /// wrong versions look at these.
+    pub lacked_room: bool,
+    pub equated: usize,
 }
 
-/// Closes; a full one is handed back as far as it got.
-pub fn close(state: &mut State) -> Result<Closed, Full> {
-    let mut work = Work { state, merges: 0 };
+/// Closes; one that meets a number is handed back as far as it got.
+pub fn close(state: &mut State) -> Result<Closed, Met> {
+    let mut work = Work { state, merges: 0, lacked_room: false, equated: 0 };
     let mut changed = false;
     let mut rounds = 0;
     loop {
         rounds += 1;
         let drained = work.drain();
+        let mut obeyed = work.is(Fault::LawsBeforeFunctionality) && work.laws()?;
         let equated = work.functionality();
+        obeyed |= work.is(Fault::LawsBeforeTyping) && work.laws()?;
         let typed = work.typing()?;
+        let others = drained || equated || typed;
+        obeyed |= work.has_laws_now(rounds, others) && work.laws()?;
         let imposed = work.is(Fault::ImposesInRounds) && work.impositions()?;
-        if !drained && !equated && !typed && !imposed {
+        if !others && !obeyed && !imposed {
             break;
         }
-        changed = true;
-        if work.is(Fault::OneRound) {
+        changed |= others || !work.is(Fault::LawsUnreported);
+        if work.ends_early(rounds) {
             break;
         }
+    }
+    if work.is(Fault::LawsAfterRounds) {
+        changed |= work.laws()?;
     }
     let imposed = !work.is(Fault::ImposesInRounds) && work.impositions()?;
     changed |= imposed && !work.is(Fault::ImpositionsUnreported);
     work.canonicalise();
     let merges = work.merges;
     if work.is(Fault::FactsCountedAtEnd) && work.facts() > 1024 {
-        return Err(Full);
+        return Err(TOO_MANY_FACTS);
+    }
+    if work.lacked_room {
+        return Err(NO_ROOM);
     }
     if state.is(Fault::IdleRoundUncounted) {
         rounds -= 1;
@@ -68,7 +88,7 @@ pub struct Settled {
 
 /// Closes until one reports no change, at most once more than there are elements.
 /// A refused one leaves the state as it was.
-pub fn settle(state: &mut State) -> Result<Settled, Full> {
+pub fn settle(state: &mut State) -> Result<Settled, Met> {
     let before = state.clone();
     let els = state.links.len();
     let most = match state.fault {
@@ -83,13 +103,20 @@ pub fn settle(state: &mut State) -> Result<Settled, Full> {
     let mut left: Vec<State> = Vec::new();
     let mut each: Vec<Closed> = Vec::new();
     for _ in 0..most {
-        let Ok(closed) = close(state) else {
-            if state.is(Fault::SettleEndsAtEleven) && !each.is_empty() {
-                *state = left.pop().unwrap_or(before);
-                return Ok(summed(state, each));
+        let closed = match close(state) {
+            Ok(closed) => closed,
+            Err(met) => {
+                let ends = match met {
+                    Met(9) => state.is(Fault::SettleEndsAtNine),
+                    Met(_) => state.is(Fault::SettleEndsAtEleven),
+                };
+                if ends && !each.is_empty() {
+                    *state = left.pop().unwrap_or(before);
+                    return Ok(summed(state, each));
+                }
+                leave_refused(state, &met, before, left);
+                return Err(met);
             }
-            leave_refused(state, before, left);
-            return Err(Full);
         };
         let merged = closed.merges > 0;
         let changed = closed.changed;
@@ -131,8 +158,9 @@ fn summed(state: &State, each: Vec<Closed>) -> Settled {
 }
 
 /// The state after a settle that is refused in the close after those in `left`.
-fn leave_refused(state: &mut State, before: State, mut left: Vec<State>) {
+fn leave_refused(state: &mut State, met: &Met, before: State, mut left: Vec<State>) {
     match state.fault {
+        Some(Fault::NineKeepsSettle) if met.0 == 9 => *state = left.pop().unwrap_or(before),
         Some(Fault::RefusedSettleWorks) => {}
         Some(Fault::RefusedSettleKeepsFirst) => {
             *state = left.into_iter().next().unwrap_or(before);
@@ -147,8 +175,29 @@ fn leave_refused(state: &mut State, before: State, mut left: Vec<State>) {
 }
 
 impl Work<'_> {
-    fn is(&self, fault: Fault) -> bool {
+    pub fn is(&self, fault: Fault) -> bool {
         self.state.is(fault)
+    }
+
+    /// Whether the laws come at the end of this round; always but for wrong versions.
+    fn has_laws_now(&self, rounds: u16, others: bool) -> bool {
+        use Fault::*;
+        match self.state.fault {
+            Some(NoLaws | LawsBeforeFunctionality | LawsBeforeTyping | LawsAfterRounds) => false,
+            Some(LawsInFirstRound) => rounds == 1,
+            Some(LawsInLastRound) => !others,
+            _ => true,
+        }
+    }
+
+    /// Whether a wrong version stops after this round, which worked.
+    fn ends_early(&self, rounds: u16) -> bool {
+        match self.state.fault {
+            Some(Fault::OneRound) => true,
+            Some(Fault::FewRounds) => usize::from(rounds) == self.state.links.len() + 2,
+            Some(Fault::RoundsByMerges) => rounds == self.merges + 2,
+            _ => false,
+        }
     }
 
     fn next_pair(&mut self) -> Option<(u16, u16)> {
@@ -160,7 +209,7 @@ impl Work<'_> {
     }
 
     /// Drains the queue; says whether a merge happened.
-    fn drain(&mut self) -> bool {
+    pub fn drain(&mut self) -> bool {
         let mut merged = false;
         while let Some((a, b)) = self.next_pair() {
             merged |= self.merge(a, b);
@@ -229,11 +278,12 @@ impl Work<'_> {
             }
         }
         self.state.func_apps = new;
+        self.equated = self.state.pairs.len();
         worked
     }
 
     /// Function arguments, predicate arguments, function results.
-    fn typing(&mut self) -> Result<bool, Full> {
+    fn typing(&mut self) -> Result<bool, Met> {
         let apps = self.state.func_apps.clone();
         let mut worked = false;
         if self.is(Fault::ResultsFirst) {
@@ -256,12 +306,12 @@ impl Work<'_> {
             worked |= self.type_results(&apps)?;
         }
         if self.is(Fault::FactsCountedPerPass) && self.facts() > 1024 {
-            return Err(Full);
+            return Err(TOO_MANY_FACTS);
         }
         Ok(worked)
     }
 
-    fn type_arguments(&mut self, app: &App, types: &[u16]) -> Result<bool, Full> {
+    fn type_arguments(&mut self, app: &App, types: &[u16]) -> Result<bool, Met> {
         let mut worked = false;
         for (index, &arg) in app.args.iter().enumerate() {
             let past = types.last().filter(|_| self.is(Fault::PastDomain));
@@ -279,7 +329,7 @@ impl Work<'_> {
         Ok(worked)
     }
 
-    fn type_predicates(&mut self) -> Result<bool, Full> {
+    fn type_predicates(&mut self) -> Result<bool, Met> {
         let mut worked = false;
         for app in self.state.pred_apps.clone() {
             let arity = self.state.preds[usize::from(app.head)].domain.clone();
@@ -288,7 +338,7 @@ impl Work<'_> {
         Ok(worked)
     }
 
-    fn type_results(&mut self, apps: &[(App, u16)]) -> Result<bool, Full> {
+    fn type_results(&mut self, apps: &[(App, u16)]) -> Result<bool, Met> {
         let mut worked = false;
         for (app, result) in apps {
             let codomain = self.state.funcs[usize::from(app.head)].codomain;
@@ -299,7 +349,7 @@ impl Work<'_> {
         Ok(worked)
     }
 
-    fn impositions(&mut self) -> Result<bool, Full> {
+    fn impositions(&mut self) -> Result<bool, Met> {
         let mut queued = self.state.impositions.clone();
         if self.is(Fault::ImpositionsReversed) {
             queued.reverse();
@@ -309,17 +359,17 @@ impl Work<'_> {
             worked |= self.impose(*el, fact)?;
         }
         if self.is(Fault::FactsCountedPerPass) && self.facts() > 1024 {
-            return Err(Full);
+            return Err(TOO_MANY_FACTS);
         }
         Ok(worked)
     }
 
-    fn impose(&mut self, el: u16, fact: &Fact) -> Result<bool, Full> {
+    fn impose(&mut self, el: u16, fact: &Fact) -> Result<bool, Met> {
         if self.is(Fault::FullBeforeMerges) && self.facts() == 1024 {
             let new = self.state.fact_as_roots(fact);
             let root = self.state.root(el);
             if !self.state.facts[usize::from(root)].contains(&new) {
-                return Err(Full);
+                return Err(TOO_MANY_FACTS);
             }
         }
         let merged = self.join_parents(el, fact);
@@ -334,7 +384,7 @@ impl Work<'_> {
         let grew = self.state.insert_fact(&mut facts, new);
         self.state.facts[at] = facts;
         if grew && self.is_full() {
-            return Err(Full);
+            return Err(TOO_MANY_FACTS);
         }
         Ok(grew || (merged && !self.is(Fault::MergeSaysNo)))
     }

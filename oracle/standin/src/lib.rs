@@ -7,6 +7,7 @@
 mod calls;
 mod close;
 mod faults;
+mod laws;
 mod print;
 mod sheet;
 mod state;

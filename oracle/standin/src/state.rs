@@ -40,6 +40,7 @@ pub struct Relation {
 #[derive(Clone)]
 pub struct Model {
     pub typ: u16,
+    pub mor: u16,
     /// dom, cod, id, comp
     pub funcs: Vec<u16>,
 }

@@ -3,7 +3,7 @@ use mathlib.Core.Path.{_≡_, ap, _∙_}
 use mathlib.Core.Bool.{false, not, _||_}
 use mathlib.Core.List.{List, [], _∷_}
 use lib.ListN.{length}
-use Rattle.ids.specs.Answers.{Cause, _if_, malformed, undeclared, reserved, noRoom}
+use Rattle.ids.specs.Answers.{Cause, _if_, malformed, undeclared, reserved, wrongArgCount, noRoom}
 use Rattle.ids.specs.Limits.{maxList}
 use Rattle.ids.specs.Ids.{tooLong, givenEls}
 use Rattle.ids.specs.Judge.{verdictOf}
@@ -13,7 +13,7 @@ use Rattle.unification.specs.Roots.{maxEls}
 use Rattle.signature.specs.Model.{Sig, sigOf}
 use Rattle.semantics.specs.Structure as model
 use Rattle.semantics.specs.Structure.{func-app}
-use Rattle.semantics.specs.Calls.{isReserved, appliedTo, applicationCauses, apply-func, applicationRule, rule, acceptance}
+use Rattle.semantics.specs.Calls.{isReserved, isMisapplied, appliedTo, applicationCauses, apply-func, applicationRule, rule, acceptance}
 use Rattle.semantics.proofs.Judged.{step-refuses}
 use Rattle.apps.specs.View.{funcAppOf}
 use Rattle.structure.specs.View.{structureOf}
@@ -31,11 +31,11 @@ many-marks c = long _ (c .args .structure .«inferred_parent_els») _ (c .good .
 many-links : (c : tie.Start) → length (c .args .structure .unification .links) ≡ maxEls
 many-links c = long _ (c .args .structure .unification .links) _ (c .good .0 .1 .1 .1 .1 .1 .1 .1 .0 .1 .1 .0 .1 .0 .1)
 
-abbrev made : tie.After-refuse-if4 → tie.After-insert-func-app-or-equate
-made c = c .before .before .before .before .before .before .before .before .before
+abbrev made : tie.After-refuse-if5 → tie.After-insert-func-app-or-equate
+made c = c .before .before .before .before .before .before .before .before .before .before .before
 
-abbrev start : tie.After-refuse-if4 → tie.Start
-start c = made c .before .before .before .before .before .before
+abbrev start : tie.After-refuse-if5 → tie.Start
+start c = made c .before .before .before .before .before .before .before
 
 long-parents : (c : tie.Start) → length (c .args .app .parents .ids) ≡ maxList
 long-parents c = long _ (c .args .app .parents .ids) _ (c .good .1 .1 .0 .1 .1 .1 .0 .1 .1 .0 .1 .0 .1)
@@ -51,15 +51,21 @@ given c =
 
 -- the causes behind the first
 abbrev later : Sig → model.Structure → model.FuncApp → List Cause
-later g s x = undeclared if not (appDeclared g s x) ∷ reserved if isReserved g (x .func) ∷ noRoom if appliedTo s x .full ∷ []
+later g s x =
+    undeclared if not (appDeclared g s x)
+    ∷ reserved if isReserved g (x .func)
+    ∷ wrongArgCount if isMisapplied x (g .models)
+    ∷ noRoom if appliedTo s x .full
+    ∷ []
 
 -- the verdict, as the causes decide it
-so-far : (c : tie.After-refuse-if4) → let a = start c .args in
-    SoFar (verdictOf (c .refuse-if4 .result)) (applicationCauses (sigOf (a .signature)) (structureOf (a .structure)) (givenFuncApp (a .app)))
+so-far : (c : tie.After-refuse-if5) → let a = start c .args in
+    SoFar (verdictOf (c .refuse-if5 .result)) (applicationCauses (sigOf (a .signature)) (structureOf (a .structure)) (givenFuncApp (a .app)))
 unfolding applicationCauses
 so-far c =
     let a = start c .args in
-    let third = c .before in
+    let fourth = c .before in
+    let third = fourth .before .before in
     let second = third .before .before in
     let first = second .before in
     let either = first .before .before in
@@ -67,10 +73,11 @@ so-far c =
     let s1 = judge malformed begin (first .refuse-if .ensures) long-list in
     let s2 = judge undeclared s1 (second .refuse-if2 .ensures) (ap not (first .before .app-is-declared .ensures)) in
     let s3 = judge reserved s2 (third .refuse-if3 .ensures) (third .before .is-reserved .ensures) in
+    let s4 = judge wrongArgCount s3 (fourth .refuse-if4 .ensures) (fourth .before .is-misapplied .ensures) in
     let met = made c .insert-func-app-or-equate in
-    let s4 = judge noRoom s3 (c .refuse-if4 .ensures) (met-full (a .structure) (met .result) _ (met .ensures)) in
+    let s5 = judge noRoom s4 (c .refuse-if5 .ensures) (met-full (a .structure) (met .result) _ (met .ensures)) in
     record {
-      is = s4 .is ∙ behind malformed _ (givenFuncApp (a .app)) (funcAppOf (a .app)) (later (sigOf (a .signature)) (structureOf (a .structure))) (given (start c));
+      is = s5 .is ∙ behind malformed _ (givenFuncApp (a .app)) (funcAppOf (a .app)) (later (sigOf (a .signature)) (structureOf (a .structure))) (given (start c));
     }
 
 returns : tie.Need-returns
@@ -86,13 +93,15 @@ returns-2 c =
     let r = made judged .insert-func-app-or-equate .result in
     let after = long _ (r .unification .links) _ (made judged .insert-func-app-or-equate .ok .1 .1 .0 .1 .1 .0 .1 .0 .1) in
     held-accepts apply-func _ (so-far judged) (ap verdictOf (asked .enum-told .given .1)) (λ none. given (start judged) (none .0)) (λ none.
-    applies s r _ (made judged .insert-func-app-or-equate .ensures) (many-marks (start judged)) (many-links (start judged)) after (none .1 .1 .1 .0) _
+    applies s r _ (made judged .insert-func-app-or-equate .ensures) (many-marks (start judged)) (many-links (start judged)) after (none .1 .1 .1 .1 .0) _
     (c .accept .ensures _))
 
 pub insert-func-app-or-equate-spec : {M : Type 1} → statement M
 insert-func-app-or-equate-spec =
     tie.close
     (tie.spec
+    (λ c κs. search needs)
+    (λ c κs. search needs)
     (λ c κs. search needs)
     (λ c κs. search needs)
     (λ c κs. search needs)

@@ -1,7 +1,7 @@
 -- `is_reserved` meets its contract.
-use mathlib.Core.Path.{sym}
-use Rattle.ids.proofs.Answers.{or-left}
-use Rattle.ids.proofs.Tests.{told, or-then}
+use mathlib.Core.Path.{_∙_}
+use mathlib.Core.Bool.{_&&_, _||_}
+use lib.Dec.{ltb}
 use Rattle.semantics.specs.Calls.{isReserved}
 use borrow.Author.Needs.{needs}
 use Rattle.inserting.proofs.is_reserved.Statement.{statement}
@@ -9,13 +9,12 @@ use Rattle.inserting.proofs.is_reserved.Tie as tie
 
 returns : tie.Need-returns
 unfolding isReserved
-returns c = sym (or-left _ (told (c .before .is-id-or-comp .ensures) (c .if1 .taken)))
-
-returns-2 : tie.Need-returns-2
-unfolding isReserved
-returns-2 c =
-    let e1 = c .before .before in
-    sym (or-then (told (e1 .before .is-id-or-comp .ensures) (e1 .if1 .left)) (sym (c .has-func .ensures)))
+returns c =
+    let operation = c .before .before in
+    let named = operation .before in
+    let many = named .before .size .ensures .is in
+    c .or .ensures
+    ∙ (λ i. c .before .has-func .ensures i || (operation .and .ensures ∙ (λ j. named .is-id-or-comp .ensures j && ltb 0 (many j))) i)
 
 pub is-reserved-spec : {M : Type 1} → statement M
-is-reserved-spec = tie.close (tie.spec (λ c κs. search needs) returns (λ c κs. search needs) returns-2)
+is-reserved-spec = tie.close (tie.spec (λ c κs. search needs) (λ c κs. search needs) (λ c κs. search needs) (λ c κs. search needs) (λ c κs. search needs) returns)

@@ -4,8 +4,7 @@ use mathlib.Core.List.{[]}
 use Prim.Native.Nat.{_+_, _-_, _≤_, _<_}
 use native.Mathlib.Omega.{arith}
 use lib.ListN.{length, getD}
-use Rattle.ids.proofs.Tables.{at-entry}
-use Rattle.ids.proofs.Views.{length-view}
+use Rattle.rows.proofs.Positions.{row-within}
 use Rattle.rows.proofs.Shifting.{place-within}
 use Rattle.semantics.specs.Structure.{maxFuncApps, maxPairs, compareFuncApp, canonicalFuncApp}
 use Rattle.apps.specs.View.{funcAppOf}
@@ -110,11 +109,7 @@ within : (c : tie.After-known-told2 Inv-loop μ-loop) → c .before .at2 .given 
 within c =
     let asked = c .before .before .before in
     let l = test asked .before .loop in
-    omega (
-      arith,
-      length-view funcAppIn (l .k) (l .apps),
-      at-entry compareFuncApp _ (funcAppIn []) _ _ (sym (asked .position .ensures) ∙ c .before .at2 .given .1) .0,
-    )
+    row-within compareFuncApp funcAppIn _ (l .k) (l .apps) [] (sym (asked .position .ensures) ∙ c .before .at2 .given .1)
 
 mul-func-app-of-2 : tie.Need-mul-func-app-of-2 Inv-loop μ-loop
 mul-func-app-of-2 c = search (needs, within c, few (test (c .before .before .before)) .1 .0)

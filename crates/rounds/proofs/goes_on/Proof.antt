@@ -3,7 +3,7 @@ use mathlib.Core.Path.{_≡_, refl, sym, ap, _∙_}
 use mathlib.Core.Bool.{Bool, true, false, _&&_}
 use Rattle.ids.proofs.Answers.{and-right}
 use Rattle.semantics.specs.Close.{isNone}
-use Rattle.rounds.proofs.Laws.{met-none, met-some}
+use Rattle.merging.proofs.Laws.{met-none, met-some}
 use Rattle.rounds.proofs.goes_on.Statement.{statement}
 use Rattle.rounds.proofs.goes_on.Tie as tie
 

@@ -1,9 +1,10 @@
 -- `round` meets its contract.
 use mathlib.Core.Path.{sym, _∙_}
 use mathlib.Core.Bool.{_||_}
+use mathlib.Core.List.{[]}
 use native.Mathlib.Omega.{arith}
 use Rattle.signature.specs.Model.{sigOf}
-use Rattle.rounds.proofs.Passes.{requeued-holds, requeued-counted, requeued-preds, round-is}
+use Rattle.rounds.proofs.Passes.{requeued-holds, requeued-counted, requeued-preds, typed-holds, round-is}
 use Rattle.merging.proofs.Laws.{func-apps-kept, pred-apps-kept}
 use borrow.Author.Needs.{needs}
 use Rattle.rounds.proofs.round.Statement.{statement}
@@ -57,34 +58,53 @@ grew-requires c κs =
     let same = requeued-counted (r .functionality .ensures) in
     (omega (arith, start d .pre .1 .0, most, same), omega (arith, start d .pre .1 .0, most, same, t .typing .ensures .count-most))
 
+-- the last pass
+
+abbrev late : tie.After-or2 → tie.After-or
+late c = c .before .before
+
+morphism-operation-constraints-requires : tie.Need-morphism-operation-constraints-requires
+morphism-operation-constraints-requires c κs =
+    let t = typing (late (c .before .before .before)) in
+    let r = functionality t in
+    typed-holds _ (start (drain r) .args .preds .now) (drain r .drain-equalities .ensures) (r .functionality .ensures) (t .typing .ensures) _
+
+abbrev done : tie.After-pairs2 → tie.After-morphism-operation-constraints
+done c = c .before .before .before
+
+abbrev judged : tie.After-morphism-operation-constraints → tie.After-or2
+judged c = c .before .before .before .before
+
 same-length : tie.Need-same-length
 same-length c =
-    let t = typing (c .before .before) in
-    t .typing .ensures .holds .els-held .long ∙ sym (start (drain (functionality t)) .pre .0 .els-held .long)
+    let d = done c in
+    d .morphism-operation-constraints .ensures [] .holds .els-held .long ∙ sym (start (drain (functionality (typing (late (judged d))))) .pre .0 .els-held .long)
 
 same-length-2 : tie.Need-same-length-2
 same-length-2 c =
-    let t = typing (c .before .before) in
+    let t = typing (late (judged (done c))) in
     t .typing .ensures .holds .facts-held .long ∙ sym (start (drain (functionality t)) .pre .0 .facts-held .long)
 
 same-length-3 : tie.Need-same-length-3
 same-length-3 c =
-    let r = functionality (typing (c .before .before)) in
-    r .functionality .ensures .pairs-long ∙ sym (start (drain r) .pre .0 .pairs-held .long)
+    let d = done c in
+    d .morphism-operation-constraints .ensures [] .holds .pairs-held .long ∙ sym (start (drain (functionality (typing (late (judged d))))) .pre .0 .pairs-held .long)
 
 same-length-4 : tie.Need-same-length-4
 same-length-4 c =
-    let r = functionality (typing (c .before .before)) in
-    r .functionality .ensures .apps-long ∙ sym (start (drain r) .pre .1 .1 .0 .1)
+    let d = done c in
+    d .morphism-operation-constraints .ensures [] .holds .apps-held .long ∙ sym (start (drain (functionality (typing (late (judged d))))) .pre .1 .1 .0 .1)
 
 returns : tie.Need-returns
 returns c =
-    let t = typing (c .before .before) in
+    let d = done c in
+    let j = judged d in
+    let t = typing (late j) in
     let r = functionality t in
-    let d = drain r in
-    let a = start d .args in
-    round-is (sigOf (a .signature)) (a .preds .now) (d .drain-equalities .ensures) (r .functionality .ensures) (t .typing .ensures)
-    (c .or2 .ensures ∙ (λ i. c .before .before .or .ensures i || c .before .grew .ensures i))
+    let e = drain r in
+    let a = start e .args in
+    round-is (sigOf (a .signature)) (a .preds .now) (e .drain-equalities .ensures) (r .functionality .ensures) (t .typing .ensures)
+    (d .morphism-operation-constraints .ensures) (j .or2 .ensures ∙ (λ i. late j .or .ensures i || j .before .grew .ensures i))
 
 pub round-spec : {M : Type 1} → statement M
 round-spec =
@@ -96,6 +116,7 @@ round-spec =
     (λ c κs. search needs)
     grew-requires
     (λ c κs. search needs)
+    morphism-operation-constraints-requires
     same-length
     same-length-2
     same-length-3
