@@ -15,6 +15,5 @@ pub mod Operations
 pub mod Pairs
 pub mod Computes
 pub mod ProvedCases
-pub mod FullTables
 pub mod RefusedSettle
 pub mod WrongSettles

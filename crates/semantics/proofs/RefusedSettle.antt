@@ -30,7 +30,6 @@ use Rattle.semantics.proofs.Orders.{fact-ordered}
 use Rattle.semantics.proofs.Cases.{and-first, and-second}
 use Rattle.semantics.proofs.Computes.{everything}
 use Rattle.semantics.proofs.Settling.{close-accepted, close-refused, settle-refuses}
-use Rattle.semantics.proofs.FullTables.{fullRows, fullRowHolds}
 use Rattle.semantics.proofs.ProvedCases as rows
 use Rattle.semantics.proofs.ProvedCases.{typ, plainEl, markedEl, types2, downFrom, setFacts, factsBefore, callsFrom, tells, closes, refuses}
 use Rattle.semantics.proofs.ProvedCases.{link, settled, machine, el, flag, whole, _is_, stated, answersOf, outputOf, machineOf, look, shownBy}
@@ -387,18 +386,15 @@ undone-holds : Holds settle-undone
 unfolding shownBy statedBy outputOf machineOf answersOf stated afterCalls look settle-undone
 undone-holds = ap (λ (x : Step). record { output = tells (stated (x .answer) []); seen = whole (x .after) ∷ [] }) settle-step
 
--- The table of proved cases: the rows that compute, those on full tables, and these.
+-- The table of proved cases: the rows that compute, and these.
 
 pub cases : List Row
-cases = table ++ (fullRows ++ (second-refused ∷ settle-undone ∷ []))
+cases = table ++ (second-refused ∷ settle-undone ∷ [])
 
 -- every row of it holds
 pub everyRowHolds : (r : Row) → List·Memᴰ r cases → Holds r
 unfolding cases
-everyRowHolds r m = elim (List·Memᴰ·append-cases table m) [
-  | inl c ↦ computedRowHolds r c
-  | inr c ↦ elim (List·Memᴰ·append-cases fullRows c) [ inl d ↦ fullRowHolds r d | inr d ↦ go d ]
-]
+everyRowHolds r m = elim (List·Memᴰ·append-cases table m) [ inl c ↦ computedRowHolds r c | inr c ↦ go c ]
   where
     go : List·Memᴰ r (second-refused ∷ settle-undone ∷ []) → Holds r
     go (List·Memᴰ·head e) = subst Holds (sym e) second-holds

@@ -15,3 +15,4 @@ pub mod Settling
 pub mod Reserved
 pub mod Limit
 pub mod OtherLimits
+pub mod FullTables

@@ -1,14 +1,15 @@
--- Rows on number 9 inside a close (02, M-102), each computed by itself.
+-- Rows on number 9 inside a close (02, M-102), as those of semantics/proofs/ProvedCases, each computed by itself. They stand here since they take long to
+-- compute and this crate has no must-fail edit, which would compute them again.
 use mathlib.Core.Path.{refl}
 use mathlib.Core.List.{List, [], _∷_, _++_, List·Memᴰ}
 use Prim.Native.Nat.{ℕ, zero, suc, _-_, _/_, _%_}
 use Rattle.ids.proofs.Sorted.{all-at}
 use Rattle.semantics.specs.Structure.{FuncApp, func-app, maxFuncApps, maxFacts, with-func-apps}
 use Rattle.signature.specs.Model.{maxTypes, plain}
 use Rattle.semantics.specs.Calls as steps
 use Rattle.semantics.specs.Calls.{close, settle, afterCalls, Machine, start}
 use Rattle.semantics.proofs.Computes.{everything}
 use Rattle.semantics.proofs.ProvedCases.{Row, Holds, calls, callsFrom, tells, closes, refuses, app, typ, plainEl, impose, downFrom, factsBefore, setFacts, signature102, identity, shownBy, statedBy, stated, answersOf, outputOf, machineOf, look}
 
 -- n applications of function 4 to two of sixteen elements, each to others, before the applications xs
 unfoldable pub appsBefore : ℕ → List FuncApp → List FuncApp
