@@ -1,5 +1,5 @@
-//! Times the Rust's close and the port's on the same sheets, a settle beside as many closes of the Rust, and a call of the
-//! port that does nothing, and prints a table.
+//! Times the Rust's close and the port's on the same sheets, a settle beside as many closes of the Rust, both sides' conflict
+//! reports, and a call of the port that does nothing, and prints a table.
 
 mod clock;
 mod port;
@@ -20,9 +20,11 @@ const TURNS: usize = 7;
 /// Where the Rust takes longer, either side is timed once in a run: it is far above the clock's errors.
 const SLOW: Duration = Duration::from_secs(2);
 
-/// A sheet, and how many calls are timed at once on either side: so few that the Rust's copies stay in the processor's cache.
+/// A sheet, the call that is timed on it, and how many at once on either side: of closes so few that the Rust's copies stay in
+/// the processor's cache.
 struct Input {
     name: &'static str,
+    call: Call,
     sheet: Vec<u8>,
     times: u64,
 }
@@ -30,7 +32,6 @@ struct Input {
 /// A row of the table, with the time of a call in each run. The Rust has no part in a call that does nothing.
 struct Row {
     input: Input,
-    call: Call,
     line: String,
     prepared: Option<Prepared>,
     rust: Vec<f64>,
@@ -43,33 +44,39 @@ fn main() {
     let words: Vec<String> = args.collect();
     let sample =
         |name| fs::read(format!("{root}/samples/{name}.sheet")).expect("the sample is there");
-    let input = |name, sheet, times| Input { name, sheet, times };
-    let nothing = input("nothing", sample("p1"), 1000);
+    let input = |name, call, sheet, times| Input { name, call, sheet, times };
+    let close = |name, sheet, times| input(name, Call::Close, sheet, times);
+    let settle = |name, sheet, times| input(name, Call::Settle, sheet, times);
+    let conflicts = |name, sheet, times| input(name, Call::Conflicts, sheet, times);
     let inputs = [
-        input("P1", sample("p1"), 1000),
-        input("P2", sample("p2"), 300),
-        input("two-names", sample("two-names"), 300),
-        input("P5", sample("p5"), 300),
-        input("unnamed-box", sample("unnamed-box"), 100),
-        input("two chains of 128, 256 facts", sheets::two_chains_250(), 2),
-        input("two chains of 128, 990 facts", sheets::two_chains_990(), 1),
-        input("two chains of 128, 990 facts, all marked", sheets::two_chains_marked(), 1),
-        input("one chain of 256, 256 facts", sheets::one_chain_250(), 2),
-        input("one chain of 256, 990 facts", sheets::one_chain_990(), 1),
-        input("one chain of 252, 1,024 facts gathering", sheets::gathering(), 1),
-        input("a chain of 127 composites", sheets::composites(), 2),
-        input("transfer-box", sample("transfer-box"), 100),
-        input("P5, settled", sample("p5-settled"), 300),
-        input("unnamed-box, settled", sample("unnamed-box-settled"), 100),
-        input("33 elements merged one by one, settled", sheets::merged_one_by_one(), 20),
-        input("two chains of 128, 990 facts, settled", sheets::two_chains_settled(), 1),
+        input("nothing", Call::Nothing, sample("p1"), 1000),
+        close("P1", sample("p1"), 1000),
+        close("P2", sample("p2"), 300),
+        close("two-names", sample("two-names"), 300),
+        close("P5", sample("p5"), 300),
+        close("unnamed-box", sample("unnamed-box"), 100),
+        close("two chains of 128, 256 facts", sheets::two_chains_250(), 2),
+        close("two chains of 128, 990 facts", sheets::two_chains_990(), 1),
+        close("two chains of 128, 990 facts, all marked", sheets::two_chains_marked(), 1),
+        close("one chain of 256, 256 facts", sheets::one_chain_250(), 2),
+        close("one chain of 256, 990 facts", sheets::one_chain_990(), 1),
+        close("one chain of 252, 1,024 facts gathering", sheets::gathering(), 1),
+        close("a chain of 127 composites", sheets::composites(), 2),
+        close("transfer-box", sample("transfer-box"), 100),
+        settle("P5, settled", sample("p5-settled"), 300),
+        settle("unnamed-box, settled", sample("unnamed-box-settled"), 100),
+        settle("33 elements merged one by one, settled", sheets::merged_one_by_one(), 20),
+        settle("two chains of 128, 990 facts, settled", sheets::two_chains_settled(), 1),
+        conflicts("P2, conflicts", sample("p2"), 1000),
+        conflicts("1,024 facts in one class, conflicts", sheets::one_class(), 200),
+        conflicts("1,024 facts in 256 classes, conflicts", sheets::many_classes(), 200),
+        conflicts("1,024 facts agreeing in 4 classes, conflicts", sheets::agreeing(4), 200),
+        conflicts("1,024 facts agreeing in 64 classes, conflicts", sheets::agreeing(64), 200),
     ];
     let is_asked = |input: &Input| {
         words.is_empty() || words.iter().any(|word| input.name.contains(word.as_str()))
     };
-    let first = Some(nothing).filter(is_asked).map(Row::of_nothing);
-    let rest = inputs.into_iter().filter(is_asked).map(Row::of_both);
-    let mut rows: Vec<Row> = first.into_iter().chain(rest).collect();
+    let mut rows: Vec<Row> = inputs.into_iter().filter(is_asked).map(Row::new).collect();
     for _ in 0..RUNS {
         rows.iter_mut().for_each(Row::run);
     }
@@ -84,28 +91,25 @@ fn main() {
 }
 
 impl Row {
-    fn of_nothing(input: Input) -> Row {
-        let line = Call::Nothing.line(&input.sheet);
-        Row { input, call: Call::Nothing, line, prepared: None, rust: vec![], port: vec![] }
-    }
-
     /// Both sides must print the same line.
-    fn of_both(input: Input) -> Row {
-        let prepared = Prepared::new(&input.sheet);
-        let call = if prepared.is_settle() { Call::Settle } else { Call::Close };
-        let line = call.line(&input.sheet);
-        assert_eq!(prepared.line().trim_end(), line, "{}: the two sides differ", input.name);
-        Row { input, call, line, prepared: Some(prepared), rust: vec![], port: vec![] }
+    fn new(input: Input) -> Row {
+        let Input { name, call, ref sheet, .. } = input;
+        let line = call.line(sheet);
+        let prepared = call.kind().map(|kind| Prepared::new(sheet, kind));
+        if let Some(prepared) = &prepared {
+            assert_eq!(prepared.line(), line, "{name}: the two sides differ");
+        }
+        Row { input, line, prepared, rust: vec![], port: vec![] }
     }
 
     /// Times the two sides in turn. Of the port a run with no call is timed too, and taken off: that is the building of
     /// the sheet.
     fn run(&mut self) {
-        let Input { sheet, times, .. } = &self.input;
+        let Input { call, sheet, times, .. } = &self.input;
         let (mut built, mut called, mut rust) = (Duration::MAX, Duration::MAX, Duration::MAX);
         for _ in 0..TURNS {
-            built = built.min(self.call.time(sheet, 0));
-            called = called.min(self.call.time(sheet, *times));
+            built = built.min(call.time(sheet, 0));
+            called = called.min(call.time(sheet, *times));
             if let Some(prepared) = &self.prepared {
                 rust = rust.min(prepared.time(*times, clock::now));
                 if rust > SLOW {

@@ -2,15 +2,18 @@
 
 use std::time::Duration;
 
+use oracle::timing::{CLOSE, CONFLICTS, SETTLE};
+
 use crate::clock;
 
-/// Builds the sheet of so many bytes once and makes the call so many times; the four words get the three numbers of its
-/// answer, and the last that was read of the structures returned.
+/// Builds the sheet of so many bytes once and makes the call so many times; the four words get the numbers of its answer,
+/// at most three, and the last that was read of what the calls returned.
 type Calls = unsafe extern "C" fn(*const u8, usize, u64, *mut u64);
 
 extern "C" {
     fn bench_close(bytes: *const u8, length: usize, times: u64, out: *mut u64);
     fn bench_settle(bytes: *const u8, length: usize, times: u64, out: *mut u64);
+    fn bench_conflicts(bytes: *const u8, length: usize, times: u64, out: *mut u64);
     fn bench_nothing(bytes: *const u8, length: usize, times: u64, out: *mut u64);
 }
 
@@ -19,6 +22,7 @@ extern "C" {
 pub enum Call {
     Close,
     Settle,
+    Conflicts,
     /// Takes and gives the structure as a close does, and answers as a close of a fresh one.
     Nothing,
 }
@@ -28,7 +32,18 @@ impl Call {
         match self {
             Call::Close => bench_close,
             Call::Settle => bench_settle,
+            Call::Conflicts => bench_conflicts,
             Call::Nothing => bench_nothing,
+        }
+    }
+
+    /// The kind of the record that makes the call.
+    pub fn kind(self) -> Option<u16> {
+        match self {
+            Call::Close => Some(CLOSE),
+            Call::Settle => Some(SETTLE),
+            Call::Conflicts => Some(CONFLICTS),
+            Call::Nothing => None,
         }
     }
 
@@ -40,12 +55,13 @@ impl Call {
         (out, clock::now() - start)
     }
 
-    /// The line that one call prints.
+    /// The line that one call prints, of several the last.
     pub fn line(self, sheet: &[u8]) -> String {
-        let [first, merges, rounds, _] = self.run(sheet, 1).0;
+        let [first, second, third, _] = self.run(sheet, 1).0;
         match self {
-            Call::Settle => format!("settle {first} {merges}"),
-            _ => format!("close {first} {merges} {rounds}"),
+            Call::Settle => format!("settle {first} {second}"),
+            Call::Conflicts => format!("conflicts {first} {second}"),
+            Call::Close | Call::Nothing => format!("close {first} {second} {third}"),
         }
     }
 

@@ -1,7 +1,10 @@
-//! The sheets that are timed. Each is at most 1,024 records and ends with its close or settle.
+//! The sheets that are timed. Each is at most 1,024 records and ends with the close, the settle or the conflicts timed.
 
 /// The most elements of a structure.
 const ELS: u16 = 256;
+
+/// The most facts.
+const FACTS: u16 = 1024;
 
 /// A sheet in the making: records of sixteen words, chained in order.
 #[derive(Default)]
@@ -80,8 +83,8 @@ impl Sheet {
         }
     }
 
-    fn impose(&mut self, el: u16, typ: u16, parent: u16) {
-        self.record(8, el, typ, &[parent], &[]);
+    fn impose(&mut self, el: u16, typ: u16, parents: &[u16]) {
+        self.record(8, el, typ, parents, &[]);
     }
 
     /// The bytes, with a close at the end.
@@ -92,6 +95,12 @@ impl Sheet {
     /// The bytes, with a settle at the end.
     fn settled(self) -> Vec<u8> {
         self.ended(15)
+    }
+
+    /// The bytes, with a close and the conflicts at the end.
+    fn reported(mut self) -> Vec<u8> {
+        self.record(13, 0, 0, &[], &[]);
+        self.ended(14)
     }
 
     fn ended(mut self, kind: u16) -> Vec<u8> {
@@ -173,12 +182,12 @@ pub fn merged_one_by_one() -> Vec<u8> {
     sheet.marked_elements(COUNT - 1);
     let merged = |close: u16| COUNT - close;
     for close in (3..COUNT).rev() {
-        sheet.impose(0, close - 1, merged(close));
-        sheet.impose(merged(close - 1), close - 1, 0);
+        sheet.impose(0, close - 1, &[merged(close)]);
+        sheet.impose(merged(close - 1), close - 1, &[0]);
     }
-    sheet.impose(0, 1, merged(1));
-    sheet.impose(merged(1), 1, merged(2));
-    sheet.impose(0, 1, 0);
+    sheet.impose(0, 1, &[merged(1)]);
+    sheet.impose(merged(1), 1, &[merged(2)]);
+    sheet.impose(0, 1, &[0]);
     sheet.settled()
 }
 
@@ -190,27 +199,77 @@ pub fn one_chain_990() -> Vec<u8> {
     one_chain(four_types())
 }
 
-/// One chain of 252, and 1,024 facts that all differ, since each predicate application has parents of its own;
-/// all of them gather in one class.
-pub fn gathering() -> Vec<u8> {
-    const PARENTS: u16 = 4;
+/// Four types with four parents each, and a predicate that gives its four arguments one each.
+fn four_owned_types() -> Sheet {
     let mut sheet = Sheet::default();
     sheet.model_type();
     for _ in 0..4 {
         sheet.plain_type(&[0; 4]);
     }
     sheet.predicate(&[0; 4], &[1, 2, 3, 4]);
+    sheet
+}
+
+/// The parents of one of 256 applications, each with its own, from four elements.
+fn own_parents(app: u16, first: u16) -> [u16; 4] {
+    [64, 16, 4, 1].map(|place| first + app / place % 4)
+}
+
+/// One chain of 252, and 1,024 facts that all differ, since each predicate application has parents of its own;
+/// all of them gather in one class.
+pub fn gathering() -> Vec<u8> {
+    const PARENTS: u16 = 4;
+    let mut sheet = four_owned_types();
     sheet.function(&[1], 1);
     sheet.elements(ELS);
     let chain = ELS - PARENTS;
     for app in 0..256 {
-        let digit = |place: u32| chain + app / 4_u16.pow(place) % 4;
-        let el = app % chain;
-        sheet.record(10, 0, 0, &[digit(3), digit(2), digit(1), digit(0)], &[el; 4]);
+        sheet.record(10, 0, 0, &own_parents(app, chain), &[app % chain; 4]);
     }
     sheet.chain(0, chain - 1);
     sheet.equal(0, 1);
     sheet.closed()
+}
+
+/// 1,024 facts of one element of four. The second in order disagrees with the first in its last parent.
+pub fn one_class() -> Vec<u8> {
+    let mut sheet = four_owned_types();
+    sheet.elements(4);
+    for app in 0..256 {
+        sheet.record(10, 0, 0, &own_parents(app, 0), &[0; 4]);
+    }
+    sheet.reported()
+}
+
+/// Four facts of each of 256 elements. The second disagrees with the first in its type.
+pub fn many_classes() -> Vec<u8> {
+    let mut sheet = four_owned_types();
+    sheet.elements(ELS);
+    for el in 0..ELS {
+        sheet.record(10, 0, 0, &own_parents(el, 0), &[el; 4]);
+    }
+    sheet.reported()
+}
+
+/// 1,024 facts of so many elements, equally many of each, all of one type: the first with three parents, the others with
+/// these and a fourth. So each later fact is compared in three parents, and none disagrees. Facts of one type that differ
+/// agree only where one list is longer, and the signature gives all of them one length, so each class needs an imposition.
+pub fn agreeing(classes: u16) -> Vec<u8> {
+    let each = FACTS / classes;
+    let mut sheet = Sheet::default();
+    sheet.model_type();
+    sheet.plain_type(&[0; 4]);
+    sheet.predicate(&[0; 4], &[1; 4]);
+    sheet.elements(each.max(classes));
+    for el in 0..classes {
+        sheet.impose(el, 1, &[0, 1, 2]);
+    }
+    for el in (0..classes).step_by(4) {
+        for fourth in 1..each {
+            sheet.record(10, 0, 0, &[0, 1, 2, fourth], &[el, el + 1, el + 2, el + 3]);
+        }
+    }
+    sheet.reported()
 }
 
 /// A chain of 127 composites: each map but the first, with one that they share, composes to the one before it. The last

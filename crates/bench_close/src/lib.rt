@@ -1,4 +1,7 @@
-// A sheet built up to its first close or settle, and that one run many times, for bench/ to time. It is no part of the port.
+// A sheet built up to its first close, settle or conflicts, and that one run many times, for bench/ to time. It is no part of the port.
+use conflicts::Conflicting;
+use conflicts::TypeConflicts;
+use facts::Fact;
 use records::Record;
 use signature::Signature;
 use structure::Answer;
@@ -7,21 +10,20 @@ use structure::Machine;
 use structure::Stepped;
 use structure::Structure;
 
-// A close or a settle.
-fn is_timed(kind: u16) -> bool {
-    match kind {
-        13 | 15 => true,
-        _ => false,
-    }
-}
+// The kinds that are timed.
+const CLOSE: u16 = 13;
 
-// The records of a sheet before its first close or settle, carried out; one that is refused changes nothing.
-fn build(bytes: &[u8]) -> Machine {
+const CONFLICTS: u16 = 14;
+
+const SETTLE: u16 = 15;
+
+// The records of a sheet before its first one of a kind, carried out; one that is refused changes nothing.
+fn build(bytes: &[u8], kind: u16) -> Machine {
     let mut run = Machine::new();
     let mut index: usize = 0;
     for _visited in 0..Record::MAX_RECORDS {
         let record = records::record_in(bytes, index);
-        if is_timed(record.kind) {
+        if record.kind == kind {
             return run;
         }
         let carried = carrying::carry_out(run, record);
@@ -137,11 +139,48 @@ fn keep(stepped: Stepped, i: u64, out: &mut [u64; 4]) {
     out[3] = read as u64;
 }
 
+// A number out of a fact; which one is known only when the program runs.
+fn part_of_fact(fact: Fact, at: usize) -> u16 {
+    let ct = fact.ct;
+    let parents = ct.parents;
+    match at % 7 {
+        0 => fact.el.0,
+        1 => ct.typ.0,
+        2 => parents.len,
+        3 => parents.ids[0].0,
+        4 => parents.ids[1].0,
+        5 => parents.ids[2].0,
+        _ => parents.ids[3].0,
+    }
+}
+
+// A number out of one of the conflicts, in the same way.
+fn part_of_conflicts(conflicts: TypeConflicts, at: usize) -> u16 {
+    let conflict = conflicts.items[at % Structure::MAX_ELS];
+    match at % 3 {
+        0 => conflict.el.0,
+        1 => part_of_fact(conflict.a, at),
+        _ => part_of_fact(conflict.b, at),
+    }
+}
+
+// A number out of the structure and one out of the conflicts, so that both are used; and how many conflicts and finds there are.
+fn keep_report(reported: Conflicting, i: u64, out: &mut [u64; 4]) {
+    let most = Structure::MAX_FACTS as u64;
+    let at = (out[3] % most + i % most) as usize;
+    let read = read_of(reported.structure, at);
+    let conflicts = reported.conflicts;
+    let told = part_of_conflicts(conflicts, at);
+    out[0] = conflicts.len as u64;
+    out[1] = reported.finds as u64;
+    out[3] = read as u64 + told as u64;
+}
+
 // Builds the sheet once and closes it so many times. What is read of one result says where the next one is read, and is a
 // flag of the next structure given, which no close and no settle looks at: so no close, and nothing that it returns, can be left out.
 #[no_mangle]
 pub extern "C" fn bench_close(bytes: &[u8], times: u64, out: &mut [u64; 4]) {
-    let run = build(bytes);
+    let run = build(bytes, CLOSE);
     let signature = run.signature;
     let mut structure = run.structure;
     for i in 0..times {
@@ -154,7 +193,7 @@ pub extern "C" fn bench_close(bytes: &[u8], times: u64, out: &mut [u64; 4]) {
 // The same with settles.
 #[no_mangle]
 pub extern "C" fn bench_settle(bytes: &[u8], times: u64, out: &mut [u64; 4]) {
-    let run = build(bytes);
+    let run = build(bytes, SETTLE);
     let signature = run.signature;
     let mut structure = run.structure;
     for i in 0..times {
@@ -164,10 +203,22 @@ pub extern "C" fn bench_settle(bytes: &[u8], times: u64, out: &mut [u64; 4]) {
     }
 }
 
+// The same with conflict reports. The flag here is `settled`, which a report hands on as given.
+#[no_mangle]
+pub extern "C" fn bench_conflicts(bytes: &[u8], times: u64, out: &mut [u64; 4]) {
+    let run = build(bytes, CONFLICTS);
+    let mut structure = run.structure;
+    for i in 0..times {
+        structure.settled = out[3] % 2 == 1;
+        let reported = conflicts::type_conflicts(structure);
+        keep_report(reported, i, out);
+    }
+}
+
 // The same with closes that do nothing. The last word of a record is 0, which the compiler does not know.
 #[no_mangle]
 pub extern "C" fn bench_nothing(bytes: &[u8], times: u64, out: &mut [u64; 4]) {
-    let run = build(bytes);
+    let run = build(bytes, CLOSE);
     let signature = run.signature;
     let first = records::record_in(bytes, 0);
     let rest = first.rest;

@@ -1,15 +1,12 @@
-// Entries with what they name as roots, and the types of an element.
+// Entries with what they name as roots.
 use apps::FuncApp;
 use facts::ConcreteType;
 use facts::Fact;
-use facts::Facts;
-use ids::ElId;
 use unification::Unification;
 ghost use mathlib.Core.Path.{_≡_};
 ghost use Rattle.unification.specs.Roots.{linksOf};
 ghost use Rattle.semantics.specs.Structure.{canonicalFact, canonicalFuncApp};
-ghost use Rattle.semantics.specs.Types.{concreteTypesOf};
-ghost use Rattle.facts.specs.View.{factOf, factsOf};
+ghost use Rattle.facts.specs.View.{factOf};
 ghost use Rattle.apps.specs.View.{funcAppOf};
 
 // A fact with its element and its parents as roots.
@@ -46,25 +43,4 @@ pub fn canonical_func_app(unification: Unification, app: FuncApp) -> FuncApp
         args,
         result,
     }
-}
-
-// The facts of an element's class with parents as roots, each once, in order.
-pub fn concrete_types_of(unification: Unification, facts: Facts, el: ElId) -> Facts
-    ensures { λ r. ⌜ factsOf r ≡ concreteTypesOf (linksOf unification) (factsOf facts) (el .0) ⌝ }
-{
-    let found = unification.find(el);
-    let root = found.root.0;
-    let n = facts.size();
-    let mut types = Facts::new();
-    for i in 0..n {
-        let here = facts.items[i];
-        if here.el.0 != root {
-            continue;
-        }
-        let entry = canonical_fact(unification, here);
-        let inserted = types.insert(entry);
-        let next = inserted.facts;
-        types = next;
-    }
-    types
 }

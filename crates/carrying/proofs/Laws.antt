@@ -43,7 +43,7 @@ none-beside (variants.Number n) = refl
 none-beside (variants.Says b) = refl
 none-beside variants.Done = refl
 none-beside (variants.Closed c) = refl
-none-beside variants.Conflicting = refl
+none-beside (variants.Conflicting n) = refl
 none-beside (variants.Summed t) = refl
 none-beside (variants.Refused n) = refl
 

@@ -150,12 +150,13 @@ fn after_conflicting(machine: Machine, d: Conflicting) -> Carried
     let signature = machine.signature;
     let structure = d.structure;
     let conflicts = d.conflicts;
+    let finds = d.finds;
     let next = Machine {
         signature,
         structure,
     };
     Carried {
-        answer: Answer::Conflicting,
+        answer: Answer::Conflicting(finds),
         conflicts,
         machine: next,
     }

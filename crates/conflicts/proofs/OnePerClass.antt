@@ -17,7 +17,7 @@ use Rattle.ids.proofs.Sorted.{all-map, all-join, all-at}
 use Rattle.unification.specs.Roots.{rootOf}
 use Rattle.semantics.specs.Structure.{Fact, Structure}
 use Rattle.semantics.specs.Types.{factsAt, concreteTypesOf}
-use Rattle.semantics.specs.Conflicts.{Conflict, conflict, disagree, firstConflict, conflictAmong, conflictAt, conflictsBelow, typeConflicts}
+use Rattle.semantics.specs.Conflicts.{Conflict, conflict, disagree, firstConflict, conflictAmong, orderedAt, conflictAt, conflictsBelow, typeConflicts}
 use Rattle.semantics.proofs.Orders.{order-less}
 use Rattle.conflicts.proofs.Laws.{at-length}
 
@@ -67,23 +67,18 @@ unfolding conflictAmong
 among-found ls e [] = tt
 among-found ls e (f ∷ fs) = first-found ls e f fs
 
-first-of-both : (a b : Bool) → (a && b) ≡ true → a ≡ true
-first-of-both true b h = refl
-first-of-both false b h = h
-
 found-at : (s : Structure) (e : ℕ) → rootOf (s .links) e ≡ e → (c : Conflict) → Differing (s .links) e c → Of s e c
 found-at s e root c h = (h .0, record { there = omega (arith, h .0); root = rw (h .0) root; differ = h .1 })
 
 at-found : (s : Structure) (e : ℕ) → All (Of s e) (conflictAt s e)
-unfolding conflictAt
-at-found s e = go (eqb (rootOf (s .links) e) e && ltb 1 (length (factsAt e (s .facts)))) refl
+unfolding conflictAt orderedAt conflictAmong
+at-found s e = go (eqb (rootOf (s .links) e) e) refl
   where
-    go : (t : Bool) → (eqb (rootOf (s .links) e) e && ltb 1 (length (factsAt e (s .facts)))) ≡ t
-        → All (Of s e) (elim t [ true ↦ conflictAmong (s .links) e (concreteTypesOf (s .links) (s .facts) e) | false ↦ [] ])
+    go : (t : Bool) → eqb (rootOf (s .links) e) e ≡ t
+        → All (Of s e) (conflictAmong (s .links) e (elim (t && ltb 1 (length (factsAt e (s .facts)))) [ true ↦ concreteTypesOf (s .links) (s .facts) e | false ↦ [] ]))
     go true q =
-        let root : rootOf (s .links) e ≡ e = eqb-true _ _ (first-of-both _ _ q) in
-        let l = concreteTypesOf (s .links) (s .facts) e in
-        all-map {P = Differing (s .links) e} {Q = Of s e} (found-at s e root) (conflictAmong (s .links) e l) (among-found (s .links) e l)
+        let fs : List Fact = elim (ltb 1 (length (factsAt e (s .facts)))) [ true ↦ concreteTypesOf (s .links) (s .facts) e | false ↦ [] ] in
+        all-map {P = Differing (s .links) e} {Q = Of s e} (found-at s e (eqb-true (rootOf (s .links) e) e q)) (conflictAmong (s .links) e fs) (among-found (s .links) e fs)
     go false q = tt
 
 -- The conflicts of the classes below n.

@@ -1,14 +1,19 @@
 -- Conflicts as the definitions speak of them.
-use Prim.Native.Nat.{ℕ}
+use Prim.Native.Nat.{ℕ, _≤_, _<_}
+use mathlib.Core.Path.{_≡_}
 use mathlib.Core.List.{List, [], map}
-use lib.ListN.{take}
+use lib.ListN.{length, take, drop, getD}
+use Rattle.ids.specs.Limits.{maxList}
 use Rattle.ids.specs.Ids.{padded, Handed}
 use Rattle.signature.specs.Model.{Sig}
 use Rattle.semantics.specs.Structure.{Fact, fact, empty, with-links, with-facts}
-use Rattle.semantics.specs.Conflicts.{Conflict, conflict, typeConflicts}
+use Rattle.semantics.specs.Types.{factsAt}
+use Rattle.semantics.specs.Conflicts.{Conflict, conflict, typeConflicts, conflictFinds}
 use Rattle.semantics.specs.Calls.{conflicting, Step, answers, machine}
+use Rattle.unification.specs.Roots.{maxEls, rootOf}
 use Rattle.facts.specs.declared.Fact as code
 use Rattle.facts.specs.View.{factOf, givenFact}
+use Rattle.fact_rows.specs.View.{factsIn}
 use Rattle.structure.specs.View.{structureOf}
 use Rattle.conflicts.specs.declared.TypeConflict.{TypeConflict}
 use Rattle.conflicts.specs.declared.TypeConflicts.{TypeConflicts}
@@ -40,17 +45,39 @@ handedConflict c = record { given = givenConflict c; held = conflictOf c }
 abbrev pub handedConflicts : TypeConflicts → Handed (List Conflict)
 handedConflicts t = record { given = givenConflicts t; held = conflictsOf t }
 
--- the conflicts read links and facts only
+-- the conflicts and the finds read links and facts only
 unfoldable pub conflictsIn : List ℕ → List Fact → List Conflict
 conflictsIn ls fs = typeConflicts (with-links ls (with-facts fs empty))
 
+unfoldable pub findsIn : List ℕ → List Fact → ℕ
+findsIn ls fs = conflictFinds (with-links ls (with-facts fs empty))
+
+-- the roots of the parents of a fact, a find for each
+pub record ParentsFound (ls : List ℕ) (f : Fact) (roots : List ℕ) (finds : ℕ) : Type 0 where
+  pub are : roots ≡ map (rootOf ls) (f .parents)
+  pub each : finds ≡ length (f .parents)
+  pub few : finds ≤ maxList
+
+-- where the facts of an element stand among the first m rows: none before the first number, none from the second on (`from` is what the loop
+-- needs before it knows the second); the third says how many there are
+pub record Span (rows : List (List ℕ)) (m el : ℕ) (span : List ℕ) : Type 0 where
+  pub first-within : getD span 0 0 ≤ m
+  pub last-within : getD span 1 0 ≤ m
+  pub from : factsAt el (drop (getD span 0 0) (factsIn m rows)) ≡ factsAt el (factsIn m rows)
+  pub between : factsAt el (drop (getD span 0 0) (factsIn (getD span 1 0) rows)) ≡ factsAt el (factsIn m rows)
+  pub count : getD span 2 0 ≡ length (factsAt el (factsIn m rows))
+
+pub record Spans (rows : List (List ℕ)) (m : ℕ) (spans : List (List ℕ)) : Type 0 where
+  pub long : length spans ≡ maxEls
+  pub each : (el : ℕ) → el < maxEls → Span rows m el (getD spans el [])
+
 -- the step of a machine whose signature is g, with the conflicts as they are given
 abbrev pub givenConflicting : Sig → Conflicting → Step
-givenConflicting g r = answers (conflicting (givenConflicts (r .conflicts))) (machine g (structureOf (r .structure)))
+givenConflicting g r = answers (conflicting (givenConflicts (r .conflicts)) (r .finds)) (machine g (structureOf (r .structure)))
 
 -- as they are held
 abbrev pub heldConflicting : Sig → Conflicting → Step
-heldConflicting g r = answers (conflicting (conflictsOf (r .conflicts))) (machine g (structureOf (r .structure)))
+heldConflicting g r = answers (conflicting (conflictsOf (r .conflicts)) (r .finds)) (machine g (structureOf (r .structure)))
 
 -- both
 abbrev pub handedConflicting : Sig → Conflicting → Handed Step

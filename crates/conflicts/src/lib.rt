@@ -1,25 +1,30 @@
 // Classes whose facts disagree (structure.rs, `type_conflicts`).
+use el_rows::EL_WIDTH;
+use el_rows::ElRow;
+use fact_rows::FACT_WIDTH;
+use fact_rows::FactRow;
 use facts::ConcreteType;
 use facts::Fact;
-use facts::Facts;
 use ids::ElId;
 use ids::ElIds;
 use ids::TypeId;
 use structure::Answer;
 use structure::Structure;
-use unification::Unification;
 ghost use mathlib.Core.Path.{_≡_};
 ghost use mathlib.Core.List.{[]};
+ghost use Prim.Native.Nat.{_≤_};
 ghost use lib.ListN.{length};
 ghost use Rattle.ids.specs.Table.{Sized, pushOf};
-ghost use Rattle.ids.specs.Ids.{whole};
-ghost use Rattle.unification.specs.Roots.{maxEls, linksOf};
-ghost use Rattle.semantics.specs.Types.{factsAt};
+ghost use Rattle.ids.specs.Ids.{elsOf, whole};
+ghost use Rattle.unification.specs.Roots.{maxEls};
 ghost use Rattle.signature.specs.Model.{Sig};
+ghost use Rattle.semantics.specs.Structure.{maxFacts};
 ghost use Rattle.semantics.specs.Calls.{type-conflicts, machine, step};
-ghost use Rattle.facts.specs.View.{factOf, factsOf};
+ghost use Rattle.facts.specs.View.{factOf};
+ghost use Rattle.fact_rows.specs.View.{factsIn};
+ghost use Rattle.el_rows.specs.View.{linksIn};
 ghost use Rattle.structure.specs.View.{structureOf};
-ghost use Rattle.conflicts.specs.View.{conflictOf, conflictsOf, givenConflicts, conflictsIn};
+ghost use Rattle.conflicts.specs.View.{conflictOf, conflictsOf, givenConflicts, conflictsIn, findsIn, ParentsFound, Spans};
 ghost use Rattle.conflicts.specs.View.{handedFact, handedConflict, handedConflicts, handedConflicting};
 
 // An element, and two facts of its class that disagree.
@@ -37,8 +42,27 @@ pub struct TypeConflicts {
 
 pub struct Conflicting {
     pub conflicts: TypeConflicts,
+    // How many roots of first facts' parents were found (02, M-103).
+    pub finds: u16,
     pub structure: Structure,
 }
+
+struct Searched {
+    conflicts: TypeConflicts,
+    finds: u16,
+}
+
+// The roots of a fact's parents, in their order, and how many finds that took.
+struct ParentRoots {
+    roots: ElIds,
+    finds: u16,
+}
+
+// How many numbers say where the facts of an element stand.
+const SPAN_WIDTH: usize = 3;
+
+// The row of the first fact of an element, the row past the last, and how many there are; all 0 where it has none.
+type SpanRow = [u16; SPAN_WIDTH];
 
 // A fact whose list says the length that it has.
 fn clamped(fact: Fact) -> Fact
@@ -113,48 +137,80 @@ impl TypeConflicts {
     }
 }
 
-// How many facts are stored at an element.
-fn count_at(facts: Facts, el: ElId) -> usize
-    ensures { λ r. ⌜ r ≡ length (factsAt (el .0) (factsOf facts)) ⌝ }
+// Where the facts of each element stand among the first m. In a table that is in order they stand together.
+fn spans_of(facts: &[FactRow], m: usize) -> [SpanRow; Structure::MAX_ELS]
+    requires { ⌜ (m ≤ length (now facts)) × (m ≤ maxFacts) ⌝ }
+    ensures { λ r. ⌜ Spans (now (facts .entry)) m r ⌝ }
 {
-    let n = facts.size();
-    let mut count = 0;
-    for i in 0..n {
-        let here = facts.items[i];
-        if here.el.0 != el.0 {
+    let mut spans = [[0u16; SPAN_WIDTH]; Structure::MAX_ELS];
+    for i in 0..m {
+        let here = fact_rows::fact_of(facts[i]);
+        let el = here.el.0 as usize;
+        if Structure::MAX_ELS <= el {
             continue;
         }
-        count += 1;
+        let span = spans[el];
+        let count = span[2];
+        let mut first = span[0];
+        if count == 0 {
+            first = i as u16;
+        }
+        spans[el] = [first, (i + 1) as u16, count + 1];
     }
-    count
+    spans
+}
+
+// The root of each parent is found once, and the count steps with it.
+fn find_parents(els: &[ElRow], n: usize, fact: Fact) -> ParentRoots
+    requires { ⌜ n ≤ length (now els) ⌝ }
+    ensures { λ r. ⌜ ParentsFound (linksIn n (now (els .entry))) (factOf fact) (elsOf (r .roots)) (r .finds) ⌝ }
+{
+    let parents = fact.ct.parents;
+    let k = parents.size();
+    let mut roots = parents;
+    let mut finds: u16 = 0;
+    for i in 0..k {
+        let root = el_rows::find(els, n, parents.ids[i]);
+        finds += 1;
+        roots.ids[i] = root;
+    }
+    ParentRoots { roots, finds }
 }
 
 // In each class the first later fact that disagrees with its first; then the search moves on to the next class.
-fn find_conflicts(unification: Unification, facts: Facts) -> TypeConflicts
-    ensures { λ r. ⌜ handedConflicts r ≡ whole (conflictsIn (linksOf unification) (factsOf facts)) ⌝ }
+fn find_conflicts(els: &[ElRow], n: usize, facts: &[FactRow], m: usize) -> Searched
+    requires { ⌜ (n ≤ length (now els)) × ((n ≤ maxEls) × ((m ≤ length (now facts)) × (m ≤ maxFacts))) ⌝ }
+    ensures { λ r. ⌜ (handedConflicts (r .conflicts) ≡ whole (conflictsIn (linksIn n (now (els .entry))) (factsIn m (now (facts .entry)))))
+        × (r .finds ≡ findsIn (linksIn n (now (els .entry))) (factsIn m (now (facts .entry)))) ⌝ }
 {
-    let n = unification.size();
+    let spans = spans_of(facts, m);
+    let mut types = [[0u16; FACT_WIDTH]; Structure::MAX_FACTS];
     let mut conflicts = TypeConflicts::new();
+    let mut finds: u16 = 0;
     'classes: for e in 0..n {
         let number = e as u16;
         let el = ElId(number);
-        let found = unification.find(el);
-        if found.root.0 != el.0 {
+        let root = el_rows::find(els, n, el);
+        if root.0 != el.0 {
             continue;
         }
-        if count_at(facts, el) < 2 {
+        let span = spans[e];
+        if span[2] < 2 {
             continue;
         }
-        let types = canonical::concrete_types_of(unification, facts, el);
-        let k = types.size();
-        let a = types.items[0];
+        let from = span[0] as usize;
+        let to = span[1] as usize;
+        let k = el_rows::concrete_types_of(els, n, facts, from, to, el, &mut types);
+        let a = fact_rows::fact_of(types[0]);
+        let first = find_parents(els, n, a);
+        finds += first.finds;
         'stored: for j in 1..k {
-            let b = types.items[j];
+            let b = fact_rows::fact_of(types[j]);
             if a.ct.typ.0 != b.ct.typ.0 {
                 conflicts = conflicts.push(TypeConflict { el, a, b });
                 continue 'classes;
             }
-            let ps = a.ct.parents;
+            let ps = first.roots;
             let qs = b.ct.parents;
             let length = ps.size();
             let other = qs.size();
@@ -162,29 +218,41 @@ fn find_conflicts(unification: Unification, facts: Facts) -> TypeConflicts
                 if other <= i {
                     continue 'paired;
                 }
-                let p = unification.find(ps.ids[i]);
-                let q = unification.find(qs.ids[i]);
-                if p.root.0 != q.root.0 {
+                let q = el_rows::find(els, n, qs.ids[i]);
+                if ps.ids[i].0 != q.0 {
                     conflicts = conflicts.push(TypeConflict { el, a, b });
                     continue 'classes;
                 }
             }
         }
     }
-    conflicts
+    Searched { conflicts, finds }
 }
 
 // Kind 14.
 pub fn type_conflicts(structure: Structure) -> Conflicting
     ensures { λ r. ⌜ ((g : Sig) → handedConflicting g r ≡ whole (step type-conflicts (machine g (structureOf structure)))) ⌝ }
 {
-    let u = structure.unification;
-    let facts = structure.els;
-    let conflicts = find_conflicts(u, facts);
-    let stepped = structure.accept(Answer::Conflicting);
+    let unification = structure.unification;
+    let table = structure.els;
+    let n = unification.size();
+    let m = table.size();
+    let links = unification.links;
+    let marks = structure.inferred_parent_els;
+    let mut els = [[0u16; EL_WIDTH]; Structure::MAX_ELS];
+    el_rows::fill_els(&mut els, n, links, marks);
+    let mut facts = [[0u16; FACT_WIDTH]; Structure::MAX_FACTS];
+    for i in 0..m {
+        facts[i] = fact_rows::row_of(table.items[i]);
+    }
+    let searched = find_conflicts(&els, n, &facts, m);
+    let conflicts = searched.conflicts;
+    let finds = searched.finds;
+    let stepped = structure.accept(Answer::Conflicting(finds));
     let next = stepped.structure;
     Conflicting {
         conflicts,
+        finds,
         structure: next,
     }
 }

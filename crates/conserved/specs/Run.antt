@@ -104,7 +104,7 @@ pub data Made (v : Machine) : Call → Answer → Machine → Type 0 where
   close : (r : Stepped) → close-fn.Learnt tt (v .structure, (v .signature, tt)) r (v .structure, (v .signature, tt))
       → Made v calls.close (answerOf [] (r .answer)) (with-structure (r .structure) v)
   type-conflicts : (r : Conflicting) → type-conflicts-fn.Learnt tt (v .structure, tt) r (v .structure, tt)
-      → Made v calls.type-conflicts (conflicting (givenConflicts (r .conflicts))) (with-structure (r .structure) v)
+      → Made v calls.type-conflicts (conflicting (givenConflicts (r .conflicts)) (r .finds)) (with-structure (r .structure) v)
   settle : (r : Stepped) → settle-fn.Learnt tt (v .structure, (v .signature, tt)) r (v .structure, (v .signature, tt))
       → Made v calls.settle (answerOf [] (r .answer)) (with-structure (r .structure) v)
   root : (e : ElId) (r : Rooting) → root-fn.Learnt tt (one v e) r (one v e)

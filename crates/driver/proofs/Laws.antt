@@ -58,7 +58,7 @@ lists-none cs (codes.Number n) = refl
 lists-none cs (codes.Says b) = refl
 lists-none cs codes.Done = refl
 lists-none cs (codes.Closed c) = refl
-lists-none cs codes.Conflicting = refl
+lists-none cs (codes.Conflicting n) = refl
 lists-none cs (codes.Summed t) = refl
 lists-none cs (codes.Refused n) = refl
 

@@ -1,12 +1,14 @@
 -- Rows of elements as the definitions speak of them.
-use Prim.Native.Nat.{ℕ}
+use Prim.Native.Nat.{ℕ, _≤_}
 use mathlib.Core.Path.{_≡_}
 use mathlib.Core.Bool.{Bool}
 use mathlib.Core.List.{List, map}
 use lib.ListN.{length, take, getD}
 use lib.Dec.{eqb}
 use Rattle.unification.specs.Roots.{maxEls, rootOf, shortOf, mergedOf}
-use Rattle.semantics.specs.Types.{anyMarked, mergedMarks}
+use Rattle.semantics.specs.Structure.{Fact, maxFacts}
+use Rattle.semantics.specs.Types.{anyMarked, mergedMarks, concreteTypesOf}
+use Rattle.fact_rows.specs.View.{factsIn}
 
 -- the link of an element, and 1 where it is marked
 unfoldable pub linkIn : List ℕ → ℕ
@@ -41,3 +43,9 @@ pub record ElsInRows (n : ℕ) (links : List ℕ) (marks : List Bool) (els : Lis
   pub marks-are : marksIn n els ≡ take n marks
   pub some-is : some-marked ≡ anyMarked (take n marks)
   pub long : length els ≡ maxEls
+
+-- the first r rows are the types of an element
+pub record TypesOf (ls : List ℕ) (fs : List Fact) (e : ℕ) (types : List (List ℕ)) (r : ℕ) : Type 0 where
+  pub is : factsIn r types ≡ concreteTypesOf ls fs e
+  pub most : r ≤ maxFacts
+  pub long : length types ≡ maxFacts

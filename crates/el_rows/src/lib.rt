@@ -1,5 +1,6 @@
-// The links and marks of the elements as rows of numbers, and entries with what they name as roots.
+// The links and marks of the elements as rows of numbers, entries with what they name as roots, and the types of an element.
 use apps::FuncApp;
+use fact_rows::FactRow;
 use facts::ConcreteType;
 use facts::Fact;
 use ids::ElId;
@@ -9,14 +10,15 @@ ghost use mathlib.Core.Path.{_≡_};
 ghost use mathlib.Core.Bool.{_&&_, _||_};
 ghost use mathlib.Core.List.{map};
 ghost use Prim.Native.Nat.{_≤_, _<_};
-ghost use lib.ListN.{length, take};
+ghost use lib.ListN.{length, take, drop};
 ghost use Rattle.ids.specs.Ids.{elsOf};
 ghost use Rattle.unification.specs.Roots.{maxEls, rootOf};
-ghost use Rattle.semantics.specs.Structure.{canonicalFact, canonicalFuncApp};
+ghost use Rattle.semantics.specs.Structure.{maxFacts, canonicalFact, canonicalFuncApp};
 ghost use Rattle.semantics.specs.Types.{marked};
 ghost use Rattle.facts.specs.View.{factOf};
 ghost use Rattle.apps.specs.View.{funcAppOf};
-ghost use Rattle.el_rows.specs.View.{linkIn, markIn, linksIn, marksIn, Shortened, Merged, ElsInRows};
+ghost use Rattle.fact_rows.specs.View.{factsIn};
+ghost use Rattle.el_rows.specs.View.{linkIn, markIn, linksIn, marksIn, Shortened, Merged, ElsInRows, TypesOf};
 
 // How many numbers a row of an element has.
 pub const EL_WIDTH: usize = 2;
@@ -152,6 +154,32 @@ pub fn canonical_fact(els: &[ElRow], n: usize, fact: Fact) -> Fact
         el,
         ct: ConcreteType { typ, parents },
     }
+}
+
+// The facts of an element's class among the rows from `from` to before `to`, with parents as roots, each once, in order: gives how many there are.
+pub fn concrete_types_of(
+    els: &[ElRow],
+    n: usize,
+    facts: &[FactRow],
+    from: usize,
+    to: usize,
+    el: ElId,
+    types: &mut [FactRow],
+) -> usize
+    requires { ⌜ (n ≤ length (now els)) × ((to ≤ length (now facts)) × ((to ≤ maxFacts) × (length (now types) ≡ maxFacts))) ⌝ }
+    ensures { λ r. ⌜ TypesOf (linksIn n (now (els .entry))) (drop from (factsIn to (now (facts .entry)))) (el .0) (now (types .exit)) r ⌝ }
+{
+    let root = find(els, n, el);
+    let mut k: usize = 0;
+    for i in from..to {
+        let here = fact_rows::fact_of(facts[i]);
+        if here.el.0 != root.0 {
+            continue;
+        }
+        let entry = canonical_fact(els, n, here);
+        k = fact_rows::insert(types, k, entry);
+    }
+    k
 }
 
 // An application with its parents, arguments and result as roots.

@@ -5,12 +5,10 @@ use Rattle.ids.specs.declared.ElId.{ElId}
 use Rattle.ids.specs.declared.ElIds.{ElIds}
 use Rattle.ids.specs.declared.TypeId.{TypeId}
 use Rattle.ids.specs.Ids.{elsOf, givenEls}
-use Rattle.ids.specs.Table.{Insertion}
 use Rattle.semantics.specs.Structure as model
 use Rattle.semantics.specs.Structure.{fact}
 use Rattle.facts.specs.declared.Fact.{Fact}
 use Rattle.facts.specs.declared.Facts.{Facts}
-use Rattle.facts.specs.declared.InsertedFact.{InsertedFact}
 use Rattle.facts.specs.declared.Impositions.{Impositions}
 
 -- a fact as it is stored
@@ -32,9 +30,6 @@ newFact el typ parents = record { el = el; ct = record { typ = typ; parents = pa
 -- what stands for an entry past the end of the array
 abbrev pub noFact : Fact
 noFact = newFact (record { 0 = 0 }) (record { 0 = 0 }) (record { ids = []; len = 0 })
-
-abbrev pub inserted : InsertedFact → Insertion model.Fact
-inserted r = record { grew = r .grew; full = r .full; items = factsOf (r .facts) }
 
 -- the impositions of a queue
 abbrev pub impositionsOf : Impositions → List model.Fact

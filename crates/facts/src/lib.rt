@@ -2,16 +2,13 @@
 use ids::ElId;
 use ids::ElIds;
 use ids::Ordering;
-use ids::Place;
 use ids::TypeId;
 ghost use mathlib.Core.Path.{_≡_};
-ghost use mathlib.Core.List.{_++_, [], _∷_};
-ghost use Prim.Native.Nat.{_+_, _≤_, _<_};
-ghost use lib.ListN.{take, drop};
-ghost use Rattle.ids.specs.Table.{Sized, positionFrom, insertOf, pushOf, lenOf};
+ghost use mathlib.Core.List.{[]};
+ghost use Rattle.ids.specs.Table.{Sized, pushOf, lenOf};
 ghost use Rattle.semantics.specs.Structure.{maxFacts, maxImpositions, compareFact};
 ghost use Rattle.semantics.specs.Calls.{isImposed};
-ghost use Rattle.facts.specs.View.{newFact, factOf, factsOf, inserted, impositionsOf};
+ghost use Rattle.facts.specs.View.{newFact, factOf, factsOf, impositionsOf};
 
 pub struct ConcreteType {
     pub typ: TypeId,
@@ -33,13 +30,6 @@ pub struct Facts {
 pub struct Impositions {
     pub items: [Fact; Impositions::MAX_LEN],
     pub len: u16,
-}
-
-// Whether the table grew, whether it had no room, and the table.
-pub struct InsertedFact {
-    pub grew: bool,
-    pub full: bool,
-    pub facts: Facts,
 }
 
 impl Fact {
@@ -93,74 +83,6 @@ impl Facts {
             n
         } else {
             Facts::MAX_LEN
-        }
-    }
-
-    // Where an entry stands, or before which one it goes.
-    fn position(self, entry: Fact) -> Place
-        ensures { λ r. ⌜ r ≡ positionFrom compareFact (factOf entry) 0 (factsOf self) ⌝ }
-    {
-        let n = self.size();
-        let mut i = 0;
-        while i < n {
-            let here = self.items[i];
-            match here.compare(entry) {
-                Ordering::Less => {
-                    i += 1;
-                }
-                Ordering::Equal => {
-                    return Place::At(i);
-                }
-                Ordering::Greater => {
-                    return Place::Before(i);
-                }
-            }
-        }
-        Place::Before(i)
-    }
-
-    // The table of n entries with one more at an index, those from there on one place higher.
-    fn placed(self, n: usize, at: usize, entry: Fact) -> Facts
-        requires { ⌜ (at ≤ n) × (n < maxFacts) ⌝ }
-        ensures { λ r. ⌜ (r .len ≡ n + 1) × (take (n + 1) (r .items) ≡ take at (self .items) ++ entry ∷ drop at (take n (self .items))) ⌝ }
-    {
-        let mut next = self;
-        let mut i = n;
-        while at < i {
-            let moved = next.items[i - 1];
-            next.items[i] = moved;
-            i -= 1;
-        }
-        next.items[at] = entry;
-        next.len = (n + 1) as u16;
-        next
-    }
-
-    // Inserts a fact where it is not there yet.
-    pub fn insert(self, entry: Fact) -> InsertedFact
-        ensures { λ r. ⌜ (inserted r ≡ insertOf compareFact (factOf entry) maxFacts (factsOf self)) × (r .facts .len ≡ lenOf (self .len) (factsOf self) (factsOf (r .facts))) ⌝ }
-    {
-        let n = self.size();
-        let found = self.position(entry);
-        let Place::Before(at) = found else {
-            return InsertedFact {
-                grew: false,
-                full: false,
-                facts: self,
-            };
-        };
-        if Facts::MAX_LEN <= n {
-            return InsertedFact {
-                grew: false,
-                full: true,
-                facts: self,
-            };
-        }
-        let next = self.placed(n, at, entry);
-        InsertedFact {
-            grew: true,
-            full: false,
-            facts: next,
         }
     }
 }

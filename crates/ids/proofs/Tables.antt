@@ -14,7 +14,6 @@ use Rattle.ids.specs.declared.Ordering.{Ordering}
 use Rattle.ids.specs.declared.Ordering.the-variants.{Less, Equal, Greater}
 use Rattle.ids.specs.declared.Place.{Place}
 use Rattle.ids.specs.declared.Place.the-variants.{Before, At}
-use Rattle.ids.proofs.Answers.{and-right}
 use Rattle.ids.proofs.Views.{view-next, view-done}
 use Rattle.ids.proofs.Sorted.{placed-present}
 use Rattle.ids.specs.Table.{Insertion, positionFrom, present, placed, insertOf, lookupOf, pushOf, rewriteInto}
@@ -182,9 +181,6 @@ module _ {A : Type 0} (cmp : A → A → Ordering) (x : A) where
         go false e true k =
             let none : insertOf cmp x cap ys .full ≡ true = insert-needs ∙ rw (e, k) in
             let z : _≡_ {A = ℕ} 0 1 = cc in absurd (omega arith)
-
-    pub insert-room : length ys < cap → insertOf cmp x cap ys .items ≡ placed cmp x ys
-    insert-room h = ap (λ (g : Insertion A). g .items) (insert-made (insert-needs ∙ and-right (not (present cmp x ys)) (lt-leb cap (length ys) h)))
 
 -- A loop that rewrites the entries of a table, seen through `view`, one after the other into another table `done`.
 module _ {A B : Type 0} (cmp : B → B → Ordering) (f : B → B) (view : A → B) (n : ℕ) (xs : List A) (i : ℕ) (done : List B) {whole : List B}

@@ -11,21 +11,20 @@ use lib.Dec.{eqb}
 use borrow.Author.Tests.{eq-eqb, ne-eqb, lt-ltb, le-ltb}
 use Rattle.ids.specs.Answers.{tooManyFacts}
 use Rattle.ids.specs.Ids.{elOf, elsOf}
-use Rattle.ids.specs.Table.{positionFrom, present, placed, rewriteInto}
-use Rattle.ids.specs.Sorted.{Sorted}
+use Rattle.ids.specs.Table.{positionFrom, present, placed}
 use Rattle.ids.specs.declared.Place.the-variants.{Before, At}
 use Rattle.ids.specs.declared.ElId.{ElId}
 use Rattle.ids.specs.declared.ElIds.{ElIds}
 use Rattle.ids.proofs.Answers.{and-right}
 use Rattle.ids.proofs.Sorted.{placed-sorted}
 use Rattle.ids.proofs.Tables.{at-present, before-spot}
-use Rattle.ids.proofs.Views.{length-view, view-cons, view-nil, view-placed, view-next, view-done}
-use Rattle.rows.specs.Table.{RowPlaced, Inserted}
+use Rattle.ids.proofs.Views.{length-view, view-nil, view-placed, view-next, view-done}
+use Rattle.rows.specs.Table.{RowPlaced}
 use Rattle.unification.specs.Roots.{rootOf}
 use Rattle.semantics.specs.Structure.{Fact, Pair, pair, maxFacts, compareFact, canonicalFact}
 use Rattle.semantics.specs.Types as types
 use Rattle.semantics.specs.Types.{core, with-pairs, firstMet, marked, merge, joinRoots, join, drainPairs, drain, refineRoots, refine, refineParents}
-use Rattle.semantics.specs.Types.{refineAll, insertFact, insertCanonical, factsAt, concreteTypesOf, impose, imposeAll}
+use Rattle.semantics.specs.Types.{refineAll, insertFact, insertCanonical, concreteTypesOf, impose, imposeAll}
 use Rattle.semantics.proofs.Orders.{fact-ordered}
 use Rattle.facts.specs.declared.Fact as code
 use Rattle.facts.specs.declared.Impositions.{Impositions}
@@ -34,7 +33,8 @@ use Rattle.fact_rows.specs.View.{factIn, factsIn}
 use Rattle.merging.specs.declared.Tally.{Tally}
 use Rattle.merging.specs.View.{with-insertion-counted, lent, metOf, coreOf, ElsHeld, FactsHeld, PairsHeld, LentHeld}
 use Rattle.merging.proofs.Laws.{idle}
-use Rattle.imposing.specs.View.{TypesOf, InsertsFact, refined}
+use Rattle.el_rows.proofs.Taking.{next-row}
+use Rattle.imposing.specs.View.{InsertsFact, refined}
 
 -- Two parents.
 
@@ -102,88 +102,27 @@ module _ (ps qs : ElIds) (i : ℕ) where
   unfolding refineParents
   parents-done h w = ap (λ (l : List ℕ). refineParents l (drop i (elsOf qs)) w) (sym (view-done elOf (ps .len) (ps .ids) i h))
 
--- The facts of an element's class that are taken as roots: i of n rows are done, into the first k of `types`.
-pub record Taking (ls : List ℕ) (root n : ℕ) (rows types : List (List ℕ)) (i k : ℕ) : Type 0 where
-  pub few : k ≤ i
-  pub within : i ≤ n
-  pub sorted : Sorted compareFact (factsIn k types)
-  pub rest : rewriteInto compareFact (canonicalFact ls) (factsAt root (drop i (factsIn n rows))) (factsIn k types)
-      ≡ rewriteInto compareFact (canonicalFact ls) (factsAt root (factsIn n rows)) []
-  pub long : length types ≡ maxFacts
-
-pub taking-none : (ls : List ℕ) (root n : ℕ) (rows types : List (List ℕ)) → length types ≡ maxFacts → Taking ls root n rows types 0 0
-taking-none ls root n rows types h = record { few = omega arith; within = omega arith; sorted = tt; rest = refl; long = h }
-
--- A table of facts, at the row i, which says g.
+-- The types of an element, a table of facts, against a fact f: at the row i, which says g.
 module _ (n : ℕ) (rows : List (List ℕ)) (i : ℕ) where
-  module _ (d : List ℕ) {g : Fact} (is : g ≡ factIn (getD rows i d)) (at : i < n) (there : n ≤ length rows) where
-    next-row : g ∷ drop (i + 1) (factsIn n rows) ≡ drop i (factsIn n rows)
-    next-row = ap (λ (x : Fact). x ∷ drop (i + 1) (factsIn n rows)) is ∙ sym (view-cons factIn n rows i d at (omega arith))
+  module _ (d : List ℕ) {g : Fact} (is : g ≡ factIn (getD rows i d)) (at : i < n) (there : n ≤ length rows) (f : Fact) where
+    -- a fact of the same type
+    pub all-same : g .typ ≡ f .typ → (w : types.Core)
+        → refineAll (drop (i + 1) (factsIn n rows)) f (refineParents (g .parents) (f .parents) w) ≡ refineAll (drop i (factsIn n rows)) f w
+    unfolding refineAll
+    all-same e w =
+        sym (rw (eq-eqb (g .typ) (f .typ) e, refineAll)) ∙ ap (λ (l : List Fact). refineAll l f w) (next-row n rows i d is at there)
 
-    -- The types of an element, against a fact f.
-    module _ (f : Fact) where
-      -- a fact of the same type
-      pub all-same : g .typ ≡ f .typ → (w : types.Core)
-          → refineAll (drop (i + 1) (factsIn n rows)) f (refineParents (g .parents) (f .parents) w) ≡ refineAll (drop i (factsIn n rows)) f w
-      unfolding refineAll
-      all-same e w = sym (rw (eq-eqb (g .typ) (f .typ) e, refineAll)) ∙ ap (λ (l : List Fact). refineAll l f w) next-row
-
-      -- a fact of another type
-      pub all-other : (g .typ ≡ f .typ → ⊥) → (w : types.Core)
-          → refineAll (drop (i + 1) (factsIn n rows)) f w ≡ refineAll (drop i (factsIn n rows)) f w
-      unfolding refineAll
-      all-other e w = sym (rw (ne-eqb (g .typ) (f .typ) e, refineAll)) ∙ ap (λ (l : List Fact). refineAll l f w) next-row
-
-    -- The facts of an element's class, taken as roots.
-    module _ (ls : List ℕ) (root : ℕ) {types : List (List ℕ)} {k : ℕ} (so-far : Taking ls root n rows types i k) where
-      from-row : rewriteInto compareFact (canonicalFact ls) (factsAt root (g ∷ drop (i + 1) (factsIn n rows))) (factsIn k types)
-          ≡ rewriteInto compareFact (canonicalFact ls) (factsAt root (factsIn n rows)) []
-      from-row =
-          ap (λ (l : List Fact). rewriteInto compareFact (canonicalFact ls) (factsAt root l) (factsIn k types)) next-row ∙ so-far .rest
-
-      -- a fact of another element
-      pub other-el : (g .el ≡ root → ⊥) → Taking ls root n rows types (i + 1) k
-      unfolding factsAt
-      other-el e = record {
-        few = omega (arith, so-far .few);
-        within = omega arith;
-        sorted = so-far .sorted;
-        rest = rw (ne-eqb (g .el) root e, factsAt) at from-row;
-        long = so-far .long;
-      }
-
-      -- a fact of this one
-      pub this-el : g .el ≡ root → {x : Fact} {types' : List (List ℕ)} {r : ℕ} → x ≡ canonicalFact ls g
-          → Inserted compareFact factIn x k types types' r → Taking ls root n rows types' (i + 1) r
-      unfolding factsAt rewriteInto
-      this-el e {x} q put = record {
-        few = omega (arith, so-far .few, put .most);
-        within = omega arith;
-        sorted = rw (put .is) (placed-sorted fact-ordered x (factsIn k types) (so-far .sorted));
-        rest =
-            ap (rewriteInto compareFact (canonicalFact ls) (factsAt root (drop (i + 1) (factsIn n rows))))
-            (put .is ∙ ap (λ (y : Fact). placed compareFact y (factsIn k types)) q)
-            ∙ (rw (eq-eqb (g .el) root e, factsAt) at from-row);
-        long = put .long ∙ so-far .long;
-      }
+    -- a fact of another type
+    pub all-other : (g .typ ≡ f .typ → ⊥) → (w : types.Core)
+        → refineAll (drop (i + 1) (factsIn n rows)) f w ≡ refineAll (drop i (factsIn n rows)) f w
+    unfolding refineAll
+    all-other e w =
+        sym (rw (ne-eqb (g .typ) (f .typ) e, refineAll)) ∙ ap (λ (l : List Fact). refineAll l f w) (next-row n rows i d is at there)
 
   -- all are done
-  module _ (past : n ≤ i) where
-    pub all-done : (f : Fact) (w : types.Core) → w ≡ refineAll (drop i (factsIn n rows)) f w
-    unfolding refineAll
-    all-done f w = ap (λ (l : List Fact). refineAll l f w) (sym (view-nil factIn n rows i past))
-
-    pub taken : (ls : List ℕ) (root el : ℕ) {types : List (List ℕ)} {k : ℕ} → n ≤ maxFacts → root ≡ rootOf ls el → Taking ls root n rows types i k
-        → TypesOf ls (factsIn n rows) el types k
-    unfolding concreteTypesOf factsAt rewriteInto
-    taken ls root el {types} {k} few e so-far = record {
-      is =
-          ap (λ (l : List Fact). rewriteInto compareFact (canonicalFact ls) (factsAt root l) (factsIn k types)) (sym (view-nil factIn n rows i past))
-          ∙ so-far .rest
-          ∙ ap (λ (r : ℕ). rewriteInto compareFact (canonicalFact ls) (factsAt r (factsIn n rows)) []) e;
-      most = omega (arith, so-far .few, so-far .within);
-      long = so-far .long;
-    }
+  pub all-done : n ≤ i → (f : Fact) (w : types.Core) → w ≡ refineAll (drop i (factsIn n rows)) f w
+  unfolding refineAll
+  all-done past f w = ap (λ (l : List Fact). refineAll l f w) (sym (view-nil factIn n rows i past))
 
 -- A fact inserted.
 

@@ -7,9 +7,8 @@ use lib.ListN.{length, take, drop}
 use Rattle.ids.specs.declared.Ordering.the-variants.{Less}
 use Rattle.ids.specs.Sorted.{All}
 use Rattle.rows.specs.Table.{isLess}
-use Rattle.semantics.specs.Structure.{Fact, compareFact, maxFacts}
+use Rattle.semantics.specs.Structure.{Fact, compareFact}
 use Rattle.semantics.specs.Types.{Core, concreteTypesOf, refineAll, insertFact}
-use Rattle.fact_rows.specs.View.{factsIn}
 use Rattle.merging.specs.declared.Tally.{Tally}
 use Rattle.merging.specs.View.{lent, ElsHeld, PairsHeld, Passes}
 
@@ -18,12 +17,6 @@ pub record FirstOf (in-order : Bool) (key : Fact) (fs : List Fact) (r : ℕ) : T
   pub most : r ≤ length fs
   pub smaller : All (λ g. compareFact g key ≡ Less) (take r fs)
   pub rest : in-order ≡ true → All (λ g. isLess (compareFact g key) ≡ false) (drop r fs)
-
--- the first r rows are the types of an element
-pub record TypesOf (ls : List ℕ) (fs : List Fact) (e : ℕ) (types : List (List ℕ)) (r : ℕ) : Type 0 where
-  pub is : factsIn r types ≡ concreteTypesOf ls fs e
-  pub most : r ≤ maxFacts
-  pub long : length types ≡ maxFacts
 
 -- "take `concrete_types_of` once. For each of the same type .."
 unfoldable pub refined : Fact → Core → Core

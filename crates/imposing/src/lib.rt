@@ -18,7 +18,6 @@ ghost use Prim.Native.Nat.{_≤_};
 ghost use lib.ListN.{length};
 ghost use lib.Dec.{eqb};
 ghost use Rattle.ids.specs.Ids.{elsOf};
-ghost use Rattle.semantics.specs.Structure.{maxFacts};
 ghost use Rattle.semantics.specs.Types.{refine, refineParents, impose, imposeAll};
 ghost use Rattle.facts.specs.View.{factOf, impositionsOf};
 ghost use Rattle.fact_rows.specs.View.{factsIn};
@@ -26,7 +25,7 @@ ghost use Rattle.el_rows.specs.View.{linksIn, marksIn};
 ghost use Rattle.merging.specs.View.{lent, ElsHeld, FactsHeld, LentHeld, RoomToCount, Passes};
 ghost use Rattle.imposing.specs.Bounds.{onePair, oneList, oneFact, oneImposed, allImpositions};
 ghost use Rattle.imposing.specs.Keeps.{keepsPair, keepsParents, keepsTypes};
-ghost use Rattle.imposing.specs.View.{FirstOf, TypesOf, InsertsFact, refined};
+ghost use Rattle.imposing.specs.View.{FirstOf, InsertsFact, refined};
 
 // Whether two parents are not merged: their roots are one, or neither is marked.
 fn keeps_pair(els: &[ElRow], n: usize, p: ElId, q: ElId) -> bool
@@ -167,31 +166,6 @@ fn refine_parents(
     now
 }
 
-// The facts of an element's class with parents as roots, each once, in order: gives how many there are.
-fn concrete_types_of(
-    els: &[ElRow],
-    facts: &[FactRow],
-    counts: Tally,
-    el: ElId,
-    types: &mut [FactRow],
-) -> usize
-    requires { ⌜ ElsHeld (now els) counts × (FactsHeld (now facts) counts × (length (now types) ≡ maxFacts)) ⌝ }
-    ensures { λ r. ⌜ TypesOf (linksIn (counts .els) (now (els .entry))) (factsIn (counts .facts) (now (facts .entry))) (el .0) (now (types .exit)) r ⌝ }
-{
-    let n = counts.els as usize;
-    let root = el_rows::find(els, n, el);
-    let mut k: usize = 0;
-    for i in 0..counts.facts as usize {
-        let here = fact_rows::fact_of(facts[i]);
-        if here.el.0 != root.0 {
-            continue;
-        }
-        let entry = el_rows::canonical_fact(els, n, here);
-        k = fact_rows::insert(types, k, entry);
-    }
-    k
-}
-
 // The types that the element has, taken once, against a fact that is imposed on it.
 fn refine_all(
     els: &mut [ElRow],
@@ -205,7 +179,15 @@ fn refine_all(
         (lent (now (els .exit)) (now (facts .exit)) (now (pairs .entry)) r) oneFact (refined (factOf fact)) ⌝ }
 {
     let mut types = [[0u16; FACT_WIDTH]; Facts::MAX_LEN];
-    let n = concrete_types_of(els, facts, counts, fact.el, &mut types);
+    let n = el_rows::concrete_types_of(
+        els,
+        counts.els as usize,
+        facts,
+        0,
+        counts.facts as usize,
+        fact.el,
+        &mut types,
+    );
     let parents = fact.ct.parents;
     let mut now = counts;
     for i in 0..n {

@@ -317,7 +317,7 @@ fn answer_line(answer: Answer, listed: u16) -> Line {
         Answer::Says(b) => number_line(b"answer", bit(b)),
         Answer::Done => number_line(b"answer", bit(true)),
         Answer::Closed(c) => lines::close_line(c.changed, c.merges, c.rounds),
-        Answer::Conflicting => lines::conflicts_line(listed),
+        Answer::Conflicting(finds) => pair_line(b"conflicts", listed, finds),
         Answer::Summed(t) => lines::settle_line(t.closes, t.merges),
         Answer::Refused(x) => number_line(b"refused", x),
     }

@@ -37,8 +37,8 @@ unfolding answers.firstOf answers.decided answers.outcome
     close.keyOf close.giveTo close.give close.equalize close.obey close.obeyAll close.operationPass close.passes close.runPasses
     close.round close.isNone close.lastRound close.oneMore close.roundsFrom close.fuel close.rounds close.coreAtStart close.canonicaliseRefs
     close.withCore close.imposedAfter close.closeRun close.reportOf close.afterClose close.metCauses close.closeBy close.close
-    conflicts.parentsMatch conflicts.disagree conflicts.firstConflict conflicts.conflictAmong conflicts.conflictAt conflicts.conflictsBelow
-    conflicts.typeConflicts
+    conflicts.parentsMatch conflicts.disagree conflicts.firstConflict conflicts.conflictAmong conflicts.orderedAt conflicts.conflictAt
+    conflicts.conflictsBelow conflicts.typeConflicts conflicts.findsAmong conflicts.findsAt conflicts.findsBelow conflicts.conflictFinds
     calls.elCauses calls.withEl calls.equalityCauses calls.withEquality calls.isImposed calls.impositionCauses calls.withImposition
     calls.isIdOrComp calls.isReserved calls.misapplies calls.isMisapplied calls.applicationCauses calls.withApplied
     calls.predicationCauses calls.withPredApp calls.variableCauses calls.withVar calls.ambientCauses calls.withAmbient calls.ambientOf

@@ -40,7 +40,8 @@ pub data Stated : Type 0 where
   closes : ℕ → ℕ → ℕ → Stated
   -- closes run, merges summed
   settles : ℕ → ℕ → Stated
-  conflicts : List Conflict → Stated
+  -- the conflicts, and the finds
+  conflicts : List Conflict → ℕ → Stated
   -- the type with its leading parents, or none
   types : Option ConcreteType → Stated
   refuses : ℕ → Stated
@@ -96,7 +97,7 @@ pub record Row : Type 0 where
 unfoldable pub stated : Answer → List Stated → List Stated
 stated (closed c) rest = closes (bit (c .changed)) (c .merges) (c .rounds) ∷ rest
 stated (steps.summed t) rest = settles (t .closes) (t .merges) ∷ rest
-stated (conflicting cs) rest = conflicts cs ∷ rest
+stated (conflicting cs n) rest = conflicts cs n ∷ rest
 stated (typed t) rest = types t ∷ rest
 stated (refuse n) rest = refuses n ∷ rest
 stated (number n) rest = rest
@@ -211,6 +212,16 @@ imposed5 =
     signature2
     ++ (plainEl ∷ markedEl ∷ plainEl ∷ plainEl ∷ plainEl
     ∷ app 0 (0 ∷ []) [] 2 ∷ app 0 (1 ∷ []) [] 3 ∷ impose 4 1 (0 ∷ []) ∷ impose 4 1 (1 ∷ []) ∷ [])
+
+-- M-103: a Model type, Plain types 1 to 4 with no, one, four and no parents, elements 0 to 2, the facts imposed, a close and the report
+abbrev pub reported : List Fact → List Call
+reported fs =
+    typ model [] ∷ typ plain [] ∷ typ plain (0 ∷ []) ∷ typ plain (0 ∷ 0 ∷ 0 ∷ 0 ∷ []) ∷ typ plain [] ∷ plainEl ∷ plainEl ∷ plainEl
+    ∷ (map impose-type fs ++ (close ∷ type-conflicts ∷ []))
+
+-- the same with no fact, and 1 merged into 0
+abbrev pub merged103 : Machine
+merged103 = afterCalls (reported [] ++ (equate-els 0 1 ∷ close ∷ [])) start
 
 -- n calls, of the numbers n - 1 down to 0: in this order each entry of an ordered table goes before the others
 unfoldable pub downFrom : ℕ → (ℕ → Call) → List Call
@@ -475,7 +486,7 @@ table =
           (signature2
           ++ (plainEl ∷ plainEl ∷ plainEl ∷ plainEl
           ∷ app 0 (0 ∷ []) [] 2 ∷ app 0 (1 ∷ []) [] 3 ∷ equate-els 2 3 ∷ close ∷ type-conflicts ∷ []));
-      output = tells (closes 1 1 2 ∷ conflicts (conflict 2 (fact 2 1 (0 ∷ [])) (fact 2 1 (1 ∷ [])) ∷ []) ∷ []);
+      output = tells (closes 1 1 2 ∷ conflicts (conflict 2 (fact 2 1 (0 ∷ [])) (fact 2 1 (1 ∷ [])) ∷ []) 1 ∷ []);
       claims = [];
     }
     -- P3: "one-argument function, 0 to 2, 1 to 3, equality 0, 1"; its domain and codomain are one Plain type
@@ -568,7 +579,7 @@ table =
       source = calls
           (typ model [] ∷ typ model [] ∷ typ plain (0 ∷ 1 ∷ []) ∷ plainEl ∷ plainEl ∷ plainEl
           ∷ impose 0 2 (1 ∷ []) ∷ impose 0 2 (1 ∷ 2 ∷ []) ∷ close ∷ type-conflicts ∷ []);
-      output = tells (closes 1 0 1 ∷ conflicts [] ∷ []);
+      output = tells (closes 1 0 1 ∷ conflicts [] 1 ∷ []);
       claims = facts 0 is fact-list (fact 0 2 (1 ∷ []) ∷ fact 0 2 (1 ∷ 2 ∷ []) ∷ []) ∷ [];
     }
     -- P8: "equalities (1, 2), (0, 2): 1 and 2 link to 0"
@@ -621,7 +632,7 @@ table =
           (settled101
           ++ (equate-els 0 1 ∷ equate-els 1 2 ∷ impose 2 0 [] ∷ plainEl ∷ var 0 2 ∷ type-conflicts ∷ steps.root 2 ∷ lookup-type 0 []
           ∷ ambient-parents [] ∷ equate-els 0 9 ∷ []));
-      output = tells (settles 2 1 ∷ conflicts [] ∷ types (some (concrete-type 0 [])) ∷ refuses 5 ∷ []);
+      output = tells (settles 2 1 ∷ conflicts [] 0 ∷ types (some (concrete-type 0 [])) ∷ refuses 5 ∷ []);
       claims = settled is flag false ∷ answer close is said (closed (report true 1 2)) ∷ [];
     }
     -- calls answered with no, calls that are none of these, and refused ones: settled stays, and the next close and settle find nothing to do
@@ -630,7 +641,7 @@ table =
           (settled101
           ++ (equate-els 1 2 ∷ impose 2 0 [] ∷ app 0 [] (0 ∷ []) 0 ∷ predicate 0 [] (1 ∷ []) ∷ plainEl ∷ markedEl ∷ var 0 2 ∷ ambientEl 1 0
           ∷ type-conflicts ∷ steps.root 2 ∷ steps.root-const 2 ∷ lookup-type 0 [] ∷ ambient-parents (1 ∷ []) ∷ equate-els 0 9 ∷ typ plain [] ∷ []));
-      output = tells (settles 2 1 ∷ conflicts [] ∷ types (some (concrete-type 0 [])) ∷ refuses 5 ∷ refuses 4 ∷ []);
+      output = tells (settles 2 1 ∷ conflicts [] 0 ∷ types (some (concrete-type 0 [])) ∷ refuses 5 ∷ refuses 4 ∷ []);
       claims =
           settled is flag true ∷ answer close is said (closed (report false 0 1)) ∷ answer settle is said (steps.summed (totals 1 0)) ∷ [];
     }
@@ -657,8 +668,41 @@ table =
           ∷ impose 0 0 (0 ∷ []) ∷ impose 0 0 (1 ∷ []) ∷ impose 0 0 (2 ∷ []) ∷ impose 1 0 [] ∷ impose 1 1 [] ∷ close ∷ type-conflicts ∷ []);
       output = tells
           (closes 1 0 1
-          ∷ conflicts (conflict 0 (fact 0 0 (0 ∷ [])) (fact 0 0 (1 ∷ [])) ∷ conflict 1 (fact 1 0 []) (fact 1 1 []) ∷ [])
+          ∷ conflicts (conflict 0 (fact 0 0 (0 ∷ [])) (fact 0 0 (1 ∷ [])) ∷ conflict 1 (fact 1 0 []) (fact 1 1 []) ∷ []) 1
           ∷ []);
+      claims = [];
+    }
+    -- M-103: no class with two stored facts, no find
+    ∷ record { source = calls (reported (fact 0 2 (0 ∷ []) ∷ fact 1 3 (0 ∷ 1 ∷ 2 ∷ 0 ∷ []) ∷ [])); output = tells (closes 1 0 1 ∷ conflicts [] 0 ∷ []); claims = [] }
+    -- M-103: a class with three facts: the parent of the first one, whichever facts come after it
+    ∷ record {
+      source = calls (reported (fact 0 2 (2 ∷ []) ∷ fact 0 2 (1 ∷ []) ∷ fact 0 3 (0 ∷ 1 ∷ 2 ∷ 0 ∷ []) ∷ []));
+      output = tells (closes 1 0 1 ∷ conflicts (conflict 0 (fact 0 2 (1 ∷ [])) (fact 0 2 (2 ∷ [])) ∷ []) 1 ∷ []);
+      claims = [];
+    }
+    -- M-103: three classes: a first fact with four parents, also where none is compared, one without, and one whose parent was found before
+    ∷ record {
+      source = calls
+          (reported
+          (fact 0 3 (0 ∷ 1 ∷ 2 ∷ 0 ∷ []) ∷ fact 0 4 [] ∷ fact 1 1 [] ∷ fact 1 2 (0 ∷ []) ∷ fact 2 2 (0 ∷ []) ∷ fact 2 4 [] ∷ []));
+      output = tells
+          (closes 1 0 1
+          ∷ conflicts
+          (conflict 0 (fact 0 3 (0 ∷ 1 ∷ 2 ∷ 0 ∷ [])) (fact 0 4 []) ∷ conflict 1 (fact 1 1 []) (fact 1 2 (0 ∷ []))
+          ∷ conflict 2 (fact 2 2 (0 ∷ [])) (fact 2 4 []) ∷ []) 5
+          ∷ []);
+      claims = [];
+    }
+    -- M-103: stored facts that are one as roots count as two; 1 is in the class of 0. No list of calls leaves such facts
+    ∷ record {
+      source = callsFrom (setFacts (fact 2 2 (0 ∷ []) ∷ fact 2 2 (1 ∷ []) ∷ []) merged103) (type-conflicts ∷ []);
+      output = tells (conflicts [] 1 ∷ []);
+      claims = link 1 is el 0 ∷ [];
+    }
+    -- M-103: the first fact is the first in the order of roots; all later ones agree with it up to the shorter length, and its parent is found once
+    ∷ record {
+      source = callsFrom (setFacts (fact 2 3 (0 ∷ 2 ∷ []) ∷ fact 2 3 (0 ∷ 2 ∷ 2 ∷ []) ∷ fact 2 3 (1 ∷ []) ∷ []) merged103) (type-conflicts ∷ []);
+      output = tells (conflicts [] 1 ∷ []);
       claims = [];
     }
     -- `canonicalise_refs` rewrites facts at the end of a close only: the typing of round 1 stores type 1 with parent 1 at element 3, then merges

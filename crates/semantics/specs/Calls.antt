@@ -24,7 +24,7 @@ use Rattle.semantics.specs.Structure.{with-func-apps, with-pred-apps, wi
 use Rattle.semantics.specs.Applying.{Equated, equate, Applied, insertFuncAppOrEquate}
 use Rattle.semantics.specs.Close as closing
 use Rattle.semantics.specs.Close.{Closed, CloseRun, closeRun, metCauses, closeCauses, reportOf, afterClose}
-use Rattle.semantics.specs.Conflicts.{Conflict, typeConflicts}
+use Rattle.semantics.specs.Conflicts.{Conflict, typeConflicts, conflictFinds}
 
 -- "Numbers must have been declared earlier."
 
@@ -216,7 +216,8 @@ pub data Answer : Type 0 where
   says : Bool → Answer
   done : Answer
   closed : Closed → Answer
-  conflicting : List Conflict → Answer
+  -- the conflicts, and how many roots of first facts' parents were found (02, M-103)
+  conflicting : List Conflict → ℕ → Answer
   summed : Totals → Answer
   found : FindM → Answer
   -- the type with its leading parents, or none
@@ -230,7 +231,7 @@ isAccepted (number n) = true
 isAccepted (says b) = true
 isAccepted done = true
 isAccepted (closed c) = true
-isAccepted (conflicting l) = true
+isAccepted (conflicting l n) = true
 isAccepted (summed t) = true
 isAccepted (found f) = true
 isAccepted (typed t) = true
@@ -243,7 +244,7 @@ mergesOf (number n) = 0
 mergesOf (says b) = 0
 mergesOf done = 0
 mergesOf (closed c) = c .merges
-mergesOf (conflicting l) = 0
+mergesOf (conflicting l n) = 0
 mergesOf (summed t) = t .merges
 mergesOf (found f) = 0
 mergesOf (typed t) = 0
@@ -277,7 +278,7 @@ settledBy (closed c) was = not (c .changed)
 settledBy (says b) was = not b && was
 settledBy (number n) was = was
 settledBy done was = was
-settledBy (conflicting cs) was = was
+settledBy (conflicting cs n) was = was
 settledBy (summed t) was = was
 settledBy (found f) was = was
 settledBy (typed t) was = was
@@ -393,7 +394,7 @@ rule (apply-pred x) m =
 rule (bind-var v) m = states (variableCauses (m .structure) v) done (withVar v (m .structure)) m
 rule (bind-ambient a) m = states (ambientCauses (m .sig) (m .structure) a) done (withAmbient a (m .structure)) m
 rule close m = closeRule (closeRun (m .sig) (m .structure)) m
-rule type-conflicts m = states [] (conflicting (typeConflicts (m .structure))) (m .structure) m
+rule type-conflicts m = states [] (conflicting (typeConflicts (m .structure)) (conflictFinds (m .structure))) (m .structure) m
 rule settle m = settleRule (settleRun (m .sig) (m .structure)) m
 rule (root e) m =
     asks (findCauses (m .structure .links) e) (found (findOf (m .structure .links) e)) (with-links (shortOf (m .structure .links) e) (m .structure)) m

@@ -1,5 +1,5 @@
--- The conflicts (01, "The conflict line").
-use Prim.Native.Nat.{ℕ, zero, suc}
+-- The conflicts (01, "The conflict line"), and the finds of a report (02, M-103).
+use Prim.Native.Nat.{ℕ, zero, suc, _+_}
 use mathlib.Core.Bool.{Bool, true, false, not, _&&_, _||_}
 use mathlib.Core.List.{List, [], _∷_, _++_}
 use lib.ListN.{length}
@@ -36,13 +36,16 @@ unfoldable pub conflictAmong : List ℕ → ℕ → List Fact → List Conflict
 conflictAmong ls e [] = []
 conflictAmong ls e (f ∷ fs) = firstConflict ls e f fs
 
--- "A class with two stored facts or more is ordered"
-unfoldable pub conflictAt : Structure → ℕ → List Conflict
-conflictAt s e =
+-- "A class with two stored facts or more is ordered": its facts in that order; none where e is no root, or where fewer are stored
+unfoldable pub orderedAt : Structure → ℕ → List Fact
+orderedAt s e =
     elim (eqb (rootOf (s .links) e) e && ltb 1 (length (factsAt e (s .facts)))) [
-      | true ↦ conflictAmong (s .links) e (concreteTypesOf (s .links) (s .facts) e)
+      | true ↦ concreteTypesOf (s .links) (s .facts) e
       | false ↦ []
     ]
+
+unfoldable pub conflictAt : Structure → ℕ → List Conflict
+conflictAt s e = conflictAmong (s .links) e (orderedAt s e)
 
 -- "Classes in root order": of the elements below n
 unfoldable pub conflictsBelow : Structure → ℕ → List Conflict
@@ -51,3 +54,20 @@ conflictsBelow s (suc e) = conflictsBelow s e ++ conflictAt s e
 
 unfoldable pub typeConflicts : Structure → List Conflict
 typeConflicts s = conflictsBelow s (length (s .links))
+
+-- M-103: "find the root of each parent of a class's first fact exactly once where the class has two stored facts or more": in a class with these
+-- facts a find for each parent of the first
+unfoldable pub findsAmong : List Fact → ℕ
+findsAmong [] = 0
+findsAmong (f ∷ fs) = length (f .parents)
+
+unfoldable pub findsAt : Structure → ℕ → ℕ
+findsAt s e = findsAmong (orderedAt s e)
+
+unfoldable pub findsBelow : Structure → ℕ → ℕ
+findsBelow s zero = 0
+findsBelow s (suc e) = findsBelow s e + findsAt s e
+
+-- "the number of these finds", over all classes
+unfoldable pub conflictFinds : Structure → ℕ
+conflictFinds s = findsBelow s (length (s .links))

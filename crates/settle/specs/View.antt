@@ -17,7 +17,7 @@ refusedBy (Number n) = none
 refusedBy (Says b) = none
 refusedBy Done = none
 refusedBy (Closed c) = none
-refusedBy Conflicting = none
+refusedBy (Conflicting n) = none
 refusedBy (Summed t) = none
 refusedBy (Refused n) = some n
 

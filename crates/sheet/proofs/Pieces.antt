@@ -146,7 +146,7 @@ module _ (bytes : List ℕ) where
     answer-on i (says b) = line-on []
     answer-on i done = line-on []
     answer-on i (closed c) = line-on _
-    answer-on i (conflicting cs) =
+    answer-on i (conflicting cs f) =
         record { rest = ap (λ (t : List ℕ). prints t (following bytes n next k m)) (conflicts-printed cs); one = refl }
     answer-on i (summed t) = line-on _
     answer-on i (found f) = line-on []

@@ -177,7 +177,7 @@ fn after_record(carried: Carried, count: u16, index: u16, next: u16, done: u16) 
             let progress = follow(machine, count, next, done);
             Piece { line, progress }
         }
-        Answer::Conflicting => {
+        Answer::Conflicting(_) => {
             let line = Line::new();
             let progress = Progress {
                 stage: Stage::Listing,

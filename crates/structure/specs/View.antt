@@ -67,7 +67,7 @@ answerOf cs (variants.Number n) = calls.number n
 answerOf cs (variants.Says b) = calls.says b
 answerOf cs variants.Done = calls.done
 answerOf cs (variants.Closed c) = calls.closed (closedOf c)
-answerOf cs variants.Conflicting = calls.conflicting cs
+answerOf cs (variants.Conflicting n) = calls.conflicting cs n
 answerOf cs (variants.Summed t) = calls.summed (totalsOf t)
 answerOf cs (variants.Refused n) = calls.refuse n
 
@@ -103,7 +103,7 @@ elsIn (calls.number n) = []
 elsIn (calls.says b) = []
 elsIn calls.done = []
 elsIn (calls.closed c) = []
-elsIn (calls.conflicting cs) = []
+elsIn (calls.conflicting cs n) = []
 elsIn (calls.summed t) = []
 elsIn (calls.found f) = []
 elsIn (calls.typed t) = parentsIn t

@@ -62,7 +62,8 @@ pub enum Answer {
     Says(bool),
     Done,
     Closed(Closed),
-    Conflicting,
+    // How many roots of first facts' parents were found (02, M-103).
+    Conflicting(u16),
     Summed(Totals),
     Refused(u16),
 }

@@ -1,11 +1,11 @@
 //! Fixed histories: P1 to P10, every refusal number for every kind that can
-//! meet it, and the edges of document 01, of settle and of maps.
+//! meet it, and the edges of document 01, of settle, of maps and of conflict reports.
 
 use oracle::record::{AMBIENT_LOOKUP, TYPE_LOOKUP};
 use oracle::stream::{Entry, SHEET, SHEET_WITH_DUMPS};
 
 use crate::history::{bytes, chained, record, History, Words};
-use crate::{maps, proved, settled, settles};
+use crate::{finds, maps, proved, settled, settles};
 
 /// All fixed histories in order. Small ones with dumps.
 pub fn all() -> Vec<Entry> {
@@ -46,6 +46,14 @@ pub fn all() -> Vec<Entry> {
             entries.push(history.with_settles().list_with_dumps());
         }
     }
+    for (history, _) in finds::small() {
+        entries.push(history.list_with_dumps());
+        entries.push(history.sheet_with_dumps());
+        entries.push(history.with_settles().list_with_dumps());
+    }
+    entries.extend(finds::refused().map(|(history, _)| history.list_with_flags()));
+    let (most, _) = finds::most();
+    entries.extend([most.list(), most.with_settles().sheet()]);
     entries.extend(settled::all().iter().map(History::list_with_flags));
     for history in settled::accepted() {
         entries.push(history.without_finds().sheet_with_dumps());
@@ -735,7 +743,7 @@ fn full_queue_inside_a_close() -> History {
 /// Four types without parents, one with one parent, one with two, a predicate
 /// that gives an element the first four, and 256 elements of which those up to
 /// `marked` are marked.
-fn fact_signature(marked: usize) -> History {
+pub fn fact_signature(marked: usize) -> History {
     let mut h = History::new();
     h.plain(&[]).plain(&[]).plain(&[]).plain(&[]).plain(&[0]).plain(&[0, 0]);
     h.pred(&[], &[0, 1, 2, 3]).func(&[0], &[], 4);
@@ -746,7 +754,7 @@ fn fact_signature(marked: usize) -> History {
 }
 
 /// Gives four facts to each of the elements.
-fn four_facts_each(h: &mut History, els: impl Iterator<Item = u16>) {
+pub fn four_facts_each(h: &mut History, els: impl Iterator<Item = u16>) {
     for el in els {
         h.holds(0, &[], &[el, el, el, el]);
     }

@@ -2,6 +2,7 @@
 
 mod compare;
 mod edges;
+mod finds;
 mod history;
 mod maps;
 mod mutants;

@@ -100,6 +100,10 @@ impl<'a> Maker<'a> {
                 self.join_boxes();
                 self.rng.between(0, 12)
             }
+            62..=121 => {
+                self.impose_several();
+                self.rng.between(0, 15)
+            }
             _ => {
                 self.declare();
                 self.add_els(1, 9);
@@ -328,6 +332,38 @@ impl<'a> Maker<'a> {
         if self.rng.percent(70) {
             self.add_close();
         }
+    }
+
+    /// Types of no to four parents, several of them on each of the first elements, and a
+    /// report, whose finds go by the first one of each.
+    fn impose_several(&mut self) {
+        self.history.model(&[]);
+        self.types = vec![(0, 1)];
+        for _ in 0..self.rng.between(2, 6) {
+            let count = self.rng.between(0, 4);
+            self.history.plain(&[0; 4][..count]);
+            self.types.push((count, 0));
+        }
+        let arity = [self.a_type(), self.a_type()];
+        self.history.pred(&[0; 4], &arity);
+        self.preds = vec![(4, 2)];
+        self.add_els(3, 9);
+        for el in 0..self.rng.between(1, self.els) as u16 {
+            for _ in 0..self.rng.between(1, 3) {
+                let typ = self.rng.between(1, self.types.len() - 1) as u16;
+                let parents = self.impose_type(el, typ);
+                // The same with its first parents only, so that the two agree.
+                if self.rng.percent(15) {
+                    let count = self.rng.between(0, parents.len());
+                    self.history.impose(el, typ, &parents[..count]);
+                }
+            }
+            if self.rng.percent(15) {
+                self.add_predicate();
+            }
+        }
+        self.add_close();
+        self.history.conflicts();
     }
 
     fn add_els(&mut self, least: usize, most: usize) {
@@ -626,10 +662,16 @@ impl<'a> Maker<'a> {
 
     fn add_imposition(&mut self, el: u16) {
         let typ = self.a_type();
+        self.impose_type(el, typ);
+    }
+
+    /// Imposes a type; gives its parents.
+    fn impose_type(&mut self, el: u16, typ: u16) -> Vec<u16> {
         let declared = self.types[usize::from(typ)].0;
         let count = self.about(declared);
         let parents = self.some_els(count);
         self.history.impose(el, typ, &parents);
+        parents
     }
 
     fn add_application(&mut self) {

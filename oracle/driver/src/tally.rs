@@ -15,6 +15,8 @@ pub struct Tally {
     settles: usize,
     merges: usize,
     conflicts: usize,
+    /// Those that lists print.
+    finds: usize,
     refusals: BTreeMap<u16, usize>,
     /// Those of closes and settles.
     close_refusals: BTreeMap<u16, usize>,
@@ -42,7 +44,10 @@ impl Tally {
                     let _closes = number();
                     self.merges += number().unwrap_or_default();
                 }
-                "conflicts" => self.conflicts += number().unwrap_or_default(),
+                "conflicts" => {
+                    self.conflicts += number().unwrap_or_default();
+                    self.finds += number().unwrap_or_default();
+                }
                 "refused" => {
                     let cause = number().unwrap_or_default() as u16;
                     *self.refusals.entry(cause).or_default() += 1;
@@ -87,8 +92,8 @@ impl fmt::Display for Tally {
         write!(f, "{} histories, {} bytes: ", self.histories, self.bytes)?;
         write!(
             f,
-            "{} closes, {} settles, {} merges, {} conflicts, refusals",
-            self.closes, self.settles, self.merges, self.conflicts
+            "{} closes, {} settles, {} merges, {} conflicts, {} finds, refusals",
+            self.closes, self.settles, self.merges, self.conflicts, self.finds
         )?;
         self.refusals.iter().try_for_each(|(number, count)| write!(f, " {number}:{count}"))?;
         write!(f, ", of closes and settles")?;

@@ -12,7 +12,7 @@ use crate::compare::{first_difference, stream_of, Subject};
 use crate::history::History;
 use crate::rng::Rng;
 use crate::settled::{self, Calls};
-use crate::{edges, histories, maps, proved, random, settles, shrink, SAMPLE};
+use crate::{edges, finds, histories, maps, proved, random, settles, shrink, SAMPLE};
 
 /// What an entry prints, without the line that begins it.
 fn answers(entry: &Entry) -> Vec<String> {
@@ -54,6 +54,8 @@ fn p1_fresh() {
 fn p2_one_conflict() {
     let lines = ["close 1 1 2", "conflict 2 1 0 / 1 1", "conflicts 1", "end 12"];
     assert_eq!(sheet(&proved::p2()), lines);
+    let lines = ["close 1 1 2", "conflict 2 1 0 / 1 1", "conflicts 1 1"];
+    assert_eq!(list(&proved::p2())[10..], lines);
 }
 
 #[test]
@@ -86,6 +88,7 @@ fn p6_leading_parents() {
 fn p7_shorter_list_agrees() {
     let p = proved::p7();
     assert_eq!(sheet(&p), ["close 1 0 1", "conflicts 0", "end 10"]);
+    assert_eq!(list(&p)[8..], ["close 1 0 1", "conflicts 0 1"]);
     assert_eq!(tagged(&structure(&p), "f "), ["f 0 2 1", "f 0 2 1 2"]);
 }
 
@@ -351,6 +354,31 @@ fn settles_of_one_close_more_than_elements() {
         assert_eq!(list(&h).last(), Some(&format!("settle {} {}", els + 1, els - 1)));
         assert_eq!(tagged(&structure(&h), "e ").len(), els.into());
     }
+}
+
+/// Lists print the conflicts and the finds of a report, sheets the conflicts alone.
+#[test]
+fn reports_have_their_finds() {
+    let assert_list = |history: &History, reports: &[[usize; 2]]| {
+        let lines = reports.iter().map(|[n, finds]| format!("conflicts {n} {finds}"));
+        assert_eq!(tagged(&list(history), "conflicts "), lines.collect::<Vec<_>>());
+    };
+    for (history, reports) in finds::small().into_iter().chain([finds::most()]) {
+        assert_list(&history, &reports);
+        assert_list(&history.with_settles(), &reports);
+        let lines = reports.iter().map(|[n, _]| format!("conflicts {n}"));
+        assert_eq!(tagged(&sheet(&history), "conflicts "), lines.collect::<Vec<_>>());
+    }
+    for (history, reports) in finds::refused() {
+        assert_list(&history, &reports);
+    }
+}
+
+/// What is refused between the reports of `finds::refused`.
+#[test]
+fn reports_stand_beside_refusals() {
+    let refusals = finds::refused().map(|(history, _)| tagged(&list(&history), "refused "));
+    assert_eq!(refusals, [vec!["refused 3"; 3], vec!["refused 9"; 2], vec!["refused 11"; 2]]);
 }
 
 /// A history that may grow by `limit` records of one kind and no more.

@@ -14,8 +14,7 @@ pub enum Answer {
         closes: usize,
         merges: usize,
     },
-    /// The element and the two facts of each conflict.
-    Conflicts(Vec<(usize, Fact, Fact)>),
+    Conflicts(Conflicts),
     Found {
         root: usize,
         count: usize,
@@ -28,6 +27,13 @@ pub struct Closed {
     pub changed: bool,
     pub merges: usize,
     pub rounds: usize,
+}
+
+pub struct Conflicts {
+    /// The element and the two facts of each conflict.
+    pub each: Vec<(usize, Fact, Fact)>,
+    /// How often a report finds the root of a parent of a class's first fact.
+    pub finds: usize,
 }
 
 pub struct Fact {
@@ -50,6 +56,16 @@ impl fmt::Display for Fact {
     }
 }
 
+/// As a sheet prints them.
+impl fmt::Display for Conflicts {
+    fn fmt(&self, f: &mut fmt::Formatter) -> fmt::Result {
+        for (el, a, b) in &self.each {
+            writeln!(f, "conflict {el} {a} / {b}")?;
+        }
+        write!(f, "conflicts {}", self.each.len())
+    }
+}
+
 /// The lines of an answer in a list of calls.
 impl fmt::Display for Answer {
     fn fmt(&self, f: &mut fmt::Formatter) -> fmt::Result {
@@ -61,12 +77,7 @@ impl fmt::Display for Answer {
                 writeln!(f, "close {} {merges} {rounds}", u8::from(*changed))
             }
             Answer::Settled { closes, merges } => writeln!(f, "settle {closes} {merges}"),
-            Answer::Conflicts(conflicts) => {
-                for (el, a, b) in conflicts {
-                    writeln!(f, "conflict {el} {a} / {b}")?;
-                }
-                writeln!(f, "conflicts {}", conflicts.len())
-            }
+            Answer::Conflicts(conflicts) => writeln!(f, "{conflicts} {}", conflicts.finds),
             Answer::Found { root, count } => writeln!(f, "root {root} {count}"),
             Answer::Typed(Some(fact)) => writeln!(f, "type {fact}"),
             Answer::Typed(None) => writeln!(f, "absent"),

@@ -1,5 +1,6 @@
-//! Where the Rust panics, each on the smallest input, and where it does what
-//! its comments do not say. FINDINGS.md tells the same in words.
+//! Where the Rust panics, each on the smallest input, where it does what its
+//! comments do not say, and what no history shows. FINDINGS.md tells the same in
+//! words.
 
 use super::*;
 
@@ -210,4 +211,26 @@ fn a_close_queues_any_number_of_pairs() {
     assert_eq!(structure.pending_equalities.len(), 258);
     structure.close(&model());
     assert_eq!(structure.els.len(), 1);
+}
+
+/// Two stored facts that are one as roots: the Rust goes on to the class, and there is
+/// nothing to compare. The parents of the one fact are found. No call leaves such facts.
+#[test]
+fn stored_facts_that_are_one_as_roots_have_finds() {
+    let mut structure = applied(4, 0, NONE);
+    let fact = |parent| ConcreteType { typ: TypeId::new(0), parents: vec![ElId(3), ElId(parent)] };
+    assert!(structure.impose_concrete_type(ElId(0), fact(1)));
+    assert!(structure.impose_concrete_type(ElId(0), fact(2)));
+    let report = |structure: &Structure| {
+        let structure = structure.clone();
+        Oracle { structure, ..Oracle::default() }.conflicts()
+    };
+    assert_eq!((report(&structure).each.len(), report(&structure).finds), (1, 2));
+    structure.equate(ElId(1), ElId(2));
+    structure.drain_equalities();
+    assert_eq!(structure.els[&ElId(0)].len(), 2);
+    assert_eq!(structure.concrete_types_of(ElId(0)), [fact(1)]);
+    assert_eq!((report(&structure).each.len(), report(&structure).finds), (0, 2));
+    structure.canonicalise_refs();
+    assert_eq!((report(&structure).each.len(), report(&structure).finds), (0, 0));
 }

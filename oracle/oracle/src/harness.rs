@@ -8,12 +8,12 @@ mod findings;
 
 use super::{
     concrete_type_at, func_codomain_type_at, func_domain_type_at, ConcreteType, ElId, FuncApp,
-    PredApp, Structure,
+    PredApp, Structure, TypeConflict,
 };
 use crate::algebra::signature::{
     FuncId, ModelIds, MorphismMemberTypes, PredId, Signature, TypeId, TypeKind,
 };
-use crate::answer::{Answer, Closed, Fact, Numbers};
+use crate::answer::{Answer, Closed, Conflicts, Fact, Numbers};
 use crate::book::Book;
 use crate::record::{Record, Table, ROOT, ROOT_CONST, TYPE_LOOKUP};
 
@@ -117,6 +117,11 @@ impl Oracle {
     /// A copy of the structure, for a close to be timed on, and the signature.
     pub fn parts(&self) -> (Structure, &Signature) {
         (self.structure.clone(), &self.signature)
+    }
+
+    /// The Rust's own report, to be timed.
+    pub fn type_conflicts(&self) -> Vec<TypeConflict> {
+        self.structure.type_conflicts()
     }
 
     fn find(&mut self, record: &Record) -> Answer {
@@ -351,7 +356,7 @@ impl Oracle {
                 Answer::Said(true)
             }
             13 => Answer::Closed(self.close()?),
-            14 => self.conflicts(),
+            14 => Answer::Conflicts(self.conflicts()),
             _ => self.settle()?,
         })
     }
@@ -482,9 +487,17 @@ impl Oracle {
         self.structure.els.values().map(|cts| cts.len()).sum()
     }
 
-    fn conflicts(&self) -> Answer {
+    fn conflicts(&self) -> Conflicts {
         let conflicts = self.structure.type_conflicts().into_iter();
-        Answer::Conflicts(conflicts.map(|c| (c.el.0, fact(c.a), fact(c.b))).collect())
+        let each = conflicts.map(|c| (c.el.0, fact(c.a), fact(c.b))).collect();
+        Conflicts { each, finds: self.finds() }
+    }
+
+    /// The finds of a conflict report (M-103). The Rust does not count them, and makes
+    /// others: it finds a parent again for each fact that it compares.
+    fn finds(&self) -> usize {
+        let els = self.structure.els.iter().filter(|(_, cts)| cts.len() >= 2);
+        els.map(|(&el, _)| self.structure.concrete_types_of(el)[0].parents.len()).sum()
     }
 
     /// What holds of every structure between two calls.

@@ -29,9 +29,8 @@ pub fn run(bytes: &[u8], dumps: bool, out: &mut String) {
                 *out += &format!("refused {number} at {index}\n");
                 return;
             }
-            Answer::Closed(_) | Answer::Settled { .. } | Answer::Conflicts(_) => {
-                *out += &answer.to_string();
-            }
+            Answer::Closed(_) | Answer::Settled { .. } => *out += &answer.to_string(),
+            Answer::Conflicts(conflicts) => *out += &format!("{conflicts}\n"),
             _ => {}
         }
         if dumps {

@@ -3,6 +3,7 @@
 use std::mem;
 
 use crate::close::{close, settle, Closed, Met, Settled};
+use crate::conflicts::Report;
 use crate::faults::Fault;
 use crate::state::{App, Fact, Find, Model, MorApp, Relation, State, Type, Words};
 
@@ -12,7 +13,7 @@ pub enum Answer {
     Said(bool),
     Closed(Closed),
     Settled(Settled),
-    Conflicts(Vec<(u16, Fact, Fact)>),
+    Conflicts(Report),
     Found(Find),
     Typed(Option<Fact>),
     Ambients(Vec<u16>),
@@ -496,6 +497,7 @@ impl State {
                 self.links.push(self.links.len() as u16);
                 self.marks.push(w[2] != 0);
                 self.facts.push(Vec::new());
+                self.oldest.push(0);
                 Answer::Number(self.links.len() - 1)
             }
             7 => {
@@ -535,7 +537,7 @@ impl State {
                 Answer::Said(true)
             }
             13 => Answer::Closed(close(self)?),
-            14 => Answer::Conflicts(self.conflicts()),
+            14 => Answer::Conflicts(self.report()),
             _ => Answer::Settled(settle(self)?),
         })
     }

@@ -73,6 +73,7 @@ pub fn close(state: &mut State) -> Result<Closed, Met> {
         changed = merges > 0;
     }
     state.was_taken &= !changed;
+    state.has_reported = false;
     let stays_taken = state.was_taken && state.is(Fault::QuietCloseLeavesTaken);
     state.settled = (!changed && !stays_taken) || state.is(Fault::CloseSettles);
     Ok(Closed { changed, merges, rounds })
@@ -233,6 +234,9 @@ impl Work<'_> {
         self.merges += 1;
         self.merge_marks(keep.into(), gone.into());
         self.state.links[usize::from(gone)] = keep;
+        if self.state.facts[usize::from(keep)].is_empty() {
+            self.state.oldest[usize::from(keep)] = self.state.oldest[usize::from(gone)];
+        }
         let moved = mem::take(&mut self.state.facts[usize::from(gone)]);
         let mut facts = mem::take(&mut self.state.facts[usize::from(keep)]);
         for fact in moved {
@@ -381,6 +385,9 @@ impl Work<'_> {
             self.state.fact_as_roots(fact)
         };
         let mut facts = mem::take(&mut self.state.facts[at]);
+        if facts.is_empty() {
+            self.state.oldest[at] = new.parents.len();
+        }
         let grew = self.state.insert_fact(&mut facts, new);
         self.state.facts[at] = facts;
         if grew && self.is_full() {

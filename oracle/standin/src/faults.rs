@@ -1,5 +1,5 @@
-//! The wrong versions, by name. Each departs from document 01, or from M-100, M-101 or
-//! M-102 of document 02, in one place.
+//! The wrong versions, by name. Each departs from document 01, or from M-100 to M-103 of
+//! document 02, in one place.
 
 macro_rules! faults {
     ($($fault:ident: $text:literal,)*) => {
@@ -226,6 +226,36 @@ faults! {
     LengthsConflict: "parent lists of different lengths disagree",
     ConflictTypesOnly: "facts disagree by type only",
     EmptyListHasSpace: "a fact without parents prints with a space after its type",
+
+    // The finds of a conflict report. Between two calls stored facts are as roots, so
+    // that no two of them are one as roots, and a find follows no link.
+    LoneFactFound: "the parents of a class's only fact are found too",
+    FoundForEachLater: "the parents of a first fact are found again for each later fact",
+    FoundForEachCompared: "the parents of a first fact are found again for each fact compared",
+    FoundForEachPair: "a parent of a first fact is found each time that it is compared",
+    FoundWhenCompared: "a parent of a first fact is found only once it is compared",
+    FoundUpToShorter: "a parent of a first fact is found only where a later fact has one too",
+    LaterFactsFound: "the parents of the later facts are found too",
+    ComparedFactsFound: "the parents of later facts that are compared are found too",
+    FoundInConflictsOnly: "parents are found only where the class has a conflict",
+    FoundWithoutConflictOnly: "parents are found only where the class has no conflict",
+    FoundUpToConflict: "no parent is found after the first class with a conflict",
+    LastFactFound: "the parents of the last fact are found",
+    OldestFactFound: "the parents of the fact that the class had first are found",
+    ShortestFactFound: "the parents of the fact with the fewest are found",
+    LongestFactFound: "the parents of the fact with the most are found",
+    FirstParentFound: "only the first parent of a first fact is found",
+    RepeatedParentFoundOnce: "a parent that stands twice in a first fact is found once",
+    SharedParentFoundOnce: "a parent of the first facts of two classes is found once",
+    FoundForEachElement: "parents are found for each element of a class",
+    RootsNotFound: "a parent that is a root is not found",
+    FindsAreClasses: "finds count the classes with two facts or more",
+    FindsAreConflicts: "finds count the conflicts",
+    FindsAddUp: "finds count those of the earlier reports too",
+    SecondReportFindsNone: "a report finds nothing if no close came after the one before",
+    FindsPrintedFirst: "the finds are printed before the number of conflicts",
+    FindsUnprinted: "a list prints no finds",
+    FindsInSheets: "a sheet prints the finds",
 
     // Refusals.
     FourBeforeThree: "number 4 comes before 3",

@@ -6,6 +6,7 @@
 
 mod calls;
 mod close;
+mod conflicts;
 mod faults;
 mod laws;
 mod print;

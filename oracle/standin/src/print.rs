@@ -5,6 +5,12 @@ use crate::close::Closed;
 use crate::faults::Fault;
 use crate::state::{App, Fact, State};
 
+/// Where an answer is printed.
+pub enum Place {
+    List,
+    Sheet,
+}
+
 fn put(out: &mut String, numbers: &[u16]) {
     for number in numbers {
         *out += &format!(" {number}");
@@ -20,8 +26,8 @@ impl State {
         }
     }
 
-    /// The lines of an answer in a list; a sheet prints only some of them.
-    pub fn put_answer(&self, out: &mut String, answer: &Answer) {
+    /// The lines of an answer. A sheet prints only some of them, and no finds.
+    pub fn put_answer(&self, out: &mut String, answer: &Answer, place: Place) {
         match answer {
             Answer::Refused(number) => *out += &format!("refused {number}"),
             Answer::Number(number) => *out += &format!("number {number}"),
@@ -41,15 +47,26 @@ impl State {
                 }
                 put(out, &numbers);
             }
-            Answer::Conflicts(conflicts) => {
-                for (el, a, b) in conflicts {
+            Answer::Conflicts(report) => {
+                for (el, a, b) in &report.conflicts {
                     *out += &format!("conflict {el}");
                     self.put_fact(out, a);
                     *out += " /";
                     self.put_fact(out, b);
                     out.push('\n');
                 }
-                *out += &format!("conflicts {}", conflicts.len());
+                let (count, finds) = (report.conflicts.len(), report.finds);
+                let prints_finds = match place {
+                    Place::List => !self.is(Fault::FindsUnprinted),
+                    Place::Sheet => self.is(Fault::FindsInSheets),
+                };
+                *out += &if !prints_finds {
+                    format!("conflicts {count}")
+                } else if self.is(Fault::FindsPrintedFirst) {
+                    format!("conflicts {finds} {count}")
+                } else {
+                    format!("conflicts {count} {finds}")
+                };
             }
             Answer::Found(find) => *out += &format!("root {} {}", find.root, find.count),
             Answer::Typed(None) => *out += "absent",

@@ -2,6 +2,7 @@
 
 use crate::calls::Answer;
 use crate::faults::Fault;
+use crate::print::Place;
 use crate::state::{State, Words};
 
 /// The answers to a stream, with at most one fault.
@@ -38,7 +39,7 @@ fn words(record: &[u8]) -> Words {
 fn run_list(mut state: State, bytes: &[u8], mode: u32, out: &mut String) {
     for record in bytes.chunks_exact(32) {
         let answer = state.call(&words(record));
-        state.put_answer(out, &answer);
+        state.put_answer(out, &answer, Place::List);
         match mode {
             2 => state.put_dump(out),
             4 => state.put_flags(out),
@@ -77,7 +78,7 @@ fn run_sheet(mut state: State, bytes: &[u8], dumps: bool, out: &mut String) {
             _ => false,
         };
         if prints && !(astray && state.is(Fault::TwoAfterThree)) {
-            state.put_answer(out, &answer);
+            state.put_answer(out, &answer, Place::Sheet);
         }
         if astray {
             *out += &format!("refused 2 at {at}\n");

@@ -75,6 +75,12 @@ pub struct State {
     /// Whether a yes took settled away and no close has changed anything since; only
     /// wrong versions look at it.
     pub was_taken: bool,
+    /// The finds of all reports so far, whether one came after the latest close, and
+    /// for each element the number of parents of the fact that it had first; only wrong
+    /// versions look at these.
+    pub found: usize,
+    pub has_reported: bool,
+    pub oldest: Vec<usize>,
 }
 
 /// A find's answer.
@@ -104,6 +110,9 @@ impl State {
             begun: false,
             settled: fault == Some(Fault::FreshIsSettled),
             was_taken: false,
+            found: 0,
+            has_reported: false,
+            oldest: Vec::new(),
         }
     }
 
@@ -200,32 +209,5 @@ impl State {
         }
         let taken = if self.is(Fault::AllParents) { parents } else { &parents[..count] };
         Some(Fact { typ, parents: taken.to_vec() })
-    }
-
-    /// Each conflict: element, first fact, fact that disagrees.
-    pub fn conflicts(&self) -> Vec<(u16, Fact, Fact)> {
-        let mut conflicts = Vec::new();
-        for el in 0..self.links.len() as u16 {
-            if self.facts[usize::from(el)].len() < 2 {
-                continue;
-            }
-            let types = self.types_of(el);
-            for later in 1..types.len() {
-                let against = if self.is(Fault::NeighboursConflict) { later - 1 } else { 0 };
-                if self.disagree(&types[against], &types[later]) {
-                    conflicts.push((el, types[against].clone(), types[later].clone()));
-                    if !self.is(Fault::OneConflictPerFact) {
-                        break;
-                    }
-                }
-            }
-        }
-        conflicts
-    }
-
-    fn disagree(&self, a: &Fact, b: &Fact) -> bool {
-        let by_length = self.is(Fault::LengthsConflict) && a.parents.len() != b.parents.len();
-        let by_parents = a.parents.iter().zip(&b.parents).any(|(p, q)| p != q);
-        a.typ != b.typ || by_length || (by_parents && !self.is(Fault::ConflictTypesOnly))
     }
 }

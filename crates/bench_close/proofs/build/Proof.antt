@@ -6,10 +6,10 @@ use Rattle.bench_close.proofs.build.Statement.{statement}
 use Rattle.bench_close.proofs.build.Tie as tie
 
 abbrev Inv-loop : tie.InvT-loop
-Inv-loop bytes run₀ index₀ -visited₀ run index -visited = Unit {0}
+Inv-loop bytes kind run₀ index₀ -visited₀ run index -visited = Unit {0}
 
 abbrev μ-loop : tie.MeasureT-loop
-μ-loop bytes run₀ index₀ -visited₀ run index -visited = maxRecords - -visited
+μ-loop bytes kind run₀ index₀ -visited₀ run index -visited = maxRecords - -visited
 
 pub build-spec : {M : Type 1} → statement M
 build-spec =
@@ -19,7 +19,6 @@ build-spec =
     μ-loop
     (λ c κs. search needs)
     (λ c. tt)
-    (λ c κs. search needs)
     (λ c κs. search needs)
     (λ c. search needs)
     (λ c κs. search needs)

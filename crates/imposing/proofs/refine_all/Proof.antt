@@ -27,9 +27,19 @@ abbrev μ-loop : tie.MeasureT-loop
 slice-aggregate-concrete-types-of : tie.Need-slice-aggregate-concrete-types-of Inv-loop μ-loop
 slice-aggregate-concrete-types-of c = refl
 
+abbrev begun : tie.After-concrete-types-of Inv-loop μ-loop → tie.Start Inv-loop μ-loop
+begun c = c .before .before .before .before .before .before
+
+concrete-types-of-requires : tie.Need-concrete-types-of-requires Inv-loop μ-loop
+concrete-types-of-requires c κs =
+    let held = c .before .before .before .before .before .pre .0 in (
+      omega (arith, held .els-held .few, held .els-held .long),
+      (omega (arith, held .facts-held .few, held .facts-held .long), (held .facts-held .few, refl)),
+    )
+
 loop-holds : tie.Need-loop-holds Inv-loop μ-loop
 loop-holds c =
-    (omega arith, begins _ (c .before .before .before .before .before .before .pre .0) _)
+    (omega arith, begins _ (begun (c .before .before) .pre .0) _)
 
 loop-again : tie.Need-loop-again Inv-loop μ-loop
 loop-again c =
@@ -38,7 +48,7 @@ loop-again c =
     let typed = test .before .before .before .before in
     let l = test .before .loop in
     let there = typed .concrete-types-of .ensures in
-    let f = factOf (typed .before .before .before .before .args .fact) in (
+    let f = factOf (begun typed .args .fact) in (
       omega (arith, test .loop-test .taken),
       idle-turn oneList (l .i) (l .inv .1)
           (all-other _ _ (l .i) _ (read .fact-of .ensures) (test .loop-test .taken) (omega (arith, there .most, there .long)) f (c .if1 .taken)),
@@ -50,7 +60,7 @@ refine-parents-requires c κs =
     let typed = test .before .before .before .before in
     let l = test .before .loop in
     let most : l .i + 1 ≤ maxFacts = omega (arith, test .loop-test .taken, typed .concrete-types-of .ensures .most) in
-    (l .inv .1 .holds, room-turn oneList (l .i) (l .inv .1) (typed .before .before .before .before .pre .1) most)
+    (l .inv .1 .holds, room-turn oneList (l .i) (l .inv .1) (begun typed .pre .1) most)
 
 loop-again-2 : tie.Need-loop-again-2 Inv-loop μ-loop
 loop-again-2 c =
@@ -61,7 +71,7 @@ loop-again-2 c =
     let typed = test .before .before .before .before in
     let l = test .before .loop in
     let there = typed .concrete-types-of .ensures in
-    let f = factOf (typed .before .before .before .before .args .fact) in (
+    let f = factOf (begun typed .args .fact) in (
       omega (arith, test .loop-test .taken),
       turn oneList (l .i) (l .inv .1) (made .refine-parents .ensures)
           (all-same _ _ (l .i) _ (read .fact-of .ensures) (test .loop-test .taken) (omega (arith, there .most, there .long)) f (here .if1 .left)),
@@ -70,17 +80,17 @@ loop-again-2 c =
 same-length : tie.Need-same-length Inv-loop μ-loop
 same-length c =
     let l = c .before in
-    l .loop .inv .1 .holds .els-held .long ∙ sym (l .before .before .before .before .before .before .before .pre .0 .els-held .long)
+    l .loop .inv .1 .holds .els-held .long ∙ sym (begun (l .before .before .before) .pre .0 .els-held .long)
 
 same-length-2 : tie.Need-same-length-2 Inv-loop μ-loop
 same-length-2 c =
     let l = c .before in
-    l .loop .inv .1 .holds .facts-held .long ∙ sym (l .before .before .before .before .before .before .before .pre .0 .facts-held .long)
+    l .loop .inv .1 .holds .facts-held .long ∙ sym (begun (l .before .before .before) .pre .0 .facts-held .long)
 
 returns : tie.Need-returns Inv-loop μ-loop
 returns c =
     let typed = c .before .before .before .before in
-    let a = typed .before .before .before .before .args in
+    let a = begun typed .args in
     let l = c .before .loop in
     let there = typed .concrete-types-of .ensures in
     let whole = types-refined (factOf (a .fact)) (coreOf (lent (a .els .now) (a .facts .now) (a .pairs .now) (a .counts))) (there .is) in
@@ -92,8 +102,10 @@ refine-all-spec =
     (tie.spec
     Inv-loop
     μ-loop
+    (λ c. search needs)
+    (λ c. search needs)
     slice-aggregate-concrete-types-of
-    (λ c κs. search needs)
+    concrete-types-of-requires
     loop-holds
     (λ c. search needs)
     (λ c. search needs)

@@ -21,7 +21,7 @@ other (variants.Number n) k = refl
 other (variants.Says b) k = refl
 other variants.Done k = refl
 other (variants.Closed c) k = refl
-other variants.Conflicting k = refl
+other (variants.Conflicting n) k = refl
 other (variants.Summed t) k = refl
 other (variants.Refused n) k = absurd (miss (0 ∷ 1 ∷ 2 ∷ 3 ∷ 4 ∷ 5 ∷ []) 6 tt k)
 

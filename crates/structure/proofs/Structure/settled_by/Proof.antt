@@ -32,7 +32,7 @@ other (variants.Number n) k = refl
 other (variants.Says b) k = absurd (miss (0 ∷ 2 ∷ 4 ∷ 5 ∷ 6 ∷ []) 1 tt k)
 other variants.Done k = refl
 other (variants.Closed c) k = absurd (miss (0 ∷ 2 ∷ 4 ∷ 5 ∷ 6 ∷ []) 3 tt k)
-other variants.Conflicting k = refl
+other (variants.Conflicting n) k = refl
 other (variants.Summed t) k = refl
 other (variants.Refused n) k = refl
 
