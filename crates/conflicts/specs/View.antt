@@ -58,8 +58,8 @@ pub record ParentsFound (ls : List ℕ) (f : Fact) (roots : List ℕ) (finds : �
   pub each : finds ≡ length (f .parents)
   pub few : finds ≤ maxList
 
--- where the facts of an element stand among the first m rows: none before the first number, none from the second on (`from` is what the loop
--- needs before it knows the second); the third says how many there are
+-- where the facts of an element stand among the first m rows: none before the first number, none from the second on (`from` is what the
+-- next turn of the loop needs, which replaces the second); the third says how many there are
 pub record Span (rows : List (List ℕ)) (m el : ℕ) (span : List ℕ) : Type 0 where
   pub first-within : getD span 0 0 ≤ m
   pub last-within : getD span 1 0 ≤ m

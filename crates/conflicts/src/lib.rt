@@ -42,7 +42,7 @@ pub struct TypeConflicts {
 
 pub struct Conflicting {
     pub conflicts: TypeConflicts,
-    // How many roots of first facts' parents were found (02, M-103).
+    // How many finds the roots of first facts' parents took (02, M-103).
     pub finds: u16,
     pub structure: Structure,
 }

@@ -693,7 +693,7 @@ table =
           ∷ []);
       claims = [];
     }
-    -- M-103: stored facts that are one as roots count as two; 1 is in the class of 0. No list of calls leaves such facts
+    -- M-103: stored facts that are one as roots are two stored facts; 1 is in the class of 0. No list of calls leaves such facts
     ∷ record {
       source = callsFrom (setFacts (fact 2 2 (0 ∷ []) ∷ fact 2 2 (1 ∷ []) ∷ []) merged103) (type-conflicts ∷ []);
       output = tells (conflicts [] 1 ∷ []);

@@ -216,7 +216,7 @@ pub data Answer : Type 0 where
   says : Bool → Answer
   done : Answer
   closed : Closed → Answer
-  -- the conflicts, and how many roots of first facts' parents were found (02, M-103)
+  -- the conflicts, and how many finds the roots of first facts' parents took (02, M-103)
   conflicting : List Conflict → ℕ → Answer
   summed : Totals → Answer
   found : FindM → Answer

@@ -62,7 +62,7 @@ pub enum Answer {
     Says(bool),
     Done,
     Closed(Closed),
-    // How many roots of first facts' parents were found (02, M-103).
+    // How many finds the roots of first facts' parents took (02, M-103).
     Conflicting(u16),
     Summed(Totals),
     Refused(u16),
