@@ -31,6 +31,22 @@ pub record Found (s : Structure) (n : ℕ) (c : Conflict) : Type 0 where
   pub root : rootOf (s .links) (c .el) ≡ c .el
   pub differ : disagree (s .links) (c .a) (c .b) ≡ true
 
+-- The conflict of a class is that among its facts in order, where its element is a root with two stored facts or more; else there is none. So
+-- `orderedAt`, which the finds of M-103 count over, leaves the conflicts as they were.
+pub conflict-of-class : (s : Structure) (e : ℕ)
+    → _≡_ {A = List Conflict} (conflictAt s e)
+    (elim (eqb (rootOf (s .links) e) e && ltb 1 (length (factsAt e (s .facts)))) [
+      | true ↦ conflictAmong (s .links) e (concreteTypesOf (s .links) (s .facts) e)
+      | false ↦ []
+    ])
+unfolding conflictAt orderedAt conflictAmong
+conflict-of-class s e = go (eqb (rootOf (s .links) e) e && ltb 1 (length (factsAt e (s .facts))))
+  where
+    go : (t : Bool) → _≡_ {A = List Conflict} (conflictAmong (s .links) e (elim t [ true ↦ concreteTypesOf (s .links) (s .facts) e | false ↦ [] ]))
+        (elim t [ true ↦ conflictAmong (s .links) e (concreteTypesOf (s .links) (s .facts) e) | false ↦ [] ])
+    go true = refl
+    go false = refl
+
 -- Sorted lists.
 module _ {A : Type 0} (cmp : A → A → Ordering) where
   sorted-short : (l : List A) → length l ≤ 1 → Sorted cmp l

@@ -56,12 +56,6 @@ At-classes = tie.At-classes Inv-paired μ-paired Inv-stored μ-stored Inv-classe
 abbrev Root : Type 0
 Root = tie.Else1 Inv-paired μ-paired Inv-stored μ-stored Inv-classes μ-classes
 
-abbrev Stored : Type 0
-Stored = tie.In-stored Inv-paired μ-paired Inv-stored μ-stored Inv-classes μ-classes
-
-abbrev Paired : Type 0
-Paired = tie.In-paired Inv-paired μ-paired Inv-stored μ-stored Inv-classes μ-classes
-
 -- the structure whose conflicts are searched for
 abbrev given : At-classes → Structure
 given c =
