@@ -1,5 +1,5 @@
 //! Times the Rust's close and the port's on the same sheets, a settle beside as many closes of the Rust, both sides' conflict
-//! reports, and a call of the port that does nothing, and prints a table.
+//! reports, the port's stores and loads, and a call of the port that does nothing, and prints a table.
 
 mod clock;
 mod port;
@@ -72,6 +72,8 @@ fn main() {
         conflicts("1,024 facts in 256 classes, conflicts", sheets::many_classes(), 200),
         conflicts("1,024 facts agreeing in 4 classes, conflicts", sheets::agreeing(4), 200),
         conflicts("1,024 facts agreeing in 64 classes, conflicts", sheets::agreeing(64), 200),
+        input("every table full, stored", Call::Store, sheets::full(), 200),
+        input("every table full, loaded", Call::Load, sheets::full(), 200),
     ];
     let is_asked = |input: &Input| {
         words.is_empty() || words.iter().any(|word| input.name.contains(word.as_str()))
@@ -87,6 +89,12 @@ fn main() {
     if let (Some(nothing), Some(p1)) = (named("nothing"), named("P1")) {
         let (least, greatest) = ratios(&p1.port, &nothing.port);
         println!("\nP1 takes {least} to {greatest} times the call that does nothing.");
+    }
+    for row in &rows {
+        if let Some(bytes) = row.input.call.bytes(&row.input.sheet) {
+            let per_second = bytes as f64 / least(&row.port) / 1e6;
+            println!("\n{}: {per_second:.0} million bytes per second.", row.input.name);
+        }
     }
 }
 

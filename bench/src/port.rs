@@ -6,7 +6,7 @@ use oracle::timing::{CLOSE, CONFLICTS, SETTLE};
 
 use crate::clock;
 
-/// Builds the sheet of so many bytes once and makes the call so many times; the four words get the numbers of its answer,
+/// Builds the sheet or the list of so many bytes once and makes the call so many times; the four words get the numbers of its answer,
 /// at most three, and the last that was read of what the calls returned.
 type Calls = unsafe extern "C" fn(*const u8, usize, u64, *mut u64);
 
@@ -15,6 +15,8 @@ extern "C" {
     fn bench_settle(bytes: *const u8, length: usize, times: u64, out: *mut u64);
     fn bench_conflicts(bytes: *const u8, length: usize, times: u64, out: *mut u64);
     fn bench_nothing(bytes: *const u8, length: usize, times: u64, out: *mut u64);
+    fn bench_store(bytes: *const u8, length: usize, times: u64, out: *mut u64);
+    fn bench_load(bytes: *const u8, length: usize, times: u64, out: *mut u64);
 }
 
 /// What is timed.
@@ -25,6 +27,10 @@ pub enum Call {
     Conflicts,
     /// Takes and gives the structure as a close does, and answers as a close of a fresh one.
     Nothing,
+    /// What a list of calls leaves, stored.
+    Store,
+    /// That file, loaded.
+    Load,
 }
 
 impl Call {
@@ -34,6 +40,8 @@ impl Call {
             Call::Settle => bench_settle,
             Call::Conflicts => bench_conflicts,
             Call::Nothing => bench_nothing,
+            Call::Store => bench_store,
+            Call::Load => bench_load,
         }
     }
 
@@ -43,7 +51,7 @@ impl Call {
             Call::Close => Some(CLOSE),
             Call::Settle => Some(SETTLE),
             Call::Conflicts => Some(CONFLICTS),
-            Call::Nothing => None,
+            Call::Nothing | Call::Store | Call::Load => None,
         }
     }
 
@@ -62,6 +70,15 @@ impl Call {
             Call::Settle => format!("settle {first} {second}"),
             Call::Conflicts => format!("conflicts {first} {second}"),
             Call::Close | Call::Nothing => format!("close {first} {second} {third}"),
+            Call::Store | Call::Load => format!("{first} bytes"),
+        }
+    }
+
+    /// How many bytes a store writes, or a load reads.
+    pub fn bytes(self, sheet: &[u8]) -> Option<u64> {
+        match self {
+            Call::Store | Call::Load => Some(self.run(sheet, 1).0[0]),
+            _ => None,
         }
     }
 

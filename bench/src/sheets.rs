@@ -1,4 +1,5 @@
-//! The sheets that are timed. Each is at most 1,024 records and ends with the close, the settle or the conflicts timed.
+//! The sheets that are timed. Each is at most 1,024 records and ends with the close, the settle or the conflicts timed; and the
+//! list of calls whose structure is stored and loaded.
 
 /// The most elements of a structure.
 const ELS: u16 = 256;
@@ -294,4 +295,34 @@ pub fn composites() -> Vec<u8> {
     }
     sheet.record(9, dom, SET, &[], &[COUNT]);
     sheet.closed()
+}
+
+/// A list of calls that fills every table: 256 elements with four facts each, 256 applications of each kind, 64 impositions and
+/// variables, an ambient element of each of 32 types, and 256 pairs that wait. A list is not chained and has any length.
+pub fn full() -> Vec<u8> {
+    const TYPES: u16 = 32;
+    let mut list = Sheet::default();
+    for _ in 0..TYPES {
+        list.model_type();
+    }
+    list.predicate(&[], &[0, 1, 2, 3]);
+    list.function(&[], 0);
+    list.elements(ELS);
+    for el in 0..ELS {
+        let at = |place| (el + place) % ELS;
+        list.record(10, 0, 0, &[], &[at(0), at(1), at(2), at(3)]);
+        list.record(9, 0, el, &[], &[el, el, el, el]);
+    }
+    for el in 0..64 {
+        list.impose(el, 0, &[]);
+        list.record(11, el, el, &[], &[]);
+    }
+    for typ in 0..TYPES {
+        list.record(12, typ, typ, &[], &[]);
+    }
+    list.record(13, 0, 0, &[], &[]);
+    for el in 0..ELS {
+        list.equal(el, el);
+    }
+    list.records.iter().flatten().flat_map(|word| word.to_le_bytes()).collect()
 }

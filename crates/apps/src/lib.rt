@@ -104,7 +104,7 @@ impl PredApp {
         }
     }
 
-    fn compare(self, other: PredApp) -> Ordering
+    pub fn compare(self, other: PredApp) -> Ordering
         ensures { λ r. ⌜ r ≡ comparePredApp (predAppOf self) (predAppOf other) ⌝ }
     {
         match ids::compare_numbers(self.pred.0, other.pred.0) {

@@ -1,9 +1,14 @@
-// A sheet built up to its first close, settle or conflicts, and that one run many times, for bench/ to time. It is no part of the port.
+// A sheet built up to its first close, settle or conflicts, and that one run many times, or a list of calls, and what it leaves stored or loaded
+// many times, for bench/ to time. It is no part of the port.
 use conflicts::Conflicting;
 use conflicts::TypeConflicts;
 use facts::Fact;
+use file_rows::File;
+use loading::Loaded;
+use loading::Loading;
 use records::Record;
 use signature::Signature;
+use storing::Stored;
 use structure::Answer;
 use structure::Closed;
 use structure::Machine;
@@ -229,4 +234,92 @@ pub extern "C" fn bench_nothing(bytes: &[u8], times: u64, out: &mut [u64; 4]) {
         let stepped = nothing(structure, signature, more);
         keep(stepped, i, out);
     }
+}
+
+// How many bytes were stored, and a byte of the file; which one is known only when the program runs.
+fn keep_stored(stored: Stored, file: &[u8; File::MAX_BYTES], i: u64, out: &mut [u64; 4]) {
+    if let Stored::Bytes(n) = stored {
+        out[0] = n as u64;
+    }
+    let most = File::MAX_BYTES as u64;
+    let at = (out[3] % most + i % most) as usize;
+    out[3] = wide(file[at % File::MAX_BYTES]);
+}
+
+fn wide(b: u8) -> u64 {
+    b as u64
+}
+
+// How many bytes were loaded, those of the longest file, and a number out of the structure; of a refusal its number.
+fn keep_loaded(loading: Loading, i: u64, out: &mut [u64; 4]) {
+    let most = Structure::MAX_FACTS as u64;
+    let at = (out[3] % most + i % most) as usize;
+    let structure = loading.structure;
+    let read = read_of(structure, at);
+    out[3] = read as u64;
+    let answer = loading.answer;
+    match answer {
+        Loaded::Done => {
+            out[0] = File::MAX_BYTES as u64;
+        }
+        Loaded::Refused(number) => {
+            out[0] = 0;
+            out[1] = number as u64;
+        }
+    }
+}
+
+// The byte for settled of the longest file, the last but one.
+fn set_settled(file: &mut [u8; File::MAX_BYTES], x: u64) {
+    file[File::MAX_BYTES - 2] = (x % 2) as u8;
+}
+
+fn load_whole(signature: Signature, file: &[u8; File::MAX_BYTES]) -> Loading {
+    // The whole array, for its length.
+    let all = &file[..];
+    loading::load(signature, all)
+}
+
+fn store_once(structure: Structure, i: u64, out: &mut [u64; 4]) {
+    let mut file = [0u8; File::MAX_BYTES];
+    let stored = storing::store(structure, &mut file);
+    keep_stored(stored, &file, i, out);
+}
+
+// What a list of calls leaves, stored so many times. `settled` of the structure given is what was read of the file before.
+#[no_mangle]
+pub extern "C" fn bench_store(bytes: &[u8], times: u64, out: &mut [u64; 4]) {
+    let ran = driver::run(bytes);
+    let run = ran.machine;
+    let mut structure = run.structure;
+    for i in 0..times {
+        structure.settled = out[3] % 2 == 1;
+        store_once(structure, i, out);
+    }
+}
+
+fn load_times(
+    signature: Signature,
+    file: &mut [u8; File::MAX_BYTES],
+    times: u64,
+    out: &mut [u64; 4],
+) {
+    for i in 0..times {
+        set_settled(file, out[3]);
+        let loading = load_whole(signature, file);
+        keep_loaded(loading, i, out);
+    }
+}
+
+// The file of what a list of calls leaves, of the longest that there are, loaded so many times. Its byte for settled is what was read of the
+// structure before.
+#[no_mangle]
+pub extern "C" fn bench_load(bytes: &[u8], times: u64, out: &mut [u64; 4]) {
+    let ran = driver::run(bytes);
+    let run = ran.machine;
+    let signature = run.signature;
+    let structure = run.structure;
+    let mut file = [0u8; File::MAX_BYTES];
+    storing::store(structure, &mut file);
+    load_times(signature, &mut file, times, out);
 }

@@ -1,5 +1,6 @@
 -- No public call asks anything: each function's `requires`, by its name, of any arguments. A `requires` added to one of them would show here.
 use mathlib.Core.Bool.{Bool}
+use contract.Lifetimes.{Lfts}
 use Rattle.ids.specs.declared.ElId.{ElId}
 use Rattle.ids.specs.declared.ElIds.{ElIds}
 use Rattle.ids.specs.declared.TypeId.{TypeId}
@@ -38,6 +39,9 @@ use Rattle.structure.proofs.Structure.ambient_parents.Reads as ambient-parents-
 use Rattle.structure.proofs.Structure.is_settled.Reads as is-settled-fn
 use Rattle.signature.proofs.Signature.new.Reads as new-signature-fn
 use Rattle.structure.proofs.Structure.new.Reads as new-structure-fn
+use Rattle.storing.proofs.store.Reads as store-fn
+use Rattle.loading.proofs.load.Reads as load-fn
+use Rattle.conserved.specs.Acts.{Lent}
 
 pub new-signature-asked : new-signature-fn.Asked tt tt
 new-signature-asked = tt
@@ -67,7 +71,13 @@ module _ (s : Structure) where
   pub root-const-asked : (e : ElId) → root-const-fn.Asked tt (s, (e, tt))
   root-const-asked e = tt
 
+  pub store-asked : (κs : Lfts 1) (buffer : Lent) → store-fn.Asked κs (s, (buffer, tt))
+  store-asked κs buffer = tt
+
 module _ (g : Signature) where
+  pub load-asked : (κs : Lfts 1) (bytes : Lent) → load-fn.Asked κs (g, (bytes, tt))
+  load-asked κs bytes = tt
+
   pub lookup-type-asked : (t : TypeId) (ps : ElIds) → lookup-type-fn.Asked tt (g, (t, (ps, tt)))
   lookup-type-asked t ps = tt
 

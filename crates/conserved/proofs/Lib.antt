@@ -1,4 +1,5 @@
 pub mod Asked
 pub mod Composed
 pub mod Lent
+pub mod Parked
 pub mod Settled

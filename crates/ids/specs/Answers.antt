@@ -55,6 +55,15 @@ tooManyFacts = 11
 abbrev pub wrongArgCount : ℕ
 wrongArgCount = 12
 
+-- 02, M-104: "a file too short for its counts, or whose length does not fit them"
+abbrev pub wrongLength : ℕ
+wrongLength = 13
+
+-- 02, M-104: "a number or count outside its table, an entry whose call would refuse it, a link to a higher element, a fact on an element that is no root,
+-- a broken chain, an order other than ours or a nonzero unused byte", "after 13"
+abbrev pub wrongContent : ℕ
+wrongContent = 14
+
 -- a value, or the number of the refusal
 pub data Answered (A : Type 0) : Type 0 where
   accepted : A → Answered A

@@ -44,6 +44,10 @@ impl Refusal {
     pub const TOO_MANY_FACTS: u16 = 11;
 
     pub const WRONG_ARG_COUNT: u16 = 12;
+
+    pub const WRONG_LENGTH: u16 = 13;
+
+    pub const WRONG_CONTENT: u16 = 14;
 }
 
 // Whether a call is refused, and with which number.

@@ -3,7 +3,6 @@ use apps::FuncApp;
 use apps::PredApp;
 use facts::Fact;
 use ids::FuncId;
-use ids::PredId;
 use ids::Refusal;
 use ids::Verdict;
 use signature::ModelIds;
@@ -14,11 +13,11 @@ use structure::Stepped;
 use structure::Structure;
 ghost use mathlib.Core.Path.{_≡_};
 ghost use Rattle.signature.specs.Model.{sigOf, modelOf, viewModels};
-ghost use Rattle.semantics.specs.Calls.{isPred, isIdOrComp, isReserved, misapplies, isMisapplied, impose-type, apply-func, apply-pred, machine, step};
+ghost use Rattle.semantics.specs.Calls.{isIdOrComp, isReserved, misapplies, isMisapplied, impose-type, apply-func, apply-pred, machine, step};
 ghost use Rattle.apps.specs.View.{funcAppOf, predAppOf};
 ghost use Rattle.structure.specs.View.{structureOf, stepOf};
 ghost use Rattle.facts.specs.View.{factOf, givenFact};
-ghost use Rattle.inserting.specs.View.{givenFuncApp, givenPredApp, factDeclared, appDeclared, predAppDeclared};
+ghost use Rattle.inserting.specs.View.{givenFuncApp, givenPredApp, factDeclared, factWithin, appDeclared, appWithin, predAppDeclared, predAppWithin};
 
 // Kind 8: a fact is queued, as roots, to be imposed.
 pub fn impose_type(structure: Structure, signature: Signature, fact: Fact) -> Stepped
@@ -108,37 +107,57 @@ pub fn insert_pred_app(structure: Structure, signature: Signature, app: PredApp)
 fn fact_is_declared(structure: Structure, signature: Signature, fact: Fact) -> bool
     ensures { λ r. ⌜ r ≡ factDeclared (sigOf signature) (structureOf structure) (factOf fact) ⌝ }
 {
+    let u = structure.unification;
+    let types = signature.types;
+    fact_is_within(fact, u.size() as u16, types.size())
+}
+
+// Whether a fact names elements and a type, where there are so many.
+pub fn fact_is_within(fact: Fact, els: u16, types: u16) -> bool
+    ensures { λ r. ⌜ r ≡ factWithin els types (factOf fact) ⌝ }
+{
     let parents = fact.ct.parents;
-    let named = ids::and(signature.is_type(fact.ct.typ), structure.are_els(parents));
-    ids::and(structure.is_el(fact.el), named)
+    let named = ids::and(fact.ct.typ.0 < types, parents.all_below(els));
+    ids::and(fact.el.0 < els, named)
 }
 
 // Whether a predicate application can be made of what is declared.
 fn pred_app_is_declared(structure: Structure, signature: Signature, app: PredApp) -> bool
     ensures { λ r. ⌜ r ≡ predAppDeclared (sigOf signature) (structureOf structure) (predAppOf app) ⌝ }
 {
+    let u = structure.unification;
+    let preds = signature.preds;
+    pred_app_is_within(app, u.size() as u16, preds.size())
+}
+
+// Whether a predicate application names elements and a predicate, where there are so many.
+pub fn pred_app_is_within(app: PredApp, els: u16, preds: u16) -> bool
+    ensures { λ r. ⌜ r ≡ predAppWithin els preds (predAppOf app) ⌝ }
+{
     let parents = app.parents;
     let args = app.args;
-    let named = ids::and(structure.are_els(parents), structure.are_els(args));
-    ids::and(is_pred(signature, app.pred), named)
+    let named = ids::and(parents.all_below(els), args.all_below(els));
+    ids::and(app.pred.0 < preds, named)
 }
 
 // Whether an application can be made of what is declared.
 fn app_is_declared(structure: Structure, signature: Signature, app: FuncApp) -> bool
     ensures { λ r. ⌜ r ≡ appDeclared (sigOf signature) (structureOf structure) (funcAppOf app) ⌝ }
 {
-    let parents = app.parents;
-    let args = app.args;
-    let found = ids::and(structure.are_els(args), structure.is_el(app.result));
-    let named = ids::and(structure.are_els(parents), found);
-    ids::and(signature.is_func(app.func), named)
+    let u = structure.unification;
+    let funcs = signature.funcs;
+    app_is_within(app, u.size() as u16, funcs.size())
 }
 
-fn is_pred(signature: Signature, pred: PredId) -> bool
-    ensures { λ r. ⌜ r ≡ isPred (sigOf signature) (pred .0) ⌝ }
+// Whether an application names elements and a function, where there are so many.
+pub fn app_is_within(app: FuncApp, els: u16, funcs: u16) -> bool
+    ensures { λ r. ⌜ r ≡ appWithin els funcs (funcAppOf app) ⌝ }
 {
-    let preds = signature.preds;
-    pred.0 < preds.size()
+    let parents = app.parents;
+    let args = app.args;
+    let found = ids::and(args.all_below(els), app.result.0 < els);
+    let named = ids::and(parents.all_below(els), found);
+    ids::and(app.func.0 < funcs, named)
 }
 
 // Whether a model names this function as id or comp.
@@ -160,7 +179,7 @@ fn is_id_or_comp(models: Models, func: FuncId) -> bool
 }
 
 // Whether a function may not be applied: one of record 5, or id or comp where a record 5 stands.
-fn is_reserved(signature: Signature, func: FuncId) -> bool
+pub fn is_reserved(signature: Signature, func: FuncId) -> bool
     ensures { λ r. ⌜ r ≡ isReserved (sigOf signature) (func .0) ⌝ }
 {
     let models = signature.models;
@@ -182,7 +201,7 @@ fn misapplies(ids: ModelIds, app: FuncApp) -> bool
 }
 
 // Whether it is so for some model.
-fn is_misapplied(models: Models, app: FuncApp) -> bool
+pub fn is_misapplied(models: Models, app: FuncApp) -> bool
     ensures { λ r. ⌜ r ≡ isMisapplied (funcAppOf app) (viewModels models) ⌝ }
 {
     let n = models.size();

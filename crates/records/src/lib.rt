@@ -52,7 +52,7 @@ fn wide(b: u8) -> u16
 }
 
 // The word whose lower byte stands at an index; 0 where not both of its bytes are there.
-fn word(bytes: &[u8], at: usize) -> u16
+pub fn word(bytes: &[u8], at: usize) -> u16
     ensures { λ r. ⌜ r ≡ getD (words (drop at (now (bytes .entry)))) 0 0 ⌝ }
 {
     if bytes.len() <= at {

@@ -16,10 +16,13 @@ use ids::TypeId;
 use libc::STDIN_FILENO;
 use libc::STDOUT_FILENO;
 use lines::Line;
+use loading::Loaded;
+use loading::Loading;
 use records::Record;
 use sheet::Progress;
 use sheet::Stage;
 use signature::Signature;
+use storing::Stored;
 use structure::Answer;
 use structure::Machine;
 use structure::Structure;
@@ -83,6 +86,15 @@ fn pair_line(word: &[u8], x: u16, y: u16) -> Line {
     two.put(b'\n')
 }
 
+// A word and three numbers.
+fn triple_line(word: &[u8], x: u16, y: u16, z: u16) -> Line {
+    let first = Line::new().put_word(word);
+    let one = first.put_number(x);
+    let two = one.put_number(y);
+    let three = two.put_number(z);
+    three.put(b'\n')
+}
+
 // A word and a list.
 fn els_line(word: &[u8], els: ElIds) -> Line {
     let first = Line::new().put_word(word);
@@ -98,11 +110,7 @@ fn bit(b: bool) -> u16 {
 
 // `e E L M`
 fn el_line(el: u16, link: u16, mark: bool) -> Line {
-    let word = Line::new().put_word(b"e");
-    let one = word.put_number(el);
-    let two = one.put_number(link);
-    let three = two.put_number(bit(mark));
-    three.put(b'\n')
+    triple_line(b"e", el, link, bit(mark))
 }
 
 // `f E T p..` or `i E T p..`
@@ -294,10 +302,11 @@ fn type_line(typ: TypeId, parents: ElIds) -> Line {
 
 // ---- lists
 
-// Where the text ends, and the machine.
+// Where the text ends, the machine, and the length of the file in the slot.
 pub struct Printed {
     pub n: usize,
     pub machine: Machine,
+    pub length: u16,
 }
 
 fn put_conflicts(text: &mut [u8; MAX_TEXT], n: usize, found: TypeConflicts) -> usize {
@@ -335,17 +344,218 @@ fn response_line(response: Response, els: ElIds, listed: u16) -> Line {
 }
 
 // The record at the start of the bytes, run as a list of one.
-fn respond(text: &mut [u8; MAX_TEXT], n: usize, machine: Machine, bytes: &[u8]) -> Printed {
+fn respond(text: &mut [u8; MAX_TEXT], from: Printed, bytes: &[u8]) -> Printed {
     let m = io::count(Record::BYTES as isize, bytes);
+    let machine = from.machine;
     let responded = driver::run_from(machine, &bytes[..m]);
     let response = responded.response;
     let els = responded.els;
     let conflicts = responded.conflicts;
     let next = responded.machine;
-    let at = put_conflicts(text, n, conflicts);
+    let at = put_conflicts(text, from.n, conflicts);
     Printed {
         n: put_line(text, at, response_line(response, els, conflicts.len)),
         machine: next,
+        length: from.length,
+    }
+}
+
+// ---- files in lists: the first bytes of a slot
+
+const SLOT: usize = 16384;
+
+// The kinds of the calls on files.
+const STORE: u16 = 105;
+
+const CHANGE: u16 = 106;
+
+const LOAD: u16 = 107;
+
+const BEGIN_AGAIN: u16 = 108;
+
+fn wide(b: u8) -> u16 {
+    b as u16
+}
+
+// The length of a file in the slot, in 16 bits: none is longer than the slot.
+fn short(n: usize) -> u16 {
+    if SLOT < n {
+        return 0;
+    }
+    n as u16
+}
+
+// A sum modulo the prime of the checksum.
+fn sum(x: u16, y: u16) -> u16 {
+    ((x as u32 + y as u32) % 65521) as u16
+}
+
+// `file N S T`
+fn file_line(file: &[u8], length: u16) -> Line {
+    let mut low: u16 = 1;
+    let mut high: u16 = 0;
+    for i in 0..file.len() {
+        low = sum(low, wide(file[i]));
+        high = sum(high, low);
+    }
+    triple_line(b"file", length, low, high)
+}
+
+fn bytes_word() -> Line {
+    Line::new().put_word(b"b")
+}
+
+// `b n..`, a line for each sixteen bytes.
+fn put_bytes(text: &mut [u8; MAX_TEXT], n: usize, file: &[u8]) -> usize {
+    let mut at = n;
+    let mut line = bytes_word();
+    for i in 0..file.len() {
+        line = line.put_number(wide(file[i]));
+        if i % 16 != 15 {
+            continue;
+        }
+        at = put_line(text, at, line.put(b'\n'));
+        line = bytes_word();
+    }
+    if file.len() % 16 == 0 {
+        return at;
+    }
+    put_line(text, at, line.put(b'\n'))
+}
+
+fn put_all_bytes(text: &mut [u8; MAX_TEXT], n: usize, file: &[u8], mode: usize) -> usize {
+    if mode != 2 {
+        return n;
+    }
+    put_bytes(text, n, file)
+}
+
+// A file was written, and has this length now.
+fn put_file(
+    text: &mut [u8; MAX_TEXT],
+    from: Printed,
+    slot: &[u8],
+    length: u16,
+    mode: usize,
+) -> Printed {
+    let machine = from.machine;
+    let m = io::count(length as isize, slot);
+    let at = put_line(text, from.n, file_line(&slot[..m], length));
+    Printed {
+        n: put_all_bytes(text, at, &slot[..m], mode),
+        machine,
+        length,
+    }
+}
+
+fn store_within(structure: Structure, slot: &mut [u8], room: u16) -> Stored {
+    let m = io::count(room as isize, slot);
+    storing::store(structure, &mut slot[..m])
+}
+
+fn load_within(signature: Signature, slot: &[u8], length: u16) -> Loading {
+    let m = io::count(length as isize, slot);
+    loading::load(signature, &slot[..m])
+}
+
+// A call that was accepted and answers nothing.
+fn put_done(text: &mut [u8; MAX_TEXT], from: Printed, machine: Machine) -> Printed {
+    Printed {
+        n: put_line(text, from.n, number_line(b"answer", bit(true))),
+        machine,
+        length: from.length,
+    }
+}
+
+fn put_refused(text: &mut [u8; MAX_TEXT], from: Printed, number: u16) -> Printed {
+    let machine = from.machine;
+    Printed {
+        n: put_line(text, from.n, number_line(b"refused", number)),
+        machine,
+        length: from.length,
+    }
+}
+
+fn run_store(
+    slot: &mut [u8; SLOT],
+    text: &mut [u8; MAX_TEXT],
+    from: Printed,
+    room: u16,
+    mode: usize,
+) -> Printed {
+    let machine = from.machine;
+    let structure = machine.structure;
+    let stored = store_within(structure, slot, room);
+    match stored {
+        Stored::Bytes(k) => put_file(text, from, slot, short(k), mode),
+        Stored::Refused(x) => put_refused(text, from, x),
+    }
+}
+
+// A length without so many bytes at the end.
+fn cut(length: u16, n: u16) -> u16 {
+    if length <= n {
+        return 0;
+    }
+    length - n
+}
+
+// So many zeros after a file, or as many as there is room for: gives the length with them.
+fn add_zeros(slot: &mut [u8; SLOT], length: u16, n: u16) -> usize {
+    let mut end = length as usize;
+    for i in 0..n {
+        if SLOT <= end {
+            return end;
+        }
+        slot[end] = 0;
+        end += 1;
+    }
+    end
+}
+
+// A byte of a file, where it has the place.
+fn set_byte(slot: &mut [u8; SLOT], length: u16, at: u16, value: u16) {
+    if length <= at {
+        return;
+    }
+    if SLOT <= at as usize {
+        return;
+    }
+    slot[at as usize] = (value % 256) as u8;
+}
+
+// The file changed as a record says: gives its length then.
+fn change(slot: &mut [u8; SLOT], length: u16, given: Record) -> u16 {
+    let kept = cut(length, given.parent_count);
+    let end = short(add_zeros(slot, kept, given.arg_count));
+    set_byte(slot, end, given.a, given.b);
+    end
+}
+
+fn run_change(
+    slot: &mut [u8; SLOT],
+    text: &mut [u8; MAX_TEXT],
+    from: Printed,
+    given: Record,
+    mode: usize,
+) -> Printed {
+    let length = change(slot, from.length, given);
+    put_file(text, from, slot, length, mode)
+}
+
+fn run_load(slot: &[u8; SLOT], text: &mut [u8; MAX_TEXT], from: Printed) -> Printed {
+    let machine = from.machine;
+    let signature = machine.signature;
+    let loading = load_within(signature, slot, from.length);
+    let answer = loading.answer;
+    let structure = loading.structure;
+    let next = Machine {
+        signature,
+        structure,
+    };
+    match answer {
+        Loaded::Done => put_done(text, from, next),
+        Loaded::Refused(x) => put_refused(text, from, x),
     }
 }
 
@@ -436,23 +646,68 @@ fn put_after_call(text: &mut [u8; MAX_TEXT], n: usize, machine: Machine, mode: u
     }
 }
 
+// The call of the record at the start of the bytes.
+fn run_call(
+    bytes: &[u8; Record::MAX_BYTES],
+    slot: &mut [u8; SLOT],
+    text: &mut [u8; MAX_TEXT],
+    from: Printed,
+    mode: usize,
+) -> Printed {
+    let given = records::record_at(bytes, 0);
+    let kind = given.kind;
+    match kind {
+        STORE => run_store(slot, text, from, given.a, mode),
+        CHANGE => run_change(slot, text, from, given, mode),
+        LOAD => run_load(slot, text, from),
+        BEGIN_AGAIN => put_done(text, from, Machine::new()),
+        _ => respond(text, from, bytes),
+    }
+}
+
 // A record, and what the mode prints after it.
 fn run_record(
     bytes: &[u8; Record::MAX_BYTES],
+    slot: &mut [u8; SLOT],
     text: &mut [u8; MAX_TEXT],
-    n: usize,
-    machine: Machine,
+    from: Printed,
     mode: usize,
 ) -> Printed {
-    let printed = respond(text, n, machine, bytes);
+    let printed = run_call(bytes, slot, text, from, mode);
     let next = printed.machine;
     Printed {
         n: put_after_call(text, printed.n, next, mode),
         machine: next,
+        length: printed.length,
     }
 }
 
 // The records of a list, and then the bytes that are no whole record.
+fn run_records(
+    bytes: &mut [u8; Record::MAX_BYTES],
+    slot: &mut [u8; SLOT],
+    text: &mut [u8; MAX_TEXT],
+    n: usize,
+    length: usize,
+    mode: usize,
+) -> usize {
+    let mut now = Printed {
+        n,
+        machine: Machine::new(),
+        length: 0,
+    };
+    let count = length / Record::BYTES;
+    for i in 0..count {
+        if read(bytes, Record::BYTES) != Record::BYTES {
+            return now.n;
+        }
+        now = run_record(bytes, slot, text, now, mode);
+    }
+    skip(bytes, length % Record::BYTES);
+    now.n
+}
+
+// A list begins with no file.
 fn run_list(
     bytes: &mut [u8; Record::MAX_BYTES],
     text: &mut [u8; MAX_TEXT],
@@ -460,20 +715,8 @@ fn run_list(
     length: usize,
     mode: usize,
 ) -> usize {
-    let mut at = n;
-    let mut machine = Machine::new();
-    let count = length / Record::BYTES;
-    for i in 0..count {
-        if read(bytes, Record::BYTES) != Record::BYTES {
-            return at;
-        }
-        let printed = run_record(bytes, text, at, machine, mode);
-        let next = printed.machine;
-        machine = next;
-        at = printed.n;
-    }
-    skip(bytes, length % Record::BYTES);
-    at
+    let mut slot = [0u8; SLOT];
+    run_records(bytes, &mut slot, text, n, length, mode)
 }
 
 fn run_entry(

@@ -153,7 +153,7 @@ piece-reads stages.Listing r s p e f = refl
 piece-reads stages.Ending r s p e f = refl
 piece-reads stages.Ended r s p e f = refl
 
-nothing-past : (bytes : List ℕ) (i : ℕ) → length bytes ≤ recordBytes * i → recordAt bytes i ≡ recordOf []
+pub nothing-past : (bytes : List ℕ) (i : ℕ) → length bytes ≤ recordBytes * i → recordAt bytes i ≡ recordOf []
 unfolding recordAt words
 nothing-past bytes i h = ap (λ (l : List ℕ). recordOf (words (take recordBytes l))) (drop-of-length-le bytes {i = recordBytes * i} h)
 

@@ -34,7 +34,7 @@ use Rattle.sheet.specs.Pieces.{Holds}
 
 -- A chain that is not broken.
 module _ (n : ℕ) (last : Bool) (next : ℕ) (whole : chainBroken n last next ≡ false) where
-  next-in : next < n
+  pub next-in : next < n
   unfolding chainBroken
   next-in = go (leb n next) refl where
     go : (t : Bool) → leb n next ≡ t → next < n
@@ -51,13 +51,13 @@ module _ (n : ℕ) (last : Bool) (next : ℕ) (whole : chainBroken n last next �
         absurd (true≢false (sym (ap (λ (t : Bool). t || (last && not (eqb next 0))) e ∙ ap (λ (t : Bool). t && not (eqb next 0)) l ∙ ap not f) ∙ whole))
 
 -- A choice, where what is chosen by a false test matters only there.
-choice-same : {R : Type 0} (b : Bool) (x y z : R) → (b ≡ false → y ≡ z) → _≡_ {A = R} (elim b [ true ↦ x | false ↦ y ]) (elim b [ true ↦ x | false ↦ z ])
+pub choice-same : {R : Type 0} (b : Bool) (x y z : R) → (b ≡ false → y ≡ z) → _≡_ {A = R} (elim b [ true ↦ x | false ↦ y ]) (elim b [ true ↦ x | false ↦ z ])
 choice-same true x y z h = refl
 choice-same false x y z h = h refl
 
 -- what comes after a visit matters only where the chain is not broken
 module _ (n : ℕ) (last : Bool) (r : Record) (m : Machine) where
-  visit-same : (i : ℕ) (one two : Machine → Ran) → (chainBroken n last (r .next) ≡ false → (a : Machine) → one a ≡ two a)
+  pub visit-same : (i : ℕ) (one two : Machine → Ran) → (chainBroken n last (r .next) ≡ false → (a : Machine) → one a ≡ two a)
       → visit n last r i m one ≡ visit n last r i m two
   unfolding visit carried
   visit-same i one two same =
@@ -69,22 +69,22 @@ module _ (n : ℕ) (last : Bool) (r : Record) (m : Machine) where
   count-same one two same =
       choice-same (chainBroken n last (r .next)) _ _ _ (λ whole. ap (answerPieces (carryOut (callOf r) m .answer)) (same whole (carryOut (callOf r) m .after)))
 
--- Records one after the other, as `runRecords` runs them and as `recordPieces` counts their pieces: a record is seen, and what
--- comes after it is the end of the chain or the rest of the run.
-module _ {R : Type 0} (bytes : List ℕ) (n : ℕ) (ends : ℕ → Machine → R) (seen : Bool → ℕ → Machine → (Machine → R) → R)
+-- Records one after the other, as `runRecords` runs them and as `recordPieces` counts their pieces: a record is seen, when so many may be visited after it
+-- and so many are done, and what comes after it is the end of the chain or the rest of the run.
+module _ {R : Type 0} (bytes : List ℕ) (n : ℕ) (ends : ℕ → Machine → R) (seen : ℕ → ℕ → Bool → ℕ → Machine → (Machine → R) → R)
     (run : ℕ → ℕ → ℕ → Machine → R)
-    (same : (b : Bool) (i : ℕ) (m : Machine) (one two : Machine → R)
-    → (chainBroken n b (recordAt bytes i .next) ≡ false → (a : Machine) → one a ≡ two a) → seen b i m one ≡ seen b i m two)
-    (final : (i k : ℕ) (m : Machine) → run zero i k m ≡ seen true i m (ends (suc k)))
+    (same : (v k : ℕ) (b : Bool) (i : ℕ) (m : Machine) (one two : Machine → R)
+    → (chainBroken n b (recordAt bytes i .next) ≡ false → (a : Machine) → one a ≡ two a) → seen v k b i m one ≡ seen v k b i m two)
+    (final : (i k : ℕ) (m : Machine) → run zero i k m ≡ seen zero k true i m (ends (suc k)))
     (onward : (visits i k : ℕ) (m : Machine) → run (suc visits) i k m
-    ≡ seen false i m (λ a. elim (eqb (recordAt bytes i .next) 0) [ true ↦ ends (suc k) a | false ↦ run visits (recordAt bytes i .next) (suc k) a ]))
+    ≡ seen (suc visits) k false i m (λ a. elim (eqb (recordAt bytes i .next) 0) [ true ↦ ends (suc k) a | false ↦ run visits (recordAt bytes i .next) (suc k) a ]))
   where
-    abbrev after : ℕ → ℕ → Machine → R
+    abbrev pub after : ℕ → ℕ → Machine → R
     after next k m = elim (eqb next 0) [ true ↦ ends k m | false ↦ run (n - 1 - doneBefore n k) next (doneBefore n k) m ]
 
-    run-sees : (visits i k : ℕ) (m : Machine) → n - 1 - k ≡ visits → run visits i k m ≡ seen (eqb visits 0) i m (after (recordAt bytes i .next) (suc k))
+    run-sees : (visits i k : ℕ) (m : Machine) → n - 1 - k ≡ visits → run visits i k m ≡ seen visits k (eqb visits 0) i m (after (recordAt bytes i .next) (suc k))
     run-sees zero i k m e =
-        final i k m ∙ same true i m (ends (suc k)) (after (recordAt bytes i .next) (suc k)) (λ whole a. chosen _ (last-zero n true _ whole refl))
+        final i k m ∙ same zero k true i m (ends (suc k)) (after (recordAt bytes i .next) (suc k)) (λ whole a. chosen _ (last-zero n true _ whole refl))
     run-sees (suc visits) i k m e =
         let on : doneBefore n (suc k) ≡ suc k = omega arith in
         let fewer : n - 1 - suc k ≡ visits = omega arith in
@@ -92,14 +92,14 @@ module _ {R : Type 0} (bytes : List ℕ) (n : ℕ) (ends : ℕ → Machine → R
         ≡ run (n - 1 - doneBefore n (suc k)) (recordAt bytes i .next) (doneBefore n (suc k)) a =
         λ a. ap (λ (f : ℕ). run f (recordAt bytes i .next) (suc k) a) (sym fewer) ∙ ap (λ (d : ℕ). run (n - 1 - d) (recordAt bytes i .next) d a) (sym on) in
         onward visits i k m
-        ∙ same false i m _ (after (recordAt bytes i .next) (suc k))
+        ∙ same (suc visits) k false i m _ (after (recordAt bytes i .next) (suc k))
         (λ whole a. ap (λ (r : R). elim (eqb (recordAt bytes i .next) 0) [ true ↦ ends (suc k) a | false ↦ r ]) (same-run a))
-        ∙ ap (λ (b : Bool). seen b i m (after (recordAt bytes i .next) (suc k))) (sym (eqb·suc-zero visits))
+        ∙ ap (λ (b : Bool). seen (suc visits) k b i m (after (recordAt bytes i .next) (suc k))) (sym (eqb·suc-zero visits))
 
-    run-from : (i k : ℕ) (m : Machine) → run (n - 1 - k) i k m ≡ seen (eqb (n - 1 - k) 0) i m (after (recordAt bytes i .next) (k + 1))
+    pub run-from : (i k : ℕ) (m : Machine) → run (n - 1 - k) i k m ≡ seen (n - 1 - k) k (eqb (n - 1 - k) 0) i m (after (recordAt bytes i .next) (k + 1))
     run-from i k m =
         let one : suc k ≡ k + 1 = omega arith in
-        run-sees (n - 1 - k) i k m refl ∙ ap (λ (d : ℕ). seen (eqb (n - 1 - k) 0) i m (after (recordAt bytes i .next) d)) one
+        run-sees (n - 1 - k) i k m refl ∙ ap (λ (d : ℕ). seen (n - 1 - k) k (eqb (n - 1 - k) 0) i m (after (recordAt bytes i .next) d)) one
 
 module _ (bytes : List ℕ) where
   -- what was to be printed, in so many pieces, is a piece and what comes after it
@@ -173,12 +173,12 @@ module _ (bytes : List ℕ) where
         let on = visit-on (recordAt bytes (p .index)) in
         record {
           rest =
-              run-from bytes n (λ k m. stops (endLine k) m) (λ b i m rest. visit n b (recordAt bytes i) i m rest) (runRecords bytes n)
-              (λ b i m one two. visit-same n b (recordAt bytes i) m i one two) (λ i k m. refl) (λ visits i k m. refl) (p .index) (doneBefore n (p .done)) (p .machine)
+              run-from bytes n (λ k m. stops (endLine k) m) (λ v k b i m rest. visit n b (recordAt bytes i) i m rest) (runRecords bytes n)
+              (λ v k b i m one two. visit-same n b (recordAt bytes i) m i one two) (λ i k m. refl) (λ visits i k m. refl) (p .index) (doneBefore n (p .done)) (p .machine)
               ∙ on .rest;
           one =
-              run-from bytes n (λ k m. 1) (λ b i m rest. visitPieces n b (recordAt bytes i) m rest) (λ visits i k m. recordPieces bytes n visits i m)
-              (λ b i m one two. count-same n b (recordAt bytes i) m one two) (λ i k m. refl) (λ visits i k m. refl) (p .index) (doneBefore n (p .done)) (p .machine)
+              run-from bytes n (λ k m. 1) (λ v k b i m rest. visitPieces n b (recordAt bytes i) m rest) (λ visits i k m. recordPieces bytes n visits i m)
+              (λ v k b i m one two. count-same n b (recordAt bytes i) m one two) (λ i k m. refl) (λ visits i k m. refl) (p .index) (doneBefore n (p .done)) (p .machine)
               ∙ on .one;
         }
 
@@ -283,7 +283,7 @@ module _ (bytes : List ℕ) where
 -- The start.
 
 -- a length that is not refused
-good-length : (l : ℕ) → badLength l ≡ false → (0 < l / recordBytes) × (l ≤ maxSheet)
+pub good-length : (l : ℕ) → badLength l ≡ false → (0 < l / recordBytes) × (l ≤ maxSheet)
 unfolding badLength
 good-length l h = go (eqb l 0) (eqb (l % recordBytes) 0) (ltb (maxSheet) l) refl refl refl where
   go : (a b c : Bool) → eqb l 0 ≡ a → eqb (l % recordBytes) 0 ≡ b → ltb (maxSheet) l ≡ c → (0 < l / recordBytes) × (l ≤ maxSheet)
@@ -300,7 +300,7 @@ good-length l h = go (eqb l 0) (eqb (l % recordBytes) 0) (ltb (maxSheet) l) refl
 
 -- a sheet's records are those of the array that it is the first part of
 module _ (bytes : List ℕ) (n : ℕ) where
-  records-same : (visits i k : ℕ) (m : Machine) → i < n / recordBytes
+  pub records-same : (visits i k : ℕ) (m : Machine) → i < n / recordBytes
       → runRecords bytes (n / recordBytes) visits i k m ≡ runRecords (take n bytes) (n / recordBytes) visits i k m
   unfolding runRecords
   records-same zero i k m h =

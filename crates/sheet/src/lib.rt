@@ -112,7 +112,7 @@ pub fn start(length: usize) -> Progress
 }
 
 // `refused N at I`, and nothing any more.
-fn refuse(machine: Machine, number: u16, index: u16) -> Piece
+pub fn refuse(machine: Machine, number: u16, index: u16) -> Piece
     ensures { λ r. ⌜ pieceOf r ≡ refusalPiece number index (machineOf machine) ⌝ }
 {
     let line = lines::refused_line(number, index);

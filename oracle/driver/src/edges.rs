@@ -1,14 +1,28 @@
 //! Fixed histories: P1 to P10, every refusal number for every kind that can
-//! meet it, and the edges of document 01, of settle, of maps and of conflict reports.
+//! meet it, and the edges of document 01, of settle, of maps, of conflict reports and of
+//! files.
 
 use oracle::record::{AMBIENT_LOOKUP, TYPE_LOOKUP};
 use oracle::stream::{Entry, SHEET, SHEET_WITH_DUMPS};
 
 use crate::history::{bytes, chained, record, History, Words};
-use crate::{finds, maps, proved, settled, settles};
+use crate::{files, finds, maps, proved, settled, settles};
 
 /// All fixed histories in order. Small ones with dumps.
 pub fn all() -> Vec<Entry> {
+    let mut entries = without_files();
+    entries.extend(files::all().iter().map(History::list_with_dumps));
+    entries.extend(files::full().iter().map(files::parked_when_full));
+    entries.extend(files::at_the_limits().iter().map(History::list));
+    // A sheet cannot hold the kinds of files.
+    for words in [105, 106, 107, 108].map(|kind| record(kind, 0, 0, &[], &[])) {
+        entries.push(History::new().push(words).sheet());
+    }
+    entries
+}
+
+/// The fixed histories that have no kinds 105 to 108.
+fn without_files() -> Vec<Entry> {
     let mut entries = Vec::new();
     for history in proved::all() {
         entries.extend([history.sheet(), history.sheet_with_dumps()]);
@@ -117,7 +131,7 @@ fn signature() -> History {
 }
 
 /// The signature, three elements (1 is marked), a variable and an ambient.
-fn beginning() -> History {
+pub fn beginning() -> History {
     let mut h = signature();
     h.el().marked_el().el().var(7, 0).ambient(0, 0);
     h

@@ -1,6 +1,7 @@
 //! Histories in the making.
 
 use oracle::record::{AMBIENT_LOOKUP, ROOT, ROOT_CONST, TYPE_LOOKUP};
+use oracle::record::{BEGIN_AGAIN, CHANGE, LOAD, STORE};
 use oracle::stream::{Entry, LIST, LIST_WITH_DUMPS, LIST_WITH_FLAGS, SHEET, SHEET_WITH_DUMPS};
 
 pub type Words = [u16; 16];
@@ -50,10 +51,17 @@ impl History {
         self
     }
 
-    /// The records that a sheet can hold: no finds and no lookups.
+    /// The records that a sheet can hold: no finds, no lookups and no files.
     pub fn without_finds(&self) -> History {
         let records = self.records.iter().copied();
         History { records: records.filter(|words| words[1] < ROOT).collect() }
+    }
+
+    /// The records that are no calls of files.
+    pub fn without_files(&self) -> History {
+        let is_of_files = |words: &Words| (STORE..=BEGIN_AGAIN).contains(&words[1]);
+        let records = self.records.iter().copied();
+        History { records: records.filter(|words| !is_of_files(words)).collect() }
     }
 
     pub fn has_closes(&self) -> bool {
@@ -189,5 +197,48 @@ impl History {
 
     pub fn ambient_lookup(&mut self, types: &[u16]) -> &mut Self {
         self.push(record(AMBIENT_LOOKUP, 0, 0, &[], types))
+    }
+
+    pub fn store(&mut self) -> &mut Self {
+        self.store_in(u16::MAX)
+    }
+
+    pub fn store_in(&mut self, room: u16) -> &mut Self {
+        self.push(record(STORE, room, 0, &[], &[]))
+    }
+
+    /// Sets a byte of the file.
+    pub fn set(&mut self, place: u16, value: u8) -> &mut Self {
+        self.push(record(CHANGE, place, value.into(), &[], &[]))
+    }
+
+    /// Takes bytes off the end of the file, and then adds zeros.
+    pub fn resize(&mut self, cut: u16, added: u16) -> &mut Self {
+        let mut words = record(CHANGE, u16::MAX, 0, &[], &[]);
+        words[4] = cut;
+        words[5] = added;
+        self.push(words)
+    }
+
+    /// The answer to this is the file as it is.
+    pub fn look_at_file(&mut self) -> &mut Self {
+        self.resize(0, 0)
+    }
+
+    /// Puts these bytes into the slot.
+    pub fn file(&mut self, bytes: &[u8]) -> &mut Self {
+        self.resize(u16::MAX, bytes.len() as u16);
+        for (place, &byte) in bytes.iter().enumerate().filter(|(_, &byte)| byte != 0) {
+            self.set(place as u16, byte);
+        }
+        self
+    }
+
+    pub fn load(&mut self) -> &mut Self {
+        self.push(record(LOAD, 0, 0, &[], &[]))
+    }
+
+    pub fn begin_again(&mut self) -> &mut Self {
+        self.push(record(BEGIN_AGAIN, 0, 0, &[], &[]))
     }
 }

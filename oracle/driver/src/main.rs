@@ -1,7 +1,9 @@
 //! The commands around the oracle; README.md lists them.
 
 mod compare;
+mod damage;
 mod edges;
+mod files;
 mod finds;
 mod history;
 mod maps;
@@ -32,7 +34,9 @@ driver answer                         the oracle's answers to the stream on stan
 driver standin [FAULT]                the stand-in's answers, right or with a numbered fault
 driver show                           the stream on standard input as text
 driver run N SEED [COMMAND [ARG]...]  the fixed histories and N random ones through all sides
-driver mutants N SEED                 which wrong versions these histories tell apart
+driver damage [COMMAND [ARG]...]      damaged files through all sides
+driver damage-stream                  the stream of the damaged files
+driver mutants N SEED [FIRST]         which wrong versions, from FIRST on, these histories tell apart
 driver sample DIRECTORY               writes stdin and stdout there";
 
 /// Histories that are answered at a time.
@@ -59,10 +63,10 @@ fn main() -> ExitCode {
             (Ok(n), Ok(seed)) => run(n, seed, command),
             _ => usage(),
         },
-        ["mutants", n, seed] => match (n.parse(), seed.parse()) {
-            (Ok(n), Ok(seed)) => mutants::judge(&histories(n, seed)) == 0,
-            _ => usage(),
-        },
+        ["damage", ref command @ ..] => run_damage(command),
+        ["damage-stream"] => put(&damage::all().stream()),
+        ["mutants", n, seed] => judge(n, seed, "1"),
+        ["mutants", n, seed, first] => judge(n, seed, first),
         ["sample", directory] => write_sample(Path::new(directory)),
         _ => usage(),
     };
@@ -70,6 +74,15 @@ fn main() -> ExitCode {
         ExitCode::SUCCESS
     } else {
         ExitCode::FAILURE
+    }
+}
+
+fn judge(n: &str, seed: &str, first: &str) -> bool {
+    match (n.parse(), seed.parse(), first.parse()) {
+        (Ok(n), Ok(seed), Ok(first)) => {
+            mutants::judge(&histories(n, seed), &damage::all().entries, first) == 0
+        }
+        _ => usage(),
     }
 }
 
@@ -103,11 +116,7 @@ fn histories(n: u64, seed: u64) -> Vec<Entry> {
 /// prints the first difference as the smallest history that shows it.
 fn run(n: u64, seed: u64, command: &[&str]) -> bool {
     let begun = Instant::now();
-    let mut subjects = vec![("the stand-in", Subject::StandIn(None))];
-    if !command.is_empty() {
-        let words = command.iter().map(|word| word.to_string()).collect();
-        subjects.push((command[0], Subject::Command(words)));
-    }
+    let subjects = subjects(command);
     let mut tally = Tally::default();
     for first in (0..n.max(1)).step_by(BATCH as usize) {
         let numbers = first..n.min(first + BATCH);
@@ -115,25 +124,69 @@ fn run(n: u64, seed: u64, command: &[&str]) -> bool {
         if first == 0 {
             batch.splice(0..0, edges::all());
         }
-        let stream = stream_of(&batch);
-        let answers = stream::answer(&stream);
-        tally.add(&batch, &answers);
-        for (name, subject) in &subjects {
-            let given = subject.answer(&stream);
-            if let Some(index) = first_difference(answers.as_bytes(), &given) {
-                println!("{name} differs, first in {}", name_of(first, index));
-                print_smallest(subject, &batch[index]);
-                return false;
-            }
+        if !are_same(&batch, &subjects, &mut tally, &|index| name_of(first, index)) {
+            return false;
         }
     }
     println!("{tally}, in {:.1} s", begun.elapsed().as_secs_f64());
-    let names: Vec<&str> = subjects.iter().map(|(name, _)| *name).collect();
-    println!("The oracle's assertions held. 0 differences from {}.", names.join(" and "));
-    if command.is_empty() {
-        println!("No command was given: ONLY THE ORACLE AND ITS STAND-IN RAN.");
+    print_sides(&subjects);
+    true
+}
+
+/// Runs the damaged files through the same sides.
+fn run_damage(command: &[&str]) -> bool {
+    let begun = Instant::now();
+    let subjects = subjects(command);
+    let damaged = damage::all();
+    let mut tally = Tally::default();
+    for (number, batch) in damaged.entries.chunks(BATCH as usize).enumerate() {
+        let first = number * BATCH as usize;
+        if !are_same(batch, &subjects, &mut tally, &|index| format!("list {}", first + index)) {
+            return false;
+        }
+    }
+    println!("{}, in {:.1} s", damaged.counts, begun.elapsed().as_secs_f64());
+    print_sides(&subjects);
+    true
+}
+
+/// The stand-in and, if given, the command.
+fn subjects<'a>(command: &[&'a str]) -> Vec<(&'a str, Subject)> {
+    let mut subjects = vec![("the stand-in", Subject::StandIn(None))];
+    if !command.is_empty() {
+        let words = command.iter().map(|word| word.to_string()).collect();
+        subjects.push((command[0], Subject::Command(words)));
+    }
+    subjects
+}
+
+/// Whether all sides answer these histories alike. If not, says where they do not.
+fn are_same(
+    batch: &[Entry],
+    subjects: &[(&str, Subject)],
+    tally: &mut Tally,
+    name_of: &dyn Fn(usize) -> String,
+) -> bool {
+    let stream = stream_of(batch);
+    let answers = stream::answer(&stream);
+    tally.add(batch, &answers);
+    for (name, subject) in subjects {
+        let given = subject.answer(&stream);
+        if let Some(index) = first_difference(answers.as_bytes(), &given) {
+            println!("{name} differs, first in {}", name_of(index));
+            print_smallest(subject, &batch[index]);
+            return false;
+        }
     }
     true
+}
+
+fn print_sides(subjects: &[(&str, Subject)]) {
+    let names: Vec<&str> = subjects.iter().map(|(name, _)| *name).collect();
+    println!("The oracle's assertions held. 0 differences from {}.", names.join(" and "));
+    if subjects.len() == 1 {
+        println!("No command was given: ONLY THE ORACLE AND ITS STAND-IN RAN.");
+    }
 }
 
 /// What a history is called: the first batch begins with the fixed ones.
@@ -155,8 +208,14 @@ fn print_smallest(subject: &Subject, entry: &Entry) {
     println!("{}", report(subject, &smallest));
 }
 
+/// The histories of the sample.
+fn sample() -> Vec<Entry> {
+    let (n, seed) = SAMPLE;
+    histories(n, seed)
+}
+
 fn write_sample(directory: &Path) -> bool {
-    let stream = stream_of(&histories(SAMPLE.0, SAMPLE.1));
+    let stream = stream_of(&sample());
     let answers = stream::answer(&stream);
     println!("stdin {} bytes, stdout {} bytes", stream.len(), answers.len());
     fs::write(directory.join("stdin"), stream).is_ok()

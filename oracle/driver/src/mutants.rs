@@ -5,13 +5,17 @@ use standin::FAULTS;
 
 use crate::compare::{stream_of, Subject};
 
-/// On how many histories a wrong version shows, by where it shows.
+/// On how many histories a wrong version shows, by where it shows. The damaged files are
+/// run only where no history shows it.
 #[derive(Default)]
 struct Shown {
     sheets: usize,
     lists: usize,
     dumps: usize,
+    damages: usize,
 }
+
+const MISSED: &str = "NOT TOLD APART";
 
 impl Shown {
     fn verdict(&self) -> &'static str {
@@ -19,19 +23,28 @@ impl Shown {
             Shown { sheets: 1.., .. } => "sheet lines",
             Shown { lists: 1.., .. } => "list answers",
             Shown { dumps: 1.., .. } => "dumps only",
-            _ => "NOT TOLD APART",
+            Shown { damages: 1.., .. } => "damaged files",
+            _ => MISSED,
         }
     }
 }
 
-/// Prints a line for each wrong version; gives how many are not told apart.
-pub fn judge(entries: &[Entry]) -> usize {
+/// Each entry as a stream of its own, with the answers to it.
+fn answered(entries: &[Entry]) -> (Vec<Vec<u8>>, Vec<String>) {
     let streams: Vec<Vec<u8>> =
         entries.iter().map(|entry| stream_of(std::slice::from_ref(entry))).collect();
-    let expected: Vec<String> = streams.iter().map(|stream| stream::answer(stream)).collect();
+    let answers = streams.iter().map(|stream| stream::answer(stream)).collect();
+    (streams, answers)
+}
+
+/// Prints a line for each wrong version from number `first` on; gives how many are not told
+/// apart.
+pub fn judge(entries: &[Entry], damaged: &[Entry], first: usize) -> usize {
+    let (streams, expected) = answered(entries);
+    let (damages, after_damage) = answered(damaged);
     println!("number  sheets  lists  dumps  told apart by   wrong version");
     let mut verdicts = Vec::new();
-    for (number, (fault, text)) in FAULTS.iter().enumerate() {
+    for (number, (fault, text)) in (1..).zip(FAULTS).filter(|(number, _)| *number >= first) {
         let mut shown = Shown::default();
         for ((entry, stream), expected) in entries.iter().zip(&streams).zip(&expected) {
             let given = Subject::StandIn(Some(*fault)).answer(stream);
@@ -47,26 +60,30 @@ pub fn judge(entries: &[Entry]) -> usize {
                 shown.lists += 1;
             }
         }
+        if shown.verdict() == MISSED {
+            let differs = |(stream, expected): &(&Vec<u8>, &String)| {
+                Subject::StandIn(Some(*fault)).answer(stream) != expected.as_bytes()
+            };
+            shown.damages = damages.iter().zip(&after_damage).filter(differs).count();
+        }
         let verdict = shown.verdict();
         println!(
             "{:6}  {:6}  {:5}  {:5}  {verdict:14}  {text}",
-            number + 1,
-            shown.sheets,
-            shown.lists,
-            shown.dumps,
+            number, shown.sheets, shown.lists, shown.dumps,
         );
         verdicts.push(verdict);
     }
     let count = |wanted: &str| verdicts.iter().filter(|verdict| **verdict == wanted).count();
-    let missed = count("NOT TOLD APART");
+    let missed = count(MISSED);
     println!(
         "{} histories, {} wrong versions: {} by sheet lines, {} by list answers only, \
-         {} by dumps only, {missed} not told apart",
+         {} by dumps only, {} by damaged files only, {missed} not told apart",
         entries.len(),
         verdicts.len(),
         count("sheet lines"),
         count("list answers"),
         count("dumps only"),
+        count("damaged files"),
     );
     missed
 }

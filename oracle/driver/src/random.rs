@@ -4,18 +4,28 @@ use oracle::record::{Record, Table};
 use oracle::stream::Entry;
 
 use crate::history::{bytes, chained, record, History, Words};
-use crate::maps;
 use crate::rng::Rng;
 use crate::settles::{as_many_closes, Copies};
+use crate::{files, maps};
 
 /// The history with this number under this seed.
 pub fn entry(seed: u64, number: u64) -> Entry {
+    // The files are random by themselves, so that the history is the same without them.
+    let mut rng = Rng::new(!seed, number);
+    let may_have_files = rng.percent(50);
+    made(seed, number, may_have_files.then_some(rng))
+}
+
+fn made(seed: u64, number: u64, file_rng: Option<Rng>) -> Entry {
     let mut rng = Rng::new(seed, number);
     let sheet = rng.percent(50);
     let maker = Maker::new(&mut rng, !sheet);
     let mut history = maker.history();
     if rng.percent(25) {
         damage_records(&mut rng, &mut history.records);
+    }
+    if let Some(mut file_rng) = file_rng.filter(|_| !sheet) {
+        files::scatter(&mut file_rng, &mut history);
     }
     // The structure after every record of a long history would be too much.
     let dumps = history.records.len() <= 60 && rng.percent(75);

@@ -3,7 +3,7 @@
 use std::collections::BTreeMap;
 use std::fmt;
 
-use oracle::record::{self, Record};
+use oracle::record::{self, Record, LOAD, STORE};
 use oracle::stream::Entry;
 
 /// What the histories of a run came to.
@@ -20,13 +20,16 @@ pub struct Tally {
     refusals: BTreeMap<u16, usize>,
     /// Those of closes and settles.
     close_refusals: BTreeMap<u16, usize>,
+    stores: usize,
+    /// Loads that were accepted, and refused.
+    loads: [usize; 2],
     settled: FoundSettled,
 }
 
 impl Tally {
     pub fn add(&mut self, entries: &[Entry], answers: &str) {
         self.settled.add(entries, answers);
-        self.add_refused_closes(entries, answers);
+        self.add_by_kind(entries, answers);
         self.histories += entries.len();
         self.bytes += entries.iter().map(|entry| entry.bytes.len()).sum::<usize>();
         for line in answers.lines() {
@@ -59,29 +62,31 @@ impl Tally {
 }
 
 impl Tally {
-    fn add_refused_closes(&mut self, entries: &[Entry], answers: &str) {
+    /// What answers come to by the kinds of their calls.
+    fn add_by_kind(&mut self, entries: &[Entry], answers: &str) {
         let (mut kinds, mut given) = (Vec::new(), 0);
         for line in answers.lines() {
             let words: Vec<&str> = line.split(' ').collect();
-            match words[..] {
+            let at = match words[..] {
                 ["=", index] => {
                     kinds = record_kinds(&entries[index.parse::<usize>().expect("an index")]);
                     given = 0;
+                    continue;
                 }
-                ["refused", number, ref place @ ..] => {
-                    let at = match place {
-                        ["at", index] => index.parse().expect("an index"),
-                        _ => given,
-                    };
-                    if kinds.get(at).is_some_and(|kind| [13, 15].contains(kind)) {
-                        let number = number.parse().expect("a number");
-                        *self.close_refusals.entry(number).or_default() += 1;
-                    }
-                    given += 1;
-                }
+                ["refused", _, "at", index] => index.parse().expect("an index"),
                 // A line of a dump begins with one letter; a conflict is no whole answer.
-                [word, ..] => given += usize::from(word.len() > 1 && word != "conflict"),
-                [] => {}
+                [word, ..] if word.len() > 1 && word != "conflict" => given,
+                _ => continue,
+            };
+            given += 1;
+            match (kinds.get(at), &words[..]) {
+                (Some(13 | 15), ["refused", number, ..]) => {
+                    let number = number.parse().expect("a number");
+                    *self.close_refusals.entry(number).or_default() += 1;
+                }
+                (Some(&STORE), ["file", ..]) => self.stores += 1,
+                (Some(&LOAD), [word, ..]) => self.loads[usize::from(*word == "refused")] += 1,
+                _ => {}
             }
         }
     }
@@ -100,6 +105,8 @@ impl fmt::Display for Tally {
         self.close_refusals
             .iter()
             .try_for_each(|(number, count)| write!(f, " {number}:{count}"))?;
+        let [loaded, refused] = self.loads;
+        write!(f, "; {} stores, {loaded} loads, {refused} refused", self.stores)?;
         let FoundSettled { calls, no, yes, refused } = self.settled;
         write!(f, "; {calls} calls of lists found it settled, of kinds 7 to 10 ")?;
         write!(f, "{no} answered with no, {yes} with yes, {refused} refused")

@@ -12,7 +12,9 @@ use crate::compare::{first_difference, stream_of, Subject};
 use crate::history::History;
 use crate::rng::Rng;
 use crate::settled::{self, Calls};
-use crate::{edges, finds, histories, maps, proved, random, settles, shrink, SAMPLE};
+use crate::{
+    damage, edges, files, finds, histories, maps, proved, random, sample, settles, shrink,
+};
 
 /// What an entry prints, without the line that begins it.
 fn answers(entry: &Entry) -> Vec<String> {
@@ -459,7 +461,7 @@ fn numbered_refusals_have_their_numbers() {
 }
 
 /// The kinds of calls, and the numbers that each can meet.
-const NUMBERS: [(u16, &[u16]); 19] = [
+const NUMBERS: [(u16, &[u16]); 23] = [
     (1, &[3, 4, 5, 6, 9]),
     (2, &[3, 4, 5, 9]),
     (3, &[3, 4, 5, 9]),
@@ -479,6 +481,10 @@ const NUMBERS: [(u16, &[u16]); 19] = [
     (102, &[5]),
     (103, &[3, 5]),
     (104, &[3, 5, 10]),
+    (105, &[9]),
+    (106, &[]),
+    (107, &[13, 14]),
+    (108, &[]),
 ];
 
 #[test]
@@ -506,7 +512,7 @@ fn random_word(rng: &mut Rng, place: usize) -> u16 {
         0 => rng.below(13),
         1 => {
             let calls = [1, 2, 3, 4, 5, 6, 6, 6, 7, 8, 9, 10, 11, 12, 13, 14, 15];
-            let others = [101, 102, 103, 104, 16];
+            let others = [101, 102, 103, 104, 105, 105, 106, 107, 107, 108, 109, 16];
             rng.pick(&[&calls[..], &others].concat())
         }
         _ if rng.percent(70) => 0,
@@ -563,6 +569,110 @@ fn the_sample_is_what_the_oracle_answers() {
     let directory = Path::new(env!("CARGO_MANIFEST_DIR")).join("../../crates/replay");
     let input = fs::read(directory.join("stdin")).expect("the sample is there");
     let output = fs::read_to_string(directory.join("stdout")).expect("the sample is there");
-    assert!(input == stream_of(&histories(SAMPLE.0, SAMPLE.1)), "make the sample again");
+    assert!(input == stream_of(&sample()), "make the sample again");
     assert!(output == stream::answer(&input), "make the sample again");
+}
+
+/// Each file of tools/park_cases.txt shows what it says and nothing else.
+#[test]
+fn shown_files_show_one_thing() {
+    let mut reasons = BTreeSet::new();
+    for case in files::shown() {
+        let state = files::after(&case.signature);
+        let found: BTreeSet<String> =
+            state.troubles(&case.file).iter().map(|trouble| trouble.to_string()).collect();
+        let mut h = case.signature.clone();
+        h.file(&case.file).load().store();
+        let lines = list(&h);
+        let [.., given, loaded, stored] = &lines[..] else { panic!("three answers at least") };
+        if case.number == 0 {
+            assert_eq!((found.len(), &loaded[..]), (0, "answer 1"), "{}", case.reason);
+            assert_eq!(given, stored, "{}", case.reason);
+        } else {
+            assert_eq!(found.into_iter().collect::<Vec<_>>(), [case.reason.clone()]);
+            assert_eq!(*loaded, format!("refused {}", case.number), "{}", case.reason);
+        }
+        reasons.insert(case.reason);
+    }
+    assert!(reasons.len() > 45);
+}
+
+/// The worked example of docs/FILE.md is what P2 leaves after its close, stored.
+#[test]
+fn the_worked_example_is_p2_stored() {
+    let path = Path::new(env!("CARGO_MANIFEST_DIR")).join("../../docs/FILE.md");
+    let text = fs::read_to_string(path).expect("docs/FILE.md is there");
+    let example = text.split("\n## Worked example\n").nth(1).expect("it has an example");
+    let block = example.split("```").nth(1).expect("it has bytes");
+    let bytes: Vec<u8> = block
+        .split_whitespace()
+        .map(|byte| u8::from_str_radix(byte, 16).expect("a byte in hex"))
+        .collect();
+    let mut p = proved::p2();
+    p.records.retain(|words| words[1] != 14);
+    assert_eq!(files::after(&p).store(), bytes);
+    let stored = structure(p.store());
+    let of_file: Vec<u8> = tagged(&stored, "b ")
+        .iter()
+        .flat_map(|line| line.split(' ').skip(1).map(|byte| byte.parse().expect("a byte")))
+        .collect();
+    assert_eq!(of_file, bytes);
+    assert_eq!(bytes.len(), 74);
+}
+
+/// The kinds of files, as FORMAT.md has them.
+#[test]
+fn files_in_lists() {
+    let mut h = History::new();
+    h.store().store_in(17).el().load().set(17, 2).load();
+    let lines = ["file 18 1 18", "refused 9", "number 0", "answer 1", "file 18 3 20", "refused 14"];
+    assert_eq!(list(&h), lines);
+    // The longest file, and that it leaves the structure.
+    let full = files::full().pop().expect("there are some");
+    let stored = list(full.clone().store());
+    assert!(stored.last().is_some_and(|line| line.starts_with("file 16274 ")));
+    let mut parked = full.clone();
+    assert_eq!(
+        structure(parked.store().load().look_at_file())[1018..],
+        structure(full.clone().look_at_file())
+    );
+}
+
+/// A store and a load between any two calls change no answer and no structure.
+#[test]
+fn parked_histories_answer_the_same() {
+    for history in files::small().iter().skip(1).chain(&maps::small()) {
+        let mut parked = History::new();
+        for &words in &history.records {
+            parked.store().load().push(words);
+        }
+        let answers = list(&parked).into_iter().skip(2).step_by(3);
+        // A report of conflicts has several lines.
+        if history.records.iter().all(|words| words[1] != 14) {
+            assert_eq!(answers.collect::<Vec<_>>(), list(history));
+        }
+        assert_eq!(structure(&parked), structure(history));
+    }
+}
+
+/// What a load brings back: settled, the flag for number 4, and all that was declared.
+#[test]
+fn a_load_goes_back() {
+    let mut h = History::new();
+    h.els(2).settle().store().equal(0, 1).load();
+    assert_eq!(asked(&h)[4..], [("answer 1".to_string(), false), ("answer 1".to_string(), true)]);
+    let mut h = History::new();
+    h.plain(&[]).store().el().plain(&[]).load().plain(&[]);
+    assert_eq!(list(&h)[2..], ["number 0", "refused 4", "answer 1", "number 1"]);
+}
+
+/// Damages of every sort are refused with 13 and 14, and load, and both readers agree.
+#[test]
+fn damaged_files_are_answered_alike() {
+    let damaged = damage::of(&files::small()[5..9], &[]);
+    let stream = stream_of(&damaged.entries);
+    assert_eq!(stream::answer(&stream), standin::answer(&stream, None));
+    let counts = damaged.counts.to_string();
+    assert!(counts.starts_with("4 files, "), "{counts}");
+    assert!(!counts.contains(" 0 "), "{counts}");
 }

@@ -21,6 +21,8 @@ pub enum Answer {
     },
     Typed(Option<Fact>),
     Ambients(Numbers),
+    /// The length of a file, and the lower and the upper half of its checksum.
+    File([usize; 3]),
 }
 
 pub struct Closed {
@@ -82,6 +84,7 @@ impl fmt::Display for Answer {
             Answer::Typed(Some(fact)) => writeln!(f, "type {fact}"),
             Answer::Typed(None) => writeln!(f, "absent"),
             Answer::Ambients(els) => writeln!(f, "ambients{els}"),
+            Answer::File([length, low, high]) => writeln!(f, "file {length} {low} {high}"),
         }
     }
 }

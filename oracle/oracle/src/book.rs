@@ -19,6 +19,11 @@ pub struct Book {
     merges: usize,
     /// Every call in order, refused ones, finds and lookups too.
     heard: Vec<Heard>,
+    /// The records of kinds 1 to 5 that were accepted: the signature.
+    declared: Vec<Record>,
+    /// Where the history begins at a load that does not go on with a stored one, the
+    /// settled of the file.
+    loaded: Option<bool>,
 }
 
 /// A call, and of its answer what settled goes by.
@@ -31,6 +36,23 @@ struct Heard {
 }
 
 impl Book {
+    /// The book after a load under the signature of this one that does not go on with a
+    /// stored history: the conservation rule does not apply, and settled is what the file
+    /// says until a call changes it.
+    pub fn after_load(&self, settled: bool) -> Book {
+        let declared = self.declared.clone();
+        Book { models: self.models.clone(), declared, loaded: Some(settled), ..Book::default() }
+    }
+
+    /// Whether the history begins at the empty structure.
+    pub fn is_whole(&self) -> bool {
+        self.loaded.is_none()
+    }
+
+    pub fn has_signature_of(&self, other: &Book) -> bool {
+        self.declared == other.declared
+    }
+
     /// Takes in any call.
     pub fn hear(&mut self, record: &Record, answer: &Answer) {
         self.heard.push(Heard {
@@ -49,16 +71,21 @@ impl Book {
     /// imposition or application accepted since was answered with yes.
     pub fn is_settled(&self) -> bool {
         let closes = |call: &Heard| call.was_accepted && [13, 15].contains(&call.kind);
-        let Some(latest) = self.heard.iter().rposition(closes) else {
-            return false;
+        let (was_settled, since) = match self.heard.iter().rposition(closes) {
+            Some(latest) => (self.heard[latest].reported_no_change, &self.heard[latest + 1..]),
+            None => (self.loaded.unwrap_or(false), &self.heard[..]),
         };
-        let mut since = self.heard[latest + 1..].iter();
         let declares = |call: &Heard| call.was_accepted && [7, 8, 9, 10].contains(&call.kind);
-        self.heard[latest].reported_no_change && !since.any(|call| declares(call) && call.said_yes)
+        was_settled && !since.iter().any(|call| declares(call) && call.said_yes)
     }
 
     /// Takes in an accepted call.
     pub fn enter(&mut self, record: &Record, answer: &Answer) {
+        if record.kind() <= 5 {
+            let mut words = record.words;
+            words[0] = 0;
+            self.declared.push(Record { words });
+        }
         match record.kind() {
             4 => {
                 let funcs = record.args();
@@ -81,7 +108,9 @@ impl Book {
 
     /// Elements equal classes plus merges.
     pub fn assert_conserved(&self, classes: usize) {
-        assert_eq!(self.els, classes + self.merges, "elements are classes plus merges");
+        if self.is_whole() {
+            assert_eq!(self.els, classes + self.merges, "elements are classes plus merges");
+        }
     }
 
     /// A close runs at most two rounds more than it merges, where no element is
@@ -91,8 +120,9 @@ impl Book {
             self.models.iter().any(|[_, _, id, comp]| [*id, *comp].contains(&app.a()))
         };
         let most = closed.merges + 2;
+        let is_served = self.is_whole() && !self.has_marks;
         assert!(
-            self.has_marks || self.apps.iter().any(is_operation) || closed.rounds <= most,
+            !is_served || self.apps.iter().any(is_operation) || closed.rounds <= most,
             "rounds are at most merges and two"
         );
     }
@@ -100,7 +130,7 @@ impl Book {
     /// After a close the roots are those of the smallest closed pair. Marked elements
     /// may be joined beyond it, so then there is nothing to say.
     pub fn assert_smallest(&self, roots: &[usize]) {
-        if !self.has_marks {
+        if self.is_whole() && !self.has_marks {
             assert_eq!(self.smallest_partition(), roots, "the smallest partition");
         }
     }

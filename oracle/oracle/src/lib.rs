@@ -19,4 +19,5 @@ mod sheet;
 pub mod stream;
 pub mod timing;
 
+use algebra::structure::harness::parking::Slot;
 use algebra::structure::harness::Oracle;

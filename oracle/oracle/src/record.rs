@@ -11,6 +11,12 @@ pub const ROOT_CONST: u16 = 102;
 pub const TYPE_LOOKUP: u16 = 103;
 pub const AMBIENT_LOOKUP: u16 = 104;
 
+/// Kinds of files.
+pub const STORE: u16 = 105;
+pub const CHANGE: u16 = 106;
+pub const LOAD: u16 = 107;
+pub const BEGIN_AGAIN: u16 = 108;
+
 #[derive(Copy, Clone, Debug, PartialEq, Eq)]
 pub struct Record {
     pub words: [u16; 16],
@@ -30,6 +36,17 @@ impl Record {
     pub fn of_kind(kind: u16) -> Record {
         let mut words = [0; 16];
         words[1] = kind;
+        Record { words }
+    }
+
+    /// A record of kinds 7 to 12. Its lists have at most four entries.
+    pub fn new(kind: u16, a: u16, b: u16, parents: &[u16], args: &[u16]) -> Record {
+        let mut words = [0; 16];
+        words[1..4].copy_from_slice(&[kind, a, b]);
+        words[4] = parents.len() as u16;
+        words[5] = args.len() as u16;
+        words[6..6 + parents.len()].copy_from_slice(parents);
+        words[10..10 + args.len()].copy_from_slice(args);
         Record { words }
     }
 

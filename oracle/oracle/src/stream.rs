@@ -1,7 +1,8 @@
 //! Streams of histories, and the oracle's answers to them.
 
-use crate::record::{self, Record, AMBIENT_LOOKUP, ROOT};
-use crate::{sheet, Oracle};
+use crate::answer::Answer;
+use crate::record::{self, Record, AMBIENT_LOOKUP, BEGIN_AGAIN, ROOT, STORE};
+use crate::{sheet, Oracle, Slot};
 
 pub const SHEET: u32 = 0;
 pub const LIST: u32 = 1;
@@ -68,16 +69,22 @@ pub fn answer(stream: &[u8]) -> String {
 /// list; bytes past the last whole record are not looked at.
 fn run_list(bytes: &[u8], mode: u32, out: &mut String) {
     let mut oracle = Oracle::default();
+    let mut slot = Slot::default();
     for chunk in bytes.chunks_exact(record::BYTES) {
         let record = Record::read(chunk);
-        let answer = if (ROOT..=AMBIENT_LOOKUP).contains(&record.kind()) {
-            oracle.look_up(&record)
-        } else {
-            oracle.call(&record)
+        let answer = match record.kind() {
+            ROOT..=AMBIENT_LOOKUP => oracle.look_up(&record),
+            STORE..=BEGIN_AGAIN => slot.call(&mut oracle, &record),
+            _ => oracle.call(&record),
         };
         *out += &answer.to_string();
         match mode {
-            LIST_WITH_DUMPS => oracle.dump(out),
+            LIST_WITH_DUMPS => {
+                if let Answer::File(_) = answer {
+                    slot.dump(out);
+                }
+                oracle.dump(out);
+            }
             LIST_WITH_FLAGS => oracle.dump_flags(out),
             _ => {}
         }

@@ -17,6 +17,11 @@ mod unification {
             el
         }
 
+        /// A table with these links.
+        pub fn with_links(links: Vec<T>) -> Self {
+            Unification { parents: links, sizes: Vec::new() }
+        }
+
         /// What `el` links to. The published text keeps its links private.
         pub fn link(&self, el: T) -> T {
             self.parents[el.into() as usize]

@@ -17,6 +17,8 @@ pub enum Answer {
     Found(Find),
     Typed(Option<Fact>),
     Ambients(Vec<u16>),
+    /// The length of a file, and both halves of its checksum.
+    File([usize; 3]),
 }
 
 /// Kind by kind: the largest A and B, the most parents, the least and the most
@@ -165,7 +167,8 @@ impl State {
         }
     }
 
-    fn refusal(&self, w: &Words) -> Option<u16> {
+    /// The number that refuses a record of kinds 1 to 15 at once.
+    pub fn refusal(&self, w: &Words) -> Option<u16> {
         let order = match self.fault {
             Some(Fault::FourBeforeThree) => [4, 3, 5, 6, 7, 12, 8, 9],
             Some(Fault::FiveBeforeThree) => [5, 3, 4, 6, 7, 12, 8, 9],

@@ -8,10 +8,14 @@ mod calls;
 mod close;
 mod conflicts;
 mod faults;
+mod file;
 mod laws;
 mod print;
 mod sheet;
+mod slot;
 mod state;
 
 pub use faults::{Fault, FAULTS};
-pub use sheet::answer;
+pub use file::{Table, Trouble};
+pub use sheet::{after, answer};
+pub use state::State;

@@ -68,6 +68,7 @@ impl State {
                     format!("conflicts {count} {finds}")
                 };
             }
+            Answer::File([length, low, high]) => *out += &format!("file {length} {low} {high}"),
             Answer::Found(find) => *out += &format!("root {} {}", find.root, find.count),
             Answer::Typed(None) => *out += "absent",
             Answer::Typed(Some(fact)) => {
@@ -122,6 +123,17 @@ impl State {
 
     pub fn put_flags(&self, out: &mut String) {
         *out += &format!("s {} {}\n", u16::from(self.begun), u16::from(self.settled));
+    }
+}
+
+/// The bytes of a file, sixteen to a line.
+pub fn put_bytes(out: &mut String, file: &[u8]) {
+    for bytes in file.chunks(16) {
+        out.push('b');
+        for byte in bytes {
+            *out += &format!(" {byte}");
+        }
+        out.push('\n');
     }
 }
 

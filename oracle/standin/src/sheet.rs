@@ -2,7 +2,8 @@
 
 use crate::calls::Answer;
 use crate::faults::Fault;
-use crate::print::Place;
+use crate::print::{put_bytes, Place};
+use crate::slot::Slot;
 use crate::state::{State, Words};
 
 /// The answers to a stream, with at most one fault.
@@ -28,6 +29,15 @@ pub fn answer(stream: &[u8], fault: Option<Fault>) -> String {
     out
 }
 
+/// What a list of calls leaves; it has none of kinds 105 to 108.
+pub fn after(list: &[u8]) -> State {
+    let mut state = State::new(None);
+    for record in list.chunks_exact(32) {
+        state.call(&words(record));
+    }
+    state
+}
+
 fn words(record: &[u8]) -> Words {
     let mut words = [0; 16];
     for (at, word) in words.iter_mut().enumerate() {
@@ -37,11 +47,21 @@ fn words(record: &[u8]) -> Words {
 }
 
 fn run_list(mut state: State, bytes: &[u8], mode: u32, out: &mut String) {
+    let mut slot = Slot::new();
     for record in bytes.chunks_exact(32) {
-        let answer = state.call(&words(record));
+        let words = words(record);
+        let answer = match words[1] {
+            105..=108 => state.file_call(&mut slot, &words),
+            _ => state.call(&words),
+        };
         state.put_answer(out, &answer, Place::List);
         match mode {
-            2 => state.put_dump(out),
+            2 => {
+                if let Answer::File(_) = answer {
+                    put_bytes(out, slot.file());
+                }
+                state.put_dump(out);
+            }
             4 => state.put_flags(out),
             _ => {}
         }

@@ -116,6 +116,11 @@ impl State {
         }
     }
 
+    /// How many types, predicates, functions and elements there are.
+    pub fn sizes(&self) -> [usize; 4] {
+        [self.types.len(), self.preds.len(), self.funcs.len(), self.links.len()]
+    }
+
     pub fn is(&self, fault: Fault) -> bool {
         self.fault == Some(fault)
     }

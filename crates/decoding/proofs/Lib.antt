@@ -1,0 +1,4 @@
+pub mod Reading
+pub mod Owners
+pub mod Bindings
+pub mod Decoded

@@ -1,0 +1,59 @@
+-- `pairs_in` meets its contract.
+use mathlib.Core.Path.{ap, _∙_}
+use mathlib.Core.List.{reverse}
+use Prim.Native.Nat.{_-_}
+use native.Mathlib.Omega.{arith}
+use lib.ListN.{drop}
+use Rattle.ids.proofs.Views.{long}
+use Rattle.semantics.specs.Structure.{pair, maxPairs}
+use Rattle.equalities.specs.View.{pairOf}
+use Rattle.file.specs.Rows.{pairIn, pairColumns}
+use Rattle.decoding.proofs.Reading.{Read, filled-none, read-next, read-all, two-cells}
+use borrow.Author.Needs.{needs}
+use Rattle.decoding.proofs.pairs_in.Statement.{statement}
+use Rattle.decoding.proofs.pairs_in.Tie as tie
+
+abbrev Inv-loop : tie.InvT-loop
+Inv-loop bytes at n table₀ i₀ table i = Read pairOf pairIn pairColumns n maxPairs (drop at bytes) (table .items) i
+
+abbrev μ-loop : tie.MeasureT-loop
+μ-loop bytes at n table₀ i₀ table i = n - i
+
+loop-holds : tie.Need-loop-holds Inv-loop μ-loop
+loop-holds c = filled-none _ _ _ _ _ (search (needs, long))
+
+row-at-requires : tie.Need-row-at-requires Inv-loop μ-loop
+row-at-requires c κs =
+    let pre = c .before .before .before .before .pre in
+    (c .loop-test .taken, (omega arith, (omega (arith, pre .0), pre .1)))
+
+loop-again : tie.Need-loop-again Inv-loop μ-loop
+unfolding pairIn
+loop-again c =
+    let r = c .before in
+    let t = r .before in
+    read-next _ pairIn _ _ _ _ (t .before .loop .inv) (t .loop-test .taken) (t .before .before .before .before .pre .0)
+    (c .new2 .ensures ∙ two-cells pair (r .row-at .result)) (r .row-at .ensures)
+
+returns : tie.Need-returns Inv-loop μ-loop
+returns c = ap reverse (read-all _ _ _ _ _ _ (c .before .loop .inv) (c .loop-test .left))
+
+pub pairs-in-spec : {M : Type 1} → statement M
+pairs-in-spec =
+    tie.close
+    (tie.spec
+    Inv-loop
+    μ-loop
+    (λ c κs. search needs)
+    loop-holds
+    row-at-requires
+    (λ c. search needs)
+    (λ c. search needs)
+    (λ c κs. search needs)
+    (λ c. search needs)
+    (λ c. search needs)
+    (λ c. search needs)
+    (λ c. search needs)
+    loop-again
+    (λ c. search needs)
+    returns)

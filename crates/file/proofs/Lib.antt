@@ -1,0 +1,9 @@
+pub mod LayoutLaws
+pub mod RowLaws
+pub mod Chains
+pub mod Storable
+pub mod StoreLoad
+pub mod LoadStore
+pub mod Loaded
+pub mod Computing
+pub mod Cases

@@ -1,0 +1,4 @@
+pub mod Quiet
+pub mod Waiting
+pub mod Laws
+pub mod Runs
