@@ -12,14 +12,23 @@ import unittest
 from pathlib import Path
 
 TOOL = Path(__file__).resolve().parent / "park"
+SHEET = TOOL.parent / "sheet"
 CASES = TOOL.parent / "park_cases.txt"
 DOC = TOOL.parent.parent / "docs" / "FILE.md"
 PROVED = TOOL.parent.parent / "crates" / "file" / "proofs" / "Cases.antt"
 
 sys.dont_write_bytecode = True
-loader = importlib.machinery.SourceFileLoader("park", str(TOOL))
-park = importlib.util.module_from_spec(importlib.util.spec_from_loader("park", loader))
-loader.exec_module(park)
+
+
+def loaded(tool):
+    """A tool as a module."""
+    loader = importlib.machinery.SourceFileLoader(tool.name, str(tool))
+    module = importlib.util.module_from_spec(importlib.util.spec_from_loader(tool.name, loader))
+    loader.exec_module(module)
+    return module
+
+
+park, sheet = loaded(TOOL), loaded(SHEET)
 
 
 def from_hex(text):
@@ -97,12 +106,18 @@ def random_file(rng):
 
     def times(most):
         return range(rng.randint(0, most))
-    facts = sorted({(rng.choice(roots), rng.randrange(32), some()) for _ in times(6)})
+    # How many parents each type has: none is declared before type 0 that could be one.
+    counts = [0] + [rng.randint(0, 4) for _ in range(31)]
+
+    def typed():
+        typ = rng.randrange(32)
+        return typ, tuple(rng.randrange(els) for _ in range(counts[typ]))
+    facts = sorted({(rng.choice(roots), *typed()) for _ in times(6)})
     func_apps = {(rng.randrange(64), some(), some()): rng.randrange(els) for _ in times(4)}
     return write(
         links, facts, sorted((*key, el) for key, el in func_apps.items()),
         sorted({(rng.randrange(32), some(), some()) for _ in times(4)}),
-        [(rng.randrange(els), rng.randrange(32), some()) for _ in times(4)],
+        [(rng.randrange(els), *typed()) for _ in times(4)],
         sorted({rng.randrange(64): rng.randrange(els) for _ in times(4)}.items()),
         sorted({rng.randrange(32): rng.randrange(els) for _ in times(4)}.items()),
         [rng.randint(0, 1) for _ in links],
@@ -139,11 +154,11 @@ class Showing(unittest.TestCase):
 
     def test_every_entry(self):
         self.assert_lines(
-            write([0, 0, 2], [(0, 1, []), (0, 1, [2, 1]), (2, 0, [0])], [(7, [0], [1, 2], 0)],
+            write([0, 0, 2], [(0, 0, []), (0, 1, [0, 2]), (2, 1, [2, 1])], [(7, [0], [1, 2], 0)],
                   [(3, [], []), (3, [1, 2], [0])], [(1, 5, [0, 1, 2, 0])], [(0, 2), (63, 1)],
                   [(4, 1)], [0, 0, 1], [(2, 1), (0, 0)]),
-            "element 0 root", "fact 1 of 0: type 1 [] next 2", "fact 2 of 0: type 1 [2 1] last",
-            "element 1 link 0", "element 2 root marked", "fact 3 of 2: type 0 [0] last",
+            "element 0 root", "fact 1 of 0: type 0 [] next 2", "fact 2 of 0: type 1 [0 2] last",
+            "element 1 link 0", "element 2 root marked", "fact 3 of 2: type 1 [2 1] last",
             "apply 7 [0] (1 2) = 0", "holds 3 [] ()", "holds 3 [1 2] (0)",
             "impose 1 type 5 [0 1 2 0]", "variable 0 2", "variable 63 1", "ambient 4 1",
             "equal 2 1", "equal 0 0")
@@ -178,7 +193,34 @@ class Wrong(unittest.TestCase):
     def test_what_only_a_signature_shows(self):
         for case in read_cases():
             if case["hidden"]:
-                self.assertRegex(case["reason"], "whose call is refused with (5|6|7|12)$")
+                self.assertRegex(case["reason"], "whose call is refused with (5|6|15|7|12)$")
+
+    def test_only_15_is_a_wrong_number_of_parents(self):
+        """Under the signature of a case each fact and imposition has as many parents as its
+        type, but in the cases of number 15, which have both too few and too many."""
+        seen = set()
+        for case in read_cases():
+            if case["number"] == 13:
+                continue
+            records = struct.iter_unpack("<16H", sheet.assemble("\n".join(case["declare"])))
+            counts = [record[4] for record in records if record[1] == 1]
+            file = park.File(from_hex(case["bytes"]))
+            entries = [("facts", row[0], park.entries(row, 1)) for row in file.facts]
+            entries += [("impositions", row[1], park.entries(row, 2)) for row in file.impositions]
+            wrong = {(name, len(parents) > counts[typ]) for name, typ, parents in entries
+                     if typ < len(counts) and len(parents) != counts[typ]}
+            told = re.fullmatch("an entry of (.*) whose call is refused with 15", case["reason"])
+            with self.subTest(reason=case["reason"], bytes=case["bytes"]):
+                self.assertEqual([name for name, _ in wrong], [told.group(1)] if told else [])
+            seen |= wrong
+        self.assertEqual(seen, {(name, many) for name in ("facts", "impositions")
+                                for many in (False, True)})
+
+    def test_a_number_of_parents_is_not_told(self):
+        """Whatever number an entry gives, some signature has such a type."""
+        for parents in ([], [0], [0, 0], [0, 0, 0, 0]):
+            for data in (write([0], [(0, 1, parents)]), write([0], impositions=[(0, 1, parents)])):
+                self.assertEqual(wrong_in(data), [])
 
     def test_the_place_is_said(self):
         for data, line in [
@@ -324,6 +366,9 @@ class Proved(unittest.TestCase):
 
     DECLARATIONS = {
         "push-type (type-entry plain [])": "type plain",
+        "push-type (type-entry plain (0 ∷ []))": "type plain [0]",
+        "push-type (type-entry plain (0 ∷ 0 ∷ []))": "type plain [0 0]",
+        "push-type (type-entry plain (0 ∷ 0 ∷ 0 ∷ 0 ∷ []))": "type plain [0 0 0 0]",
         "push-type (type-entry model [])": "type model",
         "push-type (type-entry (mor 0) [])": "type mor 0",
         "push-pred (pred-entry [] [])": "predicate",
@@ -340,7 +385,7 @@ class Proved(unittest.TestCase):
         return found
 
     def declarations(self, text):
-        return [self.DECLARATIONS[entry] for entry in text.split(" ∷ ") if entry != "[]"]
+        return [self.DECLARATIONS[entry] for entry in re.split(" ∷ (?=push-)", text)]
 
     def test_the_same_files(self):
         entry = re.compile(r"-- (.*)\n\s*(?:∷ )?file (\[\]|\((.*?) ∷ \[\]\)) (.*)\n")

@@ -86,6 +86,26 @@ def is_well_formed(words):
             and not any(words[6 + parents:10]) and not any(words[10 + arguments:]))
 
 
+def wrong_parents(records):
+    """The impositions that are refused with 15 where the chain comes to them, by document 01
+    and M-105 of document 02. A chain that comes back to a record finds nothing new."""
+    types, els, wrong, visited, at = [], 0, [], [], 0
+    while at not in visited:
+        visited.append(at)
+        after, kind, element, typ, count = records[at][:5]
+        if after >= len(records) or (len(visited) == len(records) and after != 0):
+            break
+        if is_well_formed(records[at]):
+            if kind == 1:
+                types.append(count)
+            elif kind == 6:
+                els += 1
+            elif kind == 8 and typ < len(types) and max(element, *records[at][6:6 + count], 0) < els:
+                wrong += [at] * (count != types[typ])
+        at = after
+    return sorted(wrong)
+
+
 class Assembling(unittest.TestCase):
     def assert_record(self, line, *expected, **named):
         """The line alone gives the record."""
@@ -288,6 +308,157 @@ class Errors(unittest.TestCase):
                                  f"the sheet has {length} bytes, not a multiple of 32")
 
 
+class Warnings(unittest.TestCase):
+    """Impositions with another number of parents than their types have (number 15)."""
+
+    START = ("type Box model\ntype Pack plain [Box Box]\ntype Drum plain [Box]\n"
+             "element a\nelement b\nelement x\n")
+
+    def assert_warnings(self, text, *expected):
+        data, warnings = sheet.assemble_and_warn(text)
+        self.assertEqual(warnings, list(expected))
+        self.assertEqual(data, sheet.assemble(text))
+
+    def test_too_few(self):
+        self.assert_warnings(self.START + "impose x Pack [a]",
+                             "line 7: warning: 'Pack' has 2 parents, 1 given: refused with 15")
+        self.assert_warnings(self.START + "impose x Drum",
+                             "line 7: warning: 'Drum' has 1 parent, 0 given: refused with 15")
+
+    def test_too_many(self):
+        self.assert_warnings(self.START + "impose x Pack [a b a]",
+                             "line 7: warning: 'Pack' has 2 parents, 3 given: refused with 15")
+        self.assert_warnings(self.START + "impose a Box [b]",
+                             "line 7: warning: 'Box' has 0 parents, 1 given: refused with 15")
+
+    def test_right(self):
+        self.assert_warnings(self.START + "impose a Box\nimpose x Drum [a]\nimpose x Pack [a b]")
+
+    def test_every_count(self):
+        start = "type model\n" + "".join(f"type plain [{' 0' * has}]\n" for has in range(5))
+        for has in range(5):
+            for given in range(5):
+                noun = "parent" if has == 1 else "parents"
+                self.assert_warnings(
+                    start + f"element\nimpose 0 {has + 1} [{'0 ' * given}]",
+                    *[f"line 8: warning: type {has + 1} has {has} {noun}, {given} given:"
+                      " refused with 15"] * (has != given))
+
+    def test_by_number(self):
+        """A type that has a name is called by it."""
+        self.assert_warnings(self.START + "impose 2 1 [0]",
+                             "line 7: warning: 'Pack' has 2 parents, 1 given: refused with 15")
+
+    def test_a_type_without_a_name(self):
+        self.assert_warnings(self.START.replace("Pack", "") + "impose x 1 [a]",
+                             "line 7: warning: type 1 has 2 parents, 1 given: refused with 15")
+
+    def test_raw_records(self):
+        """A raw imposition is judged as any other; a raw type has its parents."""
+        raw = "raw 0 8 2 1 1" + " 0" * 11
+        self.assert_warnings(self.START + raw,
+                             "line 7: warning: 'Pack' has 2 parents, 1 given: refused with 15")
+        self.assert_warnings(self.START + "raw 0 8 2 2 1" + " 0" * 11)
+        self.assert_warnings(f"raw 1 1 0 0{' 0' * 12}\nraw 2 1 0 0 2{' 0' * 11}\nelement x\n"
+                             "impose x 1 [x]",
+                             "line 4: warning: type 1 has 2 parents, 1 given: refused with 15")
+
+    def test_what_is_refused_with_3(self):
+        for words in ("0 8 2 1 1 1", "0 8 2 1 1 0 0 1", "0 8 2 1 5", "0 8 2 1" + " 0" * 11 + " 1"):
+            raw = (words.split() + ["0"] * 16)[:16]
+            self.assert_warnings(self.START + "raw " + " ".join(raw))
+
+    def test_what_is_refused_with_5(self):
+        for line in ("impose x 3 [a]", "impose 3 Pack [a]", "impose x Pack [3]", "impose x Pack [a b 3]",
+                     "impose x 65535 [a]"):
+            self.assert_warnings(self.START + line)
+        # What is declared later is not there yet.
+        self.assert_warnings(self.START + "impose 3 Pack [a]\nelement")
+
+    def test_what_is_refused_with_2(self):
+        """A next index that is not in the sheet, and a chain that does not end."""
+        said = "line 7: warning: 'Pack' has 2 parents, 1 given: refused with 15"
+        self.assert_warnings(self.START + "impose x Pack [a] next 7")
+        self.assert_warnings(self.START + "impose x Pack [a] next 5")
+        self.assert_warnings(self.START + "impose x Pack [a] next 5\nclose", said)
+        self.assert_warnings(self.START + "impose x Pack [a] next 0\nclose", said)
+
+    def test_what_is_refused_with_1(self):
+        """1,024 records have a warning, one more has none."""
+        line = "impose x Pack [a]\n"
+        start = len(self.START.splitlines())
+        for size, warned in ((1024, 1), (1025, 0)):
+            text = self.START + line + "close\n" * (size - start - 1)
+            self.assertEqual(len(sheet.assemble_and_warn(text)[1]), warned)
+
+    def test_a_chain_out_of_order(self):
+        # The chain is 0, 2, 1, 3, 4: Pack is type 1 and a is element 0.
+        text = ("type Box model next 2\nelement a next 3\ntype Pack plain [Box] next 1\n"
+                "impose a Pack\nimpose 0 1 [0]")
+        self.assert_warnings(text, "line 4: warning: 'Pack' has 1 parent, 0 given: refused with 15")
+        # The chain is 0, 4, 1, 2, 3: the lines are told in their order.
+        text = ("element a next 4\nimpose a Box [a]\nimpose a Box\nimpose a Box [a a] next 0\n"
+                "type Box model next 1")
+        self.assert_warnings(text, "line 2: warning: 'Box' has 0 parents, 1 given: refused with 15",
+                             "line 4: warning: 'Box' has 0 parents, 2 given: refused with 15")
+        text = ("type Box model next 4\nimpose a Box [a] next 3\n# no record\n"
+                "impose a Box [a a] next 1\nclose next 0\nelement a next 2")
+        self.assert_warnings(text, "line 2: warning: 'Box' has 0 parents, 1 given: refused with 15",
+                             "line 4: warning: 'Box' has 0 parents, 2 given: refused with 15")
+
+    def test_records_outside_the_chain(self):
+        """They are not carried out, so that nothing refuses them."""
+        self.assert_warnings(self.START + "close next 0\nimpose x Pack [a]")
+
+    def test_several(self):
+        self.assert_warnings(
+            self.START + "impose x Pack [a]\n# a comment\n\nimpose x Pack [a b]\nimpose x Pack\n"
+            "close\nimpose x Drum [a b]",
+            "line 7: warning: 'Pack' has 2 parents, 1 given: refused with 15",
+            "line 11: warning: 'Pack' has 2 parents, 0 given: refused with 15",
+            "line 13: warning: 'Drum' has 1 parent, 2 given: refused with 15")
+
+    def test_the_bytes_are_those_of_the_words(self):
+        records = words_of(self.START + "impose x Pack [a]\nimpose x Pack [b a]\nimpose x Pack [a b a b]")
+        self.assertEqual(records[-3:], [record(8, 2, 1, [0], next_index=7),
+                                        record(8, 2, 1, [1, 0], next_index=8),
+                                        record(8, 2, 1, [0, 1, 0, 1])])
+
+    def test_random_sheets(self):
+        """Orders of the chain, broken chains and malformed records, against `wrong_parents`."""
+        rng = random.Random(6)
+        warned = 0
+        for _ in range(500):
+            size = rng.randint(6, 20)
+            kinds = [1, 1, 6, 6, 6, *rng.choices([1, 6, 8, 8, 8, 13], k=size - 5)]
+            order = [0, *rng.sample(range(1, size), size - 1)]
+            if rng.random() < 0.5:
+                order.sort()
+            following = dict(zip(order, [*order[1:], rng.choice([0, 0, rng.randint(0, size)])]))
+            if rng.random() < 0.3:
+                following[rng.randrange(size)] = rng.randint(0, size)
+            records = [random_record(rng, kind, following[index], 2) for index, kind in enumerate(kinds)]
+            if rng.random() < 0.3:
+                records[-1] = (following[size - 1], 8, *[rng.randint(0, 2) for _ in range(14)])
+            wrong = wrong_parents(records)
+            text = sheet.disassemble(pack(records))
+            self.assertEqual(sheet.assemble(text), pack(records))
+            comments = [line.split("# ")[1].partition(": ") for line in text.splitlines()]
+            self.assertEqual([int(index) for index, _, said in comments if said], wrong)
+            self.assert_warnings(text, *[f"line {int(index) + 1}: warning: {said}"
+                                         for index, _, said in comments if said])
+            warned += len(wrong)
+        self.assertGreater(warned, 500)
+
+    def test_text_of_a_sheet(self):
+        data = sheet.assemble(self.START + "impose x Pack [a]\nimpose x Drum [a]")
+        text = sheet.disassemble(data)
+        self.assertEqual(text.splitlines()[6:], [
+            "impose e2 t1 [e0]                       # 6: 't1' has 2 parents, 1 given: refused with 15",
+            "impose e2 t2 [e0]                       # 7"])
+        self.assertEqual(sheet.assemble(text), data)
+
+
 class RoundTrips(unittest.TestCase):
     def assert_round_trip(self, data):
         text = sheet.disassemble(data)
@@ -374,7 +545,7 @@ class Samples(unittest.TestCase):
     def test_each_text_gives_its_sheet_and_back(self):
         names = sorted(path.stem for path in SAMPLES.glob("*.txt"))
         for wanted in ("p1", "p2", "p5", "p5-settled", "two-names", "unnamed-box",
-                       "unnamed-box-settled", "transfer-box", "refused-element"):
+                       "unnamed-box-settled", "transfer-box", "refused-element", "refused-parents"):
             self.assertIn(wanted, names)
         self.assertEqual(names, sorted(path.stem for path in SAMPLES.glob("*.sheet")))
         self.assertEqual(sorted([*names, *LENGTHS]), sorted(path.stem for path in SAMPLES.glob("*.out")))
@@ -415,6 +586,17 @@ class Samples(unittest.TestCase):
         self.assertEqual((SAMPLES / "transfer-box.out").read_text(),
                          "close 1 4 3\nclose 0 0 1\nconflict 12 2 0 / 2 2\nconflicts 1\nend 37\n")
         self.assertEqual((SAMPLES / "refused-identity.out").read_text(), "refused 12 at 11\n")
+
+    def test_parents(self):
+        """One sample has an imposition with too few, and it is refused there."""
+        for path in SAMPLES.glob("*.txt"):
+            with self.subTest(name=path.stem):
+                _, warnings = sheet.assemble_and_warn(path.read_text(encoding="utf-8"))
+                self.assertEqual(len(warnings), path.stem == "refused-parents")
+        text = sheet.disassemble((SAMPLES / "refused-parents.sheet").read_bytes())
+        index, = re.findall(r"# (\d+): 't1' has 2 parents, 1 given: refused with 15$", text, re.MULTILINE)
+        self.assertEqual((SAMPLES / "refused-parents.out").read_text(),
+                         f"close 1 0 1\nrefused 15 at {index}\n")
 
     def test_a_settle_stands_for_the_closes(self):
         """The samples told with a settle are the others but for how they close."""
@@ -472,6 +654,25 @@ class Commands(unittest.TestCase):
                                      (1, b"", message))
                     self.assertEqual(target.read_bytes(), b"before")
 
+    def test_warnings(self):
+        """They go to standard error, and the sheet is written."""
+        text = Warnings.START + "impose x Pack [a]\nimpose x Drum\n"
+        expected = sheet.assemble(text)
+        said = ("line 7: warning: 'Pack' has 2 parents, 1 given: refused with 15\n"
+                "line 8: warning: 'Drum' has 1 parent, 0 given: refused with 15\n")
+        self.assertEqual(self.run_tool("assemble", "-", data=text.encode()), (0, expected, said))
+        with tempfile.TemporaryDirectory() as folder:
+            target = Path(folder, "out")
+            self.assertEqual(self.run_tool("assemble", "-", "-o", str(target), data=text.encode()),
+                             (0, b"", said))
+            self.assertEqual(target.read_bytes(), expected)
+        # Beside an error there are none.
+        self.assertEqual(self.run_tool("assemble", "-", data=text.encode() + b"clsoe\n"),
+                         (1, b"", "line 9: 'clsoe' is not a kind of record\n"))
+        # The text of a sheet has them as comments alone.
+        code, out, message = self.run_tool("disassemble", "-", data=expected)
+        self.assertEqual((code, message, out.count(b": refused with 15\n")), (0, "", 2))
+
     def test_files_that_cannot_be_opened(self):
         with tempfile.TemporaryDirectory() as folder:
             missing = str(Path(folder, "missing"))
@@ -493,6 +694,9 @@ class Commands(unittest.TestCase):
         self.assertEqual((code, message), (0, ""))
         for word in [word for word, _ in sheet.KINDS.values()] + ["raw", "next N", "--output"]:
             self.assertIn(word, out.decode())
+        example = "line 23: warning: 'Pack' has 2 parents, 1 given: refused with 15"
+        self.assertIn(f"\n  {example}\n", out.decode())
+        self.assertIn(f"`{example}`", (TOOL.parent / "README.md").read_text(encoding="utf-8"))
 
     def test_readme_gives_the_lines_of_the_help(self):
         readme = (TOOL.parent / "README.md").read_text(encoding="utf-8")
@@ -513,11 +717,12 @@ class Script(unittest.TestCase):
         shutil.copy(TOOL.parent.parent / "close-sheet", self.root)
         (self.root / "tools").mkdir()
         shutil.copy(TOOL, self.root / "tools")
+        shutil.copy(TOOL.parent / "programs.bash", self.root / "tools")
         # The commands that the script uses, and no `rt`.
         self.commands = self.root / "commands"
         self.commands.mkdir()
-        for name in ("bash", "cat", "dirname", "mkdir", "mktemp", "rm", "tail", "tee", "python3",
-                     "env"):
+        for name in ("bash", "basename", "cat", "dirname", "mkdir", "mktemp", "rm", "tail", "tee",
+                     "python3", "env"):
             (self.commands / name).symlink_to(shutil.which(name))
 
     def put(self, path, text):
@@ -554,17 +759,29 @@ class Script(unittest.TestCase):
         (self.root / "a.txt").write_text("equal 0 drumm\n")
         for words, code, message in (
                 ((), 2, "usage: ./close-sheet SHEET\n"),
-                (("tools",), 1, "close-sheet: tools: a directory, not a sheet\n"),
+                (("tools",), 1, "close-sheet: tools: a directory, not a file\n"),
                 (("b.sheet",), 1, "close-sheet: b.sheet: no such file\n"),
                 (("a.txt",), 1, "line 1: 'drumm' is not declared as an element\n")):
             with self.subTest(words=words):
                 self.assertEqual(self.run_script(*words), (code, b"", message))
 
+    def test_a_warning_changes_nothing(self):
+        """It goes to standard error; the sheet is run, and its last line decides."""
+        text = Warnings.START + "impose x Pack [a]\n"
+        (self.root / "a.txt").write_text(text)
+        said = "line 7: warning: 'Pack' has 2 parents, 1 given: refused with 15\n"
+        self.program("cat; echo; echo refused 15 at 6")
+        self.assertEqual(self.run_script("a.txt"),
+                         (0, sheet.assemble(text) + b"\nrefused 15 at 6\n", said))
+        self.program("cat >/dev/null")
+        self.assertEqual(self.run_script("a.txt"),
+                         (1, b"", said + "close-sheet: a.txt: the sheet was not run to its end\n"))
+
     def test_toolchain(self):
         (self.root / "a.sheet").write_bytes(b"")
         self.assertEqual(self.run_script("a.sheet"),
-                         (1, b"", "close-sheet: target/bin/close_sheet is not built, and rt, which"
-                                  " builds it, is not found\n"))
+                         (1, b"", f"close-sheet: {self.root.resolve()}/target/bin/close_sheet is not"
+                                  " built, and rt, which builds it, is not found\n"))
         # Where it is there, it builds the program, and standard input is the sheet's.
         made = self.root / "target/bin/close_sheet"
         self.put(self.commands / "rt", f"#!{shutil.which('bash')}\ncat\nmkdir -p target/bin\n"

@@ -70,8 +70,6 @@ fn main() {
         conflicts("P2, conflicts", sample("p2"), 1000),
         conflicts("1,024 facts in one class, conflicts", sheets::one_class(), 200),
         conflicts("1,024 facts in 256 classes, conflicts", sheets::many_classes(), 200),
-        conflicts("1,024 facts agreeing in 4 classes, conflicts", sheets::agreeing(4), 200),
-        conflicts("1,024 facts agreeing in 64 classes, conflicts", sheets::agreeing(64), 200),
         input("every table full, stored", Call::Store, sheets::full(), 200),
         input("every table full, loaded", Call::Load, sheets::full(), 200),
     ];

@@ -4,9 +4,6 @@
 /// The most elements of a structure.
 const ELS: u16 = 256;
 
-/// The most facts.
-const FACTS: u16 = 1024;
-
 /// A sheet in the making: records of sixteen words, chained in order.
 #[derive(Default)]
 struct Sheet {
@@ -248,27 +245,6 @@ pub fn many_classes() -> Vec<u8> {
     sheet.elements(ELS);
     for el in 0..ELS {
         sheet.record(10, 0, 0, &own_parents(el, 0), &[el; 4]);
-    }
-    sheet.reported()
-}
-
-/// 1,024 facts of so many elements, equally many of each, all of one type: the first with three parents, the others with
-/// these and a fourth. So each later fact is compared in three parents, and none disagrees. Facts of one type that differ
-/// agree only where one list is longer, and the signature gives all of them one length, so each class needs an imposition.
-pub fn agreeing(classes: u16) -> Vec<u8> {
-    let each = FACTS / classes;
-    let mut sheet = Sheet::default();
-    sheet.model_type();
-    sheet.plain_type(&[0; 4]);
-    sheet.predicate(&[0; 4], &[1; 4]);
-    sheet.elements(each.max(classes));
-    for el in 0..classes {
-        sheet.impose(el, 1, &[0, 1, 2]);
-    }
-    for el in (0..classes).step_by(4) {
-        for fourth in 1..each {
-            sheet.record(10, 0, 0, &[0, 1, 2, fourth], &[el, el + 1, el + 2, el + 3]);
-        }
     }
     sheet.reported()
 }

@@ -9,13 +9,14 @@ use native.Mathlib.Omega.{arith}
 use lib.ListN.{length, take, drop}
 use lib.Seq.{take-append-seam}
 use denote.Ref.{now}
-use Rattle.ids.specs.Answers.{Answered, accepted, refused, Outcome, refusing, accepting, outcome}
+use Rattle.ids.specs.Answers.{Answered, accepted, refused, firstOf, decided, Outcome, refusing, accepting, outcome}
 use Rattle.ids.proofs.Judging.{decided-by}
 use Rattle.unification.specs.Roots.{linksOf}
 use Rattle.signature.specs.Model.{Sig, sigOf}
 use Rattle.semantics.specs.Structure as model
 use Rattle.semantics.specs.Types.{anyMarked}
 use Rattle.semantics.specs.Close.{Closed}
+use Rattle.semantics.specs.Conflicts.{Conflict, typeConflicts, conflictFinds}
 use Rattle.semantics.specs.Calls as calls
 use Rattle.semantics.specs.Calls.{Call, Answer, closed, isAccepted, mergesOf, machine, Step, start}
 use Rattle.structure.specs.declared.Machine.{Machine}
@@ -25,6 +26,7 @@ use Rattle.history.specs.Book.{fed, RanCloses, Conserved}
 use Rattle.history.specs.Settled.{settledAfter}
 use Rattle.history.proofs.SecondClose.{noChange}
 use Rattle.validity.proofs.Calls.{ValidMachine}
+use Rattle.validity.proofs.Parents.{firstTwosBelow, conflicts-first-two}
 use Rattle.file.specs.File.{store, storeCauses, storeInto, load}
 use Rattle.loading.specs.declared.Loaded.{Loaded}
 use Rattle.loading.specs.declared.Loaded.the-variants as loadeds
@@ -214,6 +216,16 @@ module _ {v w : Machine} {kept : List (List ℕ)} {l : List Act} (f : Fresh v) (
 
   pub code-acts-valid : ValidMachine (machineOf w)
   code-acts-valid = subst ValidMachine (sym (did-acted .machine)) (acted-valid l)
+
+  -- A conflict report after it has, of each class with two facts or more, as roots, the first two (02, M-105).
+  pub code-first-two : {z : Machine} {cs : List Conflict} {n : ℕ} → Made w calls.type-conflicts (calls.conflicting cs n) z
+      → cs ≡ firstTwosBelow (structureOf (w .structure)) (length (structureOf (w .structure) .links))
+  unfolding calls.step calls.stepBy calls.rule calls.acceptance decided firstOf
+  code-first-two {cs = cs} {n = n} m =
+      let s = structureOf (w .structure) in
+      let told : calls.conflicting cs n ≡ calls.conflicting (typeConflicts s) (conflictFinds s) = ap (λ (x : Step). x .answer) (made-step m) in
+      let same : cs ≡ typeConflicts s = cc in
+      same ∙ conflicts-first-two (sigOf (w .signature)) s code-acts-valid
 
   -- For every close or settle after it that is accepted, where the rule applies when it returns, with no element marked up to then: what `Conserved` says
   -- of the book that is noted, of the links of the structure that this call hands back, and of the answers of the closes that it ran.

@@ -57,11 +57,11 @@ length-refused = (refl, (refl, (refl, (refl, (refl, (refl, tt))))))
 abbrev pub outside-cases : List FileCase
 outside-cases =
     -- a parent count over 4 in impositions
-    file (push-type (type-entry plain []) ∷ []) (1 ∷ zeros 7 (1 ∷ zeros 14 (5 ∷ zeros 4 (1 ∷ []))))
+    file (push-type (type-entry model []) ∷ push-type (type-entry plain (0 ∷ 0 ∷ 0 ∷ 0 ∷ [])) ∷ []) (1 ∷ zeros 7 (1 ∷ zeros 9 (1 ∷ zeros 4 (5 ∷ zeros 4 (1 ∷ [])))))
     -- an argument count over 4 in predicate applications
     ∷ file (push-pred (pred-entry [] []) ∷ []) (1 ∷ zeros 5 (1 ∷ zeros 20 (5 ∷ zeros 4 (1 ∷ []))))
     -- a parent count over 4 in facts
-    ∷ file (push-type (type-entry plain []) ∷ []) (1 ∷ 0 ∷ 1 ∷ zeros 19 (5 ∷ 0 ∷ 0 ∷ 0 ∷ 1 ∷ 0 ∷ 0 ∷ 1 ∷ []))
+    ∷ file (push-type (type-entry model []) ∷ push-type (type-entry plain (0 ∷ 0 ∷ 0 ∷ 0 ∷ [])) ∷ []) (1 ∷ 0 ∷ 1 ∷ zeros 14 (1 ∷ zeros 4 (5 ∷ 0 ∷ 0 ∷ 0 ∷ 1 ∷ 0 ∷ 0 ∷ 1 ∷ [])))
     -- a parent count over 4 in function applications
     ∷ file (push-type (type-entry plain []) ∷ push-func (func-entry [] [] 0) ∷ []) (1 ∷ 0 ∷ 0 ∷ 0 ∷ 1 ∷ zeros 17 (5 ∷ zeros 10 (1 ∷ [])))
     -- an argument count over 4 in function applications
@@ -88,17 +88,29 @@ outside-refused = (refl, (refl, (refl, (refl, (refl, (refl, (refl, (refl, (refl,
 abbrev pub entries-cases : List FileCase
 entries-cases =
     -- an entry of variables whose call is refused with 3
-    file [] (1 ∷ zeros 9 (1 ∷ zeros 6 (64 ∷ zeros 5 (1 ∷ []))))
+    file [] (zeros 10 (1 ∷ zeros 5 (64 ∷ 0 ∷ 0 ∷ 1 ∷ [])))
     -- an entry of variables whose call is refused with 3
-    ∷ file [] (zeros 10 (1 ∷ zeros 5 (64 ∷ 0 ∷ 0 ∷ 1 ∷ [])))
+    ∷ file [] (1 ∷ zeros 9 (1 ∷ zeros 6 (64 ∷ zeros 5 (1 ∷ []))))
     -- an entry of variables whose call is refused with 5
     ∷ file [] (zeros 10 (1 ∷ zeros 8 (1 ∷ [])))
     -- an entry of ambient elements whose call is refused with 6
     ∷ file (push-type (type-entry plain []) ∷ []) (1 ∷ zeros 11 (1 ∷ zeros 10 (1 ∷ [])))
+    -- an entry of impositions whose call is refused with 15
+    ∷ file (push-type (type-entry model []) ∷ push-type (type-entry plain (0 ∷ [])) ∷ []) (1 ∷ zeros 7 (1 ∷ zeros 9 (1 ∷ zeros 9 (1 ∷ []))))
+    -- an entry of facts whose call is refused with 15
+    ∷ file (push-type (type-entry plain []) ∷ []) (1 ∷ 0 ∷ 1 ∷ zeros 19 (1 ∷ 0 ∷ 0 ∷ 0 ∷ 1 ∷ 0 ∷ 0 ∷ 1 ∷ []))
     -- an entry of function applications whose call is refused with 7
     ∷ file (push-type (type-entry model []) ∷ push-type (type-entry (mor 0) []) ∷ push-func (func-entry [] [] 0) ∷ push-func (func-entry [] [] 0) ∷ push-func (func-entry [] [] 0) ∷ push-func (func-entry [] [] 0) ∷ push-model (model-entry 0 1 0 1 2 3) ∷ push-func (func-entry [] [] 0) ∷ push-mor-app (mor-app-entry 4 1 0) ∷ []) (1 ∷ 0 ∷ 0 ∷ 0 ∷ 1 ∷ zeros 12 (2 ∷ zeros 9 (1 ∷ zeros 5 (1 ∷ []))))
     -- an entry of function applications whose call is refused with 12
     ∷ file (push-type (type-entry model []) ∷ push-type (type-entry (mor 0) []) ∷ push-func (func-entry [] [] 0) ∷ push-func (func-entry [] [] 0) ∷ push-func (func-entry [] [] 0) ∷ push-func (func-entry [] [] 0) ∷ push-model (model-entry 0 1 0 1 2 3) ∷ []) (1 ∷ 0 ∷ 0 ∷ 0 ∷ 1 ∷ zeros 12 (2 ∷ zeros 15 (1 ∷ [])))
+    -- an entry of impositions whose call is refused with 15
+    ∷ file (push-type (type-entry plain []) ∷ []) (1 ∷ zeros 7 (1 ∷ zeros 14 (1 ∷ zeros 4 (1 ∷ []))))
+    -- an entry of impositions whose call is refused with 15
+    ∷ file (push-type (type-entry model []) ∷ push-type (type-entry plain (0 ∷ 0 ∷ [])) ∷ []) (1 ∷ zeros 7 (1 ∷ zeros 9 (1 ∷ zeros 4 (1 ∷ zeros 4 (1 ∷ [])))))
+    -- an entry of facts whose call is refused with 15
+    ∷ file (push-type (type-entry model []) ∷ push-type (type-entry plain (0 ∷ [])) ∷ []) (1 ∷ 0 ∷ 1 ∷ zeros 14 (1 ∷ zeros 8 (1 ∷ 0 ∷ 0 ∷ 1 ∷ [])))
+    -- an entry of facts whose call is refused with 15
+    ∷ file (push-type (type-entry model []) ∷ push-type (type-entry plain (0 ∷ 0 ∷ [])) ∷ []) (1 ∷ 0 ∷ 1 ∷ zeros 14 (1 ∷ zeros 4 (1 ∷ 0 ∷ 0 ∷ 0 ∷ 1 ∷ 0 ∷ 0 ∷ 1 ∷ [])))
     -- an entry of function applications whose call is refused with 7
     ∷ file (push-type (type-entry model []) ∷ push-type (type-entry (mor 0) []) ∷ push-func (func-entry [] [] 0) ∷ push-func (func-entry [] [] 0) ∷ push-func (func-entry [] [] 0) ∷ push-func (func-entry [] [] 0) ∷ push-model (model-entry 0 1 0 1 2 3) ∷ push-func (func-entry [] [] 0) ∷ push-mor-app (mor-app-entry 4 1 0) ∷ []) (1 ∷ 0 ∷ 0 ∷ 0 ∷ 1 ∷ zeros 12 (4 ∷ zeros 15 (1 ∷ [])))
     -- an entry of function applications whose call is refused with 12
@@ -106,7 +118,7 @@ entries-cases =
     -- an entry of facts whose call is refused with 5
     ∷ file [] (1 ∷ 0 ∷ 1 ∷ zeros 23 (1 ∷ 0 ∷ 0 ∷ 1 ∷ []))
     -- an entry of facts whose call is refused with 5
-    ∷ file (push-type (type-entry plain []) ∷ []) (1 ∷ 0 ∷ 1 ∷ zeros 15 (1 ∷ 0 ∷ 0 ∷ 0 ∷ 1 ∷ 0 ∷ 0 ∷ 0 ∷ 1 ∷ 0 ∷ 0 ∷ 1 ∷ []))
+    ∷ file (push-type (type-entry model []) ∷ push-type (type-entry plain (0 ∷ [])) ∷ []) (1 ∷ 0 ∷ 1 ∷ zeros 14 (1 ∷ 1 ∷ 0 ∷ 0 ∷ 0 ∷ 1 ∷ 0 ∷ 0 ∷ 0 ∷ 1 ∷ 0 ∷ 0 ∷ 1 ∷ []))
     -- an entry of function applications whose call is refused with 5
     ∷ file [] (1 ∷ 0 ∷ 0 ∷ 0 ∷ 1 ∷ zeros 28 (1 ∷ []))
     -- an entry of function applications whose call is refused with 5
@@ -126,7 +138,7 @@ entries-cases =
     -- an entry of impositions whose call is refused with 5
     ∷ file [] (1 ∷ zeros 7 (1 ∷ zeros 19 (1 ∷ [])))
     -- an entry of impositions whose call is refused with 5
-    ∷ file (push-type (type-entry plain []) ∷ []) (1 ∷ zeros 7 (1 ∷ zeros 10 (1 ∷ 0 ∷ 0 ∷ 0 ∷ 1 ∷ zeros 4 (1 ∷ []))))
+    ∷ file (push-type (type-entry model []) ∷ push-type (type-entry plain (0 ∷ [])) ∷ []) (1 ∷ zeros 7 (1 ∷ zeros 9 (1 ∷ 1 ∷ 0 ∷ 0 ∷ 0 ∷ 1 ∷ zeros 4 (1 ∷ []))))
     -- an entry of ambient elements whose call is refused with 5
     ∷ file [] (1 ∷ zeros 11 (1 ∷ zeros 10 (1 ∷ [])))
     -- an entry of ambient elements whose call is refused with 5
@@ -139,7 +151,7 @@ entries-cases =
 
 pub entries-refused : All (λ (f : FileCase). applying (f .sig) (f .bytes) ≡ (false ∷ false ∷ true ∷ false ∷ false ∷ false ∷ false ∷ false ∷ [])) entries-cases
 unfolding filed
-entries-refused = (refl, (refl, (refl, (refl, (refl, (refl, (refl, (refl, (refl, (refl, (refl, (refl, (refl, (refl, (refl, (refl, (refl, (refl, (refl, (refl, (refl, (refl, (refl, (refl, tt))))))))))))))))))))))))
+entries-refused = (refl, (refl, (refl, (refl, (refl, (refl, (refl, (refl, (refl, (refl, (refl, (refl, (refl, (refl, (refl, (refl, (refl, (refl, (refl, (refl, (refl, (refl, (refl, (refl, (refl, (refl, (refl, (refl, (refl, (refl, tt))))))))))))))))))))))))))))))
 
 -- a link to a higher element
 abbrev pub links-cases : List FileCase
@@ -175,7 +187,7 @@ chains-cases =
     -- a broken chain, at a first index
     ∷ file (push-type (type-entry plain []) ∷ []) (1 ∷ 0 ∷ 1 ∷ zeros 26 (1 ∷ []))
     -- a broken chain, at a next index
-    ∷ file (push-type (type-entry plain []) ∷ []) (1 ∷ 0 ∷ 2 ∷ zeros 25 (1 ∷ zeros 5 (1 ∷ 0 ∷ 0 ∷ 1 ∷ [])))
+    ∷ file (push-type (type-entry plain []) ∷ push-type (type-entry plain []) ∷ []) (1 ∷ 0 ∷ 2 ∷ zeros 15 (1 ∷ zeros 15 (1 ∷ 0 ∷ 0 ∷ 1 ∷ [])))
     -- a broken chain, at a next index
     ∷ file (push-type (type-entry plain []) ∷ []) (2 ∷ 0 ∷ 2 ∷ zeros 14 (1 ∷ zeros 12 (2 ∷ zeros 5 (1 ∷ 0 ∷ 2 ∷ 0 ∷ 0 ∷ 1 ∷ []))))
     ∷ []
@@ -192,7 +204,9 @@ orders-cases =
     -- variables twice
     ∷ file [] (1 ∷ zeros 9 (2 ∷ zeros 14 (1 ∷ [])))
     -- facts not in order
-    ∷ file (push-type (type-entry plain []) ∷ []) (1 ∷ 0 ∷ 2 ∷ zeros 24 (1 ∷ 0 ∷ 2 ∷ zeros 4 (1 ∷ 0 ∷ 0 ∷ 1 ∷ [])))
+    ∷ file (push-type (type-entry plain []) ∷ push-type (type-entry plain []) ∷ []) (1 ∷ 0 ∷ 2 ∷ zeros 14 (1 ∷ zeros 11 (2 ∷ zeros 4 (1 ∷ 0 ∷ 0 ∷ 1 ∷ []))))
+    -- facts not in order
+    ∷ file (push-type (type-entry model []) ∷ push-type (type-entry plain (0 ∷ [])) ∷ []) (2 ∷ 0 ∷ 2 ∷ zeros 14 (1 ∷ 1 ∷ 1 ∷ 1 ∷ zeros 7 (1 ∷ 1 ∷ 2 ∷ zeros 5 (1 ∷ zeros 4 (1 ∷ [])))))
     -- facts twice
     ∷ file (push-type (type-entry plain []) ∷ []) (1 ∷ 0 ∷ 2 ∷ zeros 26 (2 ∷ zeros 4 (1 ∷ 0 ∷ 0 ∷ 1 ∷ [])))
     -- function applications not in order
@@ -211,7 +225,7 @@ orders-cases =
 
 pub orders-refused : All (λ (f : FileCase). applying (f .sig) (f .bytes) ≡ (false ∷ false ∷ false ∷ false ∷ false ∷ false ∷ true ∷ false ∷ [])) orders-cases
 unfolding filed
-orders-refused = (refl, (refl, (refl, (refl, (refl, (refl, (refl, (refl, (refl, (refl, tt))))))))))
+orders-refused = (refl, (refl, (refl, (refl, (refl, (refl, (refl, (refl, (refl, (refl, (refl, tt)))))))))))
 
 -- a nonzero unused byte
 abbrev pub unused-cases : List FileCase
@@ -221,7 +235,7 @@ unused-cases =
     -- a nonzero unused byte in the arguments of predicate applications
     ∷ file (push-pred (pred-entry [] []) ∷ []) (zeros 6 (1 ∷ zeros 15 (1 ∷ zeros 5 (1 ∷ []))))
     -- a nonzero unused byte in the parents of facts
-    ∷ file (push-type (type-entry plain []) ∷ []) (1 ∷ 0 ∷ 1 ∷ zeros 18 (1 ∷ 1 ∷ 0 ∷ 0 ∷ 0 ∷ 1 ∷ 0 ∷ 0 ∷ 1 ∷ []))
+    ∷ file (push-type (type-entry model []) ∷ push-type (type-entry plain (0 ∷ [])) ∷ []) (1 ∷ 0 ∷ 1 ∷ zeros 14 (1 ∷ 0 ∷ 0 ∷ 0 ∷ 1 ∷ 1 ∷ 0 ∷ 0 ∷ 0 ∷ 1 ∷ 0 ∷ 0 ∷ 1 ∷ []))
     -- a nonzero unused byte in the parents of function applications
     ∷ file (push-type (type-entry plain []) ∷ push-func (func-entry [] [] 0) ∷ []) (1 ∷ 0 ∷ 0 ∷ 0 ∷ 1 ∷ zeros 14 (1 ∷ 0 ∷ 0 ∷ 1 ∷ zeros 10 (1 ∷ [])))
     -- a nonzero unused byte in the arguments of function applications
@@ -238,9 +252,9 @@ unused-refused = (refl, (refl, (refl, (refl, (refl, (refl, tt))))))
 abbrev pub loading-cases : List FileCase
 loading-cases =
     -- a fact whose parent is no root
-    file (push-type (type-entry plain []) ∷ []) (2 ∷ 0 ∷ 1 ∷ zeros 16 (1 ∷ 0 ∷ 0 ∷ 0 ∷ 1 ∷ zeros 4 (1 ∷ zeros 4 (1 ∷ []))))
+    file (push-type (type-entry model []) ∷ push-type (type-entry plain (0 ∷ [])) ∷ []) (2 ∷ 0 ∷ 1 ∷ zeros 15 (1 ∷ 1 ∷ 0 ∷ 0 ∷ 0 ∷ 1 ∷ zeros 4 (1 ∷ zeros 4 (1 ∷ []))))
     -- an imposition whose parent is no root
-    ∷ file (push-type (type-entry plain []) ∷ []) (2 ∷ zeros 7 (1 ∷ zeros 11 (1 ∷ 0 ∷ 0 ∷ 0 ∷ 1 ∷ zeros 7 (1 ∷ []))))
+    ∷ file (push-type (type-entry model []) ∷ push-type (type-entry plain (0 ∷ [])) ∷ []) (2 ∷ zeros 7 (1 ∷ zeros 10 (1 ∷ 1 ∷ 0 ∷ 0 ∷ 0 ∷ 1 ∷ zeros 7 (1 ∷ []))))
     -- an imposition on an element that is no root
     ∷ file (push-type (type-entry plain []) ∷ []) (2 ∷ zeros 7 (1 ∷ zeros 9 (1 ∷ zeros 13 (1 ∷ []))))
     -- a mark on an element that is no root

@@ -28,7 +28,7 @@ use Rattle.semantics.specs.Calls.{Machine, machine, rule, equalityRule, imposit
 use Rattle.semantics.specs.Valid.{Below, Listed, Counts, countsOf, FactValid, FuncAppValid, PredAppValid, VarValid, AmbientValid, PairValid}
 use Rattle.semantics.specs.Valid.{OnRoot, ValidSig, Unreserved, WellApplied, OfModel, Valid}
 use Rattle.semantics.proofs.Cases.{and-first, and-second, or-first, or-second}
-use Rattle.semantics.proofs.Judged.{listed-if}
+use Rattle.semantics.proofs.Judged.{listed-if, fact-if}
 use Rattle.semantics.proofs.Orders.{fact-ordered, func-app-ordered, pred-app-ordered, var-ordered, ambient-ordered, order-less}
 use Rattle.validity.proofs.Operating.{Admitted}
 use Rattle.file.specs.Layout.{sum}
@@ -115,7 +115,7 @@ module _ (g : Sig) (s : Structure) where
         (
           not-true (two-tests (lt-ltb _ _ (v .el))
               (two-tests (lt-ltb _ _ (v .typ)) (all-declared (c .els) (f .parents) (v .parents .below)))),
-          (refl, tt),
+          (not-true (eq-eqb _ _ (v .parent-count)), (refl, tt)),
         ),
       )
 
@@ -123,14 +123,7 @@ module _ (g : Sig) (s : Structure) where
   unfolding rule impositionRule impositionCauses isImposed elsAlone
   fact-entered f h =
       let clear = none-if alone (impose-type f) h in
-      let rest = isType g (f .typ) && areEls s (f .parents) in
-      let d = not-false (isEl s (f .el) && rest) (clear .1 .0) in
-      let e = and-second (isEl s (f .el)) rest d in
-      record {
-        el = ltb-true (f .el) (c .els) (and-first (isEl s (f .el)) rest d);
-        typ = ltb-true (f .typ) (c .types) (and-first (isType g (f .typ)) (areEls s (f .parents)) e);
-        parents = listed-if (c .els) (f .parents) (clear .0) (and-second (isType g (f .typ)) (areEls s (f .parents)) e);
-      }
+      fact-if g (c .els) f (clear .0) (clear .1 .0) (clear .1 .1 .0)
 
   func-app-enters : (x : FuncApp) → Admitted g c x → refuses alone (apply-func x) ≡ false
   unfolding rule applicationRule applicationCauses insertFuncAppOrEquate applyAt lookupOf elsAlone

@@ -12,7 +12,7 @@ use lib.Dec.{T}
 use Rattle.ids.specs.Count.{count}
 use Rattle.ids.proofs.Sorted.{All, all-at}
 use Rattle.unification.specs.Roots.{rootOf}
-use Rattle.signature.specs.Model.{plain, Sig, sig, empty, FuncM, type-entry, func-entry}
+use Rattle.signature.specs.Model.{plain, model, Sig, sig, empty, FuncM, type-entry, func-entry}
 use Rattle.semantics.specs.Structure.{Pair, pair, FuncApp, func-app}
 use Rattle.semantics.specs.Types.{anyMarked}
 use Rattle.semantics.specs.Close.{Closed, report}
@@ -181,10 +181,10 @@ two-lengths = record {
 marked-parent : WorkedList
 unfolding computed shown
 marked-parent = record {
-  calls = typ plain [] ∷ plainEl ∷ markedEl ∷ impose 0 0 (0 ∷ []) ∷ impose 0 0 (1 ∷ []) ∷ [];
+  calls = typ model [] ∷ typ plain (0 ∷ []) ∷ plainEl ∷ markedEl ∷ impose 0 1 (0 ∷ []) ∷ impose 0 1 (1 ∷ []) ∷ [];
   call = close;
   answers = report true 1 1 ∷ [];
-  book = book (constants []) (false ∷ true ∷ []) [] [] 1;
+  book = book (sig (type-entry model [] ∷ type-entry plain (0 ∷ []) ∷ []) [] [] [] []) (false ∷ true ∷ []) [] [] 1;
   root = 0;
   ran = closes refl;
   two = omega arith;

@@ -18,6 +18,7 @@ use Rattle.semantics.specs.Types.{Core, marked, factsAt, concreteTypesOf, refin
 use Rattle.semantics.specs.Valid.{OnRoot}
 use Rattle.semantics.proofs.Orders.{fact-ordered, fact-same}
 use Rattle.semantics.proofs.Canonical.{map-root}
+use Rattle.validity.proofs.Imposing.{factsAt-all}
 use Rattle.history.proofs.Imposing.{joins, refine-none, refine-still, refine-counted, refineParents-counted, refineOne, refineOne-counted}
 use Rattle.history.proofs.Imposing.{refineAll-counted, Stored, insert-grown, insert-there, insert-idle, insert-all, impose-refined}
 use Rattle.history.proofs.Imposing.{impose-plain, first-still, impose-inserts, insertAll, insertAll-grown}
@@ -158,15 +159,6 @@ factsAt-member e (f ∷ fs) h m p = go (eqb (f .el) e) refl (List·Memᴰ·cases
     go true q (inr n) k = List·Memᴰ·tail (k n)
     go false q (inl z) k = no-test (eq-eqb (f .el) e (ap (λ (x : Fact). x .el) (sym z) ∙ p)) q
     go false q (inr n) k = k n
-
-factsAt-all : (P : Fact → Type 0) (e : ℕ) (fs : List Fact) → All (λ h. h .el ≡ e → P h) fs → All P (factsAt e fs)
-unfolding factsAt
-factsAt-all P e [] h = tt
-factsAt-all P e (f ∷ fs) h = go (eqb (f .el) e) refl (factsAt-all P e fs (h .1))
-  where
-    go : (t : Bool) → eqb (f .el) e ≡ t → All P (factsAt e fs) → All P (elim t [ true ↦ f ∷ factsAt e fs | false ↦ factsAt e fs ])
-    go true q k = (h .0 (eqb-true (f .el) e q), k)
-    go false q k = k
 
 module _ (f : Fact) (w : Core) where
   -- an imposing that merged nothing

@@ -60,9 +60,13 @@ abbrev pub wrongLength : ℕ
 wrongLength = 13
 
 -- 02, M-104: "a number or count outside its table, an entry whose call would refuse it, a link to a higher element, a fact on an element that is no root,
--- a broken chain, an order other than ours or a nonzero unused byte", "after 13"
+-- a broken chain, an order other than ours or a nonzero unused byte", "after 13"; M-105: "Number 14 covers such an imposition or fact in a file."
 abbrev pub wrongContent : ℕ
 wrongContent = 14
+
+-- 02, M-105: an imposition that does not give "exactly as many parents as its type has"
+abbrev pub wrongParentCount : ℕ
+wrongParentCount = 15
 
 -- a value, or the number of the refusal
 pub data Answered (A : Type 0) : Type 0 where

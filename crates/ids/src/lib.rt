@@ -48,6 +48,8 @@ impl Refusal {
     pub const WRONG_LENGTH: u16 = 13;
 
     pub const WRONG_CONTENT: u16 = 14;
+
+    pub const WRONG_PARENT_COUNT: u16 = 15;
 }
 
 // Whether a call is refused, and with which number.

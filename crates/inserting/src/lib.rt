@@ -8,12 +8,13 @@ use ids::Verdict;
 use signature::ModelIds;
 use signature::Models;
 use signature::Signature;
+use signature::Types;
 use structure::Answer;
 use structure::Stepped;
 use structure::Structure;
 ghost use mathlib.Core.Path.{_≡_};
-ghost use Rattle.signature.specs.Model.{sigOf, modelOf, viewModels};
-ghost use Rattle.semantics.specs.Calls.{isIdOrComp, isReserved, misapplies, isMisapplied, impose-type, apply-func, apply-pred, machine, step};
+ghost use Rattle.signature.specs.Model.{sigOf, modelOf, viewTypes, viewModels};
+ghost use Rattle.semantics.specs.Calls.{hasItsParents, isIdOrComp, isReserved, misapplies, isMisapplied, impose-type, apply-func, apply-pred, machine, step};
 ghost use Rattle.apps.specs.View.{funcAppOf, predAppOf};
 ghost use Rattle.structure.specs.View.{structureOf, stepOf};
 ghost use Rattle.facts.specs.View.{factOf, givenFact};
@@ -24,15 +25,18 @@ pub fn impose_type(structure: Structure, signature: Signature, fact: Fact) -> St
     ensures { λ r. ⌜ stepOf (sigOf signature) r ≡ step (impose-type (givenFact fact)) (machine (sigOf signature) (structureOf structure)) ⌝ }
 {
     let parents = fact.ct.parents;
+    let types = signature.types;
     let queue = structure.pending_type_impositions;
     let entry = canonical::canonical_fact(structure.unification, fact);
     let queued = queue.contains(entry);
-    let full = Structure::MAX_IMPOSITIONS <= queue.size();
+    let full = ids::and(!queued, Structure::MAX_IMPOSITIONS <= queue.size());
     let declared = fact_is_declared(structure, signature, fact);
+    let counted = has_its_parents(types, fact);
     let verdict = Verdict::Accepted;
     let verdict = verdict.refuse_if(Refusal::MALFORMED, parents.is_too_long());
     let verdict = verdict.refuse_if(Refusal::UNDECLARED, !declared);
-    let verdict = verdict.refuse_if(Refusal::NO_ROOM, ids::and(!queued, full));
+    let verdict = verdict.refuse_if(Refusal::WRONG_PARENT_COUNT, !counted);
+    let verdict = verdict.refuse_if(Refusal::NO_ROOM, full);
     if let Verdict::Refused(number) = verdict {
         return structure.refuse(number);
     }
@@ -119,6 +123,15 @@ pub fn fact_is_within(fact: Fact, els: u16, types: u16) -> bool
     let parents = fact.ct.parents;
     let named = ids::and(fact.ct.typ.0 < types, parents.all_below(els));
     ids::and(fact.el.0 < els, named)
+}
+
+// Whether a fact has as many parents as its type.
+pub fn has_its_parents(types: Types, fact: Fact) -> bool
+    ensures { λ r. ⌜ r ≡ hasItsParents (viewTypes types) (factOf fact) ⌝ }
+{
+    let parents = fact.ct.parents;
+    let given = parents.size() as u16;
+    given == types.parent_count(fact.ct.typ)
 }
 
 // Whether a predicate application can be made of what is declared.

@@ -1,28 +1,30 @@
 -- Laws of `step`, proved once for every call: a refused call leaves everything as it was and gives the number of one of its causes; an accepted
 -- one leaves its effect.
 use mathlib.Core.Path.{_≡_, refl, ap, _∙_}
-use mathlib.Core.Bool.{Bool, true, false}
+use mathlib.Core.Bool.{Bool, true, false, not, _&&_}
 use mathlib.Core.List.{List, [], _∷_, List·Memᴰ}
 use mathlib.Core.Option.{Option, none, some}
 use Prim.Native.Nat.{ℕ}
 use lib.ListN.{length}
 use lib.Dec.{ltb}
-use borrow.Author.Tests.{ltb-true, ltb-false}
+use borrow.Author.Tests.{ltb-true, ltb-false, eqb-true, not-false}
 use Rattle.ids.specs.Answers.{Answered, accepted, refused, firstOf, decided, Outcome, outcome, refusing, accepting}
 use Rattle.ids.specs.Ids.{tooLong, allBelow}
 use Rattle.ids.specs.Limits.{maxList}
 use Rattle.ids.proofs.Judging.{NoneApplies, numbers, SoFar, decided-refuses, decided-accepts, decided-by, refused-by, accepted-by}
 use Rattle.ids.proofs.Sorted.{no-test}
-use Rattle.signature.specs.Calls.{TypedM, concreteTypeAt, lookupTypeCauses, lookupType}
-use Rattle.semantics.specs.Valid.{Below, Listed}
-use Rattle.semantics.specs.Structure.{Structure}
+use Rattle.signature.specs.Model.{Sig}
+use Rattle.signature.specs.Calls.{isType, parentCount, TypedM, concreteTypeAt, lookupTypeCauses, lookupType}
+use Rattle.semantics.specs.Valid.{Below, Listed, countsAt, FactValid}
+use Rattle.semantics.specs.Structure.{Fact, Structure}
 use Rattle.semantics.specs.Close as closing
 use Rattle.semantics.specs.Close.{Closed, CloseRun, closeRun, metCauses, closeCauses, closeBy, reportOf, afterClose}
 use Rattle.semantics.specs.Calls.{Call, push-type, push-pred, push-func, push-model, push-mor-app, push-el, equate-els, impose-type}
 use Rattle.semantics.specs.Calls.{apply-func, apply-pred, bind-var, bind-ambient, close, type-conflicts, settle, root, root-const, lookup-type}
 use Rattle.semantics.specs.Calls.{ambient-parents, Answer, isAccepted, typed, closed, refuse, Machine, machine, Step, answers, rule, leading}
-use Rattle.semantics.specs.Calls.{leaves, settledBy, settleRule}
+use Rattle.semantics.specs.Calls.{leaves, settledBy, settleRule, hasItsParents}
 use Rattle.semantics.specs.Calls.{equalityRule, impositionRule, applicationRule, closeRule, acceptance, refusal, stepBy, step}
+use Rattle.semantics.proofs.Cases.{and-first, and-second}
 
 module _ (k : Call) (m : Machine) where
   -- what holds of each refusal, and of the acceptance where no cause applies, holds of the step
@@ -149,3 +151,17 @@ below-if n (x ∷ xs) t = go (ltb x n) refl (λ k. below-if n xs k) t
 
 pub listed-if : (n : ℕ) (l : List ℕ) → tooLong l ≡ false → allBelow n l ≡ true → Listed n l
 listed-if n l s b = record { short = ltb-false maxList (length l) s; below = below-if n l b }
+
+-- a fact whose call nothing refuses but a full queue, where there are n elements
+pub fact-if : (g : Sig) (n : ℕ) (f : Fact) → tooLong (f .parents) ≡ false
+    → not (ltb (f .el) n && (isType g (f .typ) && allBelow n (f .parents))) ≡ false → not (hasItsParents (g .types) f) ≡ false → FactValid (countsAt g n) f
+fact-if g n f short named many =
+    let rest = isType g (f .typ) && allBelow n (f .parents) in
+    let d = not-false (ltb (f .el) n && rest) named in
+    let e = and-second (ltb (f .el) n) rest d in
+    record {
+      el = ltb-true (f .el) n (and-first (ltb (f .el) n) rest d);
+      typ = ltb-true (f .typ) (length (g .types)) (and-first (isType g (f .typ)) (allBelow n (f .parents)) e);
+      parents = listed-if n (f .parents) short (and-second (isType g (f .typ)) (allBelow n (f .parents)) e);
+      parent-count = eqb-true (length (f .parents)) (parentCount (g .types) (f .typ)) (not-false (hasItsParents (g .types) f) many);
+    }

@@ -1,4 +1,4 @@
--- The proved cases (01, "Proved sheets"): P1 to P10, rows for each number 1 to 12 and for single sentences of 01 and 02, as one table, and one theorem: every row holds (with those of RefusedSettle: `everyRowHolds` there; rows on full tables are in validity/proofs/FullTables).
+-- The proved cases (01, "Proved sheets"): P1 to P10, rows for each number 1 to 12 and 15 and for single sentences of 01 and 02, as one table, and one theorem: every row holds (with those of RefusedSettle: `everyRowHolds` there; rows on full tables are in validity/proofs/FullTables).
 -- A row is data: what it runs, what that answers or prints, and claims about the machine that it leaves. That a refused call leaves the machine as
 -- it was is a theorem over every call (`refused-leaves`, Judged); the rows on refusals state it where it computes in few steps.
 use mathlib.Core.Path.{_≡_, refl}
@@ -256,9 +256,9 @@ factsBefore (suc n) fs = factsBefore n (fact (n / maxTypes) (n % maxTypes) [] �
 abbrev pub setFacts : List Fact → Machine → Machine
 setFacts fs m = steps.machine (m .sig) (with-facts fs (m .structure))
 
--- all types that there can be, as many elements, and n facts
+-- all types that there can be, one element more, and n facts
 abbrev pub holding : ℕ → Machine
-holding n = setFacts (factsBefore n []) (afterCalls (downFrom maxTypes (λ n. typ plain []) ++ downFrom maxTypes (λ n. plainEl)) start)
+holding n = setFacts (factsBefore n []) (afterCalls (downFrom maxTypes (λ n. typ plain []) ++ downFrom (suc maxTypes) (λ n. plainEl)) start)
 
 -- no element, and type 0 imposed on element 0
 abbrev pub impositionOnNone : Machine
@@ -317,6 +317,53 @@ lawRow f x g y = record {
   output = tells (closes 1 0 2 ∷ []);
   claims = key g [] (y ∷ []) is result (some 3) ∷ [];
 }
+
+-- Impositions with the wrong number of parents (02, M-105).
+
+-- two Model types, a Plain type 2 of both, and elements 0 to 2
+abbrev pub declared105 : List Call
+declared105 = typ model [] ∷ typ model [] ∷ typ plain (0 ∷ 1 ∷ []) ∷ plainEl ∷ plainEl ∷ plainEl ∷ []
+
+abbrev pub parentCountRows : List Row
+parentCountRows =
+    -- 15 for too few parents and for too many, of a type with two and of one with none; the machine is as it was
+    record {
+      source = calls
+          (declared105
+          ++ (impose 0 2 [] ∷ impose 0 2 (1 ∷ []) ∷ impose 0 2 (1 ∷ 2 ∷ 0 ∷ []) ∷ impose 0 2 (1 ∷ 2 ∷ 0 ∷ 0 ∷ []) ∷ impose 0 0 (1 ∷ []) ∷ []));
+      output = tells (refuses 15 ∷ refuses 15 ∷ refuses 15 ∷ refuses 15 ∷ refuses 15 ∷ []);
+      claims = machine is whole (afterCalls declared105 start) ∷ [];
+    }
+    -- as many as the type has are accepted, which parents they are aside
+    ∷ record {
+      source = calls declared105;
+      output = tells [];
+      claims =
+          answer (impose 0 2 (1 ∷ 2 ∷ [])) is said (says true) ∷ answer (impose 0 2 (0 ∷ 0 ∷ [])) is said (says true)
+          ∷ answer (impose 0 0 []) is said (says true) ∷ [];
+    }
+    -- 3 and 5 come before 15: five parents; an element, a type and a parent that are not there
+    ∷ record {
+      source = calls
+          (declared105 ++ (impose 0 2 (1 ∷ 1 ∷ 1 ∷ 1 ∷ 1 ∷ []) ∷ impose 3 2 (1 ∷ []) ∷ impose 0 3 (1 ∷ []) ∷ impose 0 2 (3 ∷ []) ∷ []));
+      output = tells (refuses 3 ∷ refuses 5 ∷ refuses 5 ∷ refuses 5 ∷ []);
+      claims = [];
+    }
+    -- 15 comes before 9
+    ∷ record {
+      source = calls (typ plain [] ∷ downFrom (suc maxImpositions) (λ n. plainEl) ++ downFrom maxImpositions (λ n. impose n 0 []));
+      output = tells [];
+      claims = answer (impose maxImpositions 0 (0 ∷ [])) is said (refuse 15) ∷ answer (impose maxImpositions 0 []) is said (refuse 9) ∷ [];
+    }
+    -- of an application any number of parents is accepted
+    ∷ record {
+      source = calls (signature2 ++ (pred (0 ∷ []) [] ∷ plainEl ∷ app 0 [] [] 0 ∷ app 0 (0 ∷ 0 ∷ []) [] 0 ∷ predicate 0 [] [] ∷ []));
+      output = tells [];
+      claims =
+          key 0 [] [] is result (some 0) ∷ key 0 (0 ∷ 0 ∷ []) [] is result (some 0)
+          ∷ answer (predicate 0 (0 ∷ 0 ∷ []) []) is said (says true) ∷ [];
+    }
+    ∷ []
 
 -- 02's numbers in the order of a record 9, where the application of id or comp has one argument too few
 abbrev pub argCountRows : List Row
@@ -574,13 +621,27 @@ table =
       output = tells (types none ∷ types (some (concrete-type 2 (7 ∷ 8 ∷ []))) ∷ []);
       claims = [];
     }
-    -- P7: "one type imposed on one element with parents 1 and with 1, 2: no conflict"; the type has two parents
+    -- P7: "one type imposed on one element with parents 1 and with 1, 2"; the type has two parents. M-105: "case P7 becomes a refusal"
     ∷ record {
-      source = calls
-          (typ model [] ∷ typ model [] ∷ typ plain (0 ∷ 1 ∷ []) ∷ plainEl ∷ plainEl ∷ plainEl
-          ∷ impose 0 2 (1 ∷ []) ∷ impose 0 2 (1 ∷ 2 ∷ []) ∷ close ∷ type-conflicts ∷ []);
-      output = tells (closes 1 0 1 ∷ conflicts [] 1 ∷ []);
-      claims = facts 0 is fact-list (fact 0 2 (1 ∷ []) ∷ fact 0 2 (1 ∷ 2 ∷ []) ∷ []) ∷ [];
+      source = calls (declared105 ++ (impose 0 2 (1 ∷ []) ∷ impose 0 2 (1 ∷ 2 ∷ []) ∷ close ∷ type-conflicts ∷ []));
+      output = tells (refuses 15 ∷ closes 1 0 1 ∷ conflicts [] 0 ∷ []);
+      claims = facts 0 is fact-list (fact 0 2 (1 ∷ 2 ∷ []) ∷ []) ∷ [];
+    }
+    -- P7 as a sheet, which stops there
+    ∷ record {
+      source = sheet
+          (entry 1 1 1 0 [] []
+          ++ entry 2 1 1 0 [] []
+          ++ entry 3 1 0 0 (0 ∷ 1 ∷ []) []
+          ++ entry 4 6 0 0 [] []
+          ++ entry 5 6 0 0 [] []
+          ++ entry 6 6 0 0 [] []
+          ++ entry 7 8 0 2 (1 ∷ []) []
+          ++ entry 8 8 0 2 (1 ∷ 2 ∷ []) []
+          ++ entry 9 13 0 0 [] []
+          ++ entry 0 14 0 0 [] []);
+      output = prints (lines ("refused 15 at 6" ∷ []));
+      claims = machine is whole (afterCalls declared105 start) ∷ [];
     }
     -- P8: "equalities (1, 2), (0, 2): 1 and 2 link to 0"
     ∷ record {
@@ -664,11 +725,12 @@ table =
     -- "the first later fact that disagrees is reported and the search moves on to the next class": three facts, then two of another class
     ∷ record {
       source = calls
-          (typ plain [] ∷ typ plain [] ∷ plainEl ∷ plainEl ∷ plainEl
-          ∷ impose 0 0 (0 ∷ []) ∷ impose 0 0 (1 ∷ []) ∷ impose 0 0 (2 ∷ []) ∷ impose 1 0 [] ∷ impose 1 1 [] ∷ close ∷ type-conflicts ∷ []);
+          (types2
+          ++ (typ plain [] ∷ plainEl ∷ plainEl ∷ plainEl ∷ impose 0 1 (0 ∷ []) ∷ impose 0 1 (1 ∷ []) ∷ impose 0 1 (2 ∷ [])
+          ∷ impose 1 0 [] ∷ impose 1 2 [] ∷ close ∷ type-conflicts ∷ []));
       output = tells
           (closes 1 0 1
-          ∷ conflicts (conflict 0 (fact 0 0 (0 ∷ [])) (fact 0 0 (1 ∷ [])) ∷ conflict 1 (fact 1 0 []) (fact 1 1 []) ∷ []) 1
+          ∷ conflicts (conflict 0 (fact 0 1 (0 ∷ [])) (fact 0 1 (1 ∷ [])) ∷ conflict 1 (fact 1 0 []) (fact 1 2 []) ∷ []) 1
           ∷ []);
       claims = [];
     }
@@ -699,7 +761,8 @@ table =
       output = tells (conflicts [] 1 ∷ []);
       claims = link 1 is el 0 ∷ [];
     }
-    -- M-103: the first fact is the first in the order of roots; all later ones agree with it up to the shorter length, and its parent is found once
+    -- M-103: the first fact is the first in the order of roots; all later ones agree with it up to the shorter length, and its parent is found once.
+    -- No list of calls makes facts of one type with different numbers of parents (M-105)
     ∷ record {
       source = callsFrom (setFacts (fact 2 3 (0 ∷ 2 ∷ []) ∷ fact 2 3 (0 ∷ 2 ∷ 2 ∷ []) ∷ fact 2 3 (1 ∷ []) ∷ []) merged103) (type-conflicts ∷ []);
       output = tells (conflicts [] 1 ∷ []);
@@ -890,7 +953,7 @@ table =
     -- number 11: "the close would at some moment hold 1,025 facts": 1,024 are held, and the next refuses the close; a fact that is
     -- there is no other one; the rows on a settle that meets 11 in its second close are in RefusedSettle
     ∷ record {
-      source = callsFrom (holding (maxFacts - 1)) (impose 0 0 (1 ∷ []) ∷ close ∷ []);
+      source = callsFrom (holding (maxFacts - 1)) (impose maxTypes 0 [] ∷ close ∷ []);
       output = tells (closes 1 0 1 ∷ []);
       claims = [];
     }
@@ -900,12 +963,12 @@ table =
       claims = [];
     }
     ∷ record {
-      source = callsFrom (holding maxFacts) (impose 0 0 (1 ∷ []) ∷ close ∷ settle ∷ []);
+      source = callsFrom (holding maxFacts) (impose maxTypes 0 [] ∷ close ∷ settle ∷ []);
       output = tells (refuses 11 ∷ refuses 11 ∷ []);
       claims = [];
     }
     -- number 3: ".. or an unused word outside the above": of a settle these are all but the first two
-    ∷ map settleWith (2 ∷ 3 ∷ 4 ∷ 5 ∷ 6 ∷ 7 ∷ 8 ∷ 9 ∷ 10 ∷ 11 ∷ 12 ∷ 13 ∷ 14 ∷ 15 ∷ []) ++ mapRows
+    ∷ map settleWith (2 ∷ 3 ∷ 4 ∷ 5 ∷ 6 ∷ 7 ∷ 8 ∷ 9 ∷ 10 ∷ 11 ∷ 12 ∷ 13 ∷ 14 ∷ 15 ∷ []) ++ (mapRows ++ parentCountRows)
 
 -- The theorem.
 

@@ -8,13 +8,13 @@ use mathlib.Core.Option.{Option, none, some}
 use lib.ListN.{length, take}
 use lib.Dec.{eqb, leb, ltb}
 use Rattle.ids.specs.declared.Ordering.the-variants.{Less, Equal, Greater}
-use Rattle.ids.specs.Answers.{Cause, Answered, accepted, refused, Outcome, firstOf, decided, _if_, malformed, undeclared, wrongKind, reserved, wrongArgCount, givenAgain, noRoom, noAmbient}
+use Rattle.ids.specs.Answers.{Cause, Answered, accepted, refused, Outcome, firstOf, decided, _if_, malformed, undeclared, wrongKind, wrongParentCount, reserved, wrongArgCount, givenAgain, noRoom, noAmbient}
 use Rattle.ids.specs.Ids.{tooLong, allBelow}
 use Rattle.ids.specs.Table.{present, placed, lookupOf}
 use Rattle.unification.specs.Roots.{maxEls, shortOf, addedOf, FindM, findOf, findCauses}
 use Rattle.signature.specs.Model as signature
 use Rattle.signature.specs.Model.{Sig, TypeM, PredM, FuncM, ModelM, MorAppM}
-use Rattle.signature.specs.Calls.{isType, areTypes, isFunc, isModel, inMorApps, TypedM, at, absent, concreteTypeAt, lookupTypeCauses}
+use Rattle.signature.specs.Calls.{isType, areTypes, isFunc, isModel, inMorApps, TypedM, at, absent, parentCount, concreteTypeAt, lookupTypeCauses}
 use Rattle.signature.specs.Calls.{typeCauses, withType, predCauses, withPred, funcCauses, withFunc, modelCauses, withModel}
 use Rattle.signature.specs.Calls.{morAppCauses, withMorApp}
 use Rattle.semantics.specs.Structure.{Fact, FuncApp, PredApp, Var, Ambient, ambient, Structure, empty, maxPairs}
@@ -64,10 +64,16 @@ unfoldable pub isImposed : Fact → List Fact → Bool
 isImposed f [] = false
 isImposed f (g ∷ gs) = elim (compareFact f g) [ Less ↦ isImposed f gs | Equal ↦ true | Greater ↦ isImposed f gs ]
 
+-- "exactly as many parents as its type has" (02, M-105)
+abbrev pub hasItsParents : List TypeM → Fact → Bool
+hasItsParents ts f = eqb (length (f .parents)) (parentCount ts (f .typ))
+
+-- "with 15, after 6 and before 7" (02, M-105)
 unfoldable pub impositionCauses : Sig → Structure → Fact → List Cause
 impositionCauses g s f =
     malformed if tooLong (f .parents)
     ∷ undeclared if not (isEl s (f .el) && (isType g (f .typ) && areEls s (f .parents)))
+    ∷ wrongParentCount if not (hasItsParents (g .types) f)
     ∷ noRoom if (not (isImposed (canonicalFact (s .links) f) (s .impositions)) && leb maxImpositions (length (s .impositions)))
     ∷ []
 

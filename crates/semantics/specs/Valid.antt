@@ -1,5 +1,5 @@
 -- What holds of every signature and structure that calls can make (`calls-valid`, crate validity): numbers, orders and limits, and, as far as
--- theorems need it, what the numbers 4, 6, 7, 8 and 12 keep out.
+-- theorems need it, what the numbers 4, 6, 15, 7, 8 and 12 keep out.
 use Prim.Native.Nat.{ℕ, _≤_, _<_}
 use mathlib.Core.Path.{_≡_}
 use mathlib.Core.Bool.{true, false}
@@ -11,7 +11,7 @@ use Rattle.ids.specs.Sorted.{All, Sorted}
 use Rattle.unification.specs.Roots.{maxEls, rootOf, Formed}
 use Rattle.signature.specs.Model.{Sig, Kind, plain, model, enum, mor, TypeM, PredM, FuncM, ModelM, MorAppM, maxTypes, maxPreds, maxFuncs}
 use Rattle.signature.specs.Model.{maxModels, maxMorApps}
-use Rattle.signature.specs.Calls.{functions, repeats, isModel}
+use Rattle.signature.specs.Calls.{functions, repeats, isModel, parentCount}
 use Rattle.semantics.specs.Structure.{Fact, FuncApp, PredApp, Pair, Var, Ambient, Structure, maxPairs, maxImpositions, maxFuncApps}
 use Rattle.semantics.specs.Structure.{maxPredApps, maxFacts, maxVars, compareFact, compareFuncApp, comparePredApp, compareVar}
 use Rattle.semantics.specs.Structure.{compareAmbient, empty}
@@ -116,16 +116,17 @@ pub record ValidSig (g : Sig) : Type 0 where
 
 -- The structure.
 
--- how many elements, types, predicates and functions are declared
+-- how many elements, types, predicates and functions are declared, and how many parents each type has
 pub record Counts : Type 0 where
   pub els : ℕ
   pub types : ℕ
+  pub parents : ℕ → ℕ
   pub preds : ℕ
   pub funcs : ℕ
 
 -- of a signature, and of n elements
 abbrev pub countsAt : Sig → ℕ → Counts
-countsAt g n = record { els = n; types = length (g .types); preds = length (g .preds); funcs = length (g .funcs) }
+countsAt g n = record { els = n; types = length (g .types); parents = parentCount (g .types); preds = length (g .preds); funcs = length (g .funcs) }
 
 abbrev pub countsOf : Sig → Structure → Counts
 countsOf g s = countsAt g (length (s .links))
@@ -144,6 +145,8 @@ pub record FactValid (c : Counts) (f : Fact) : Type 0 where
   pub typ : f .typ < c .types
   -- its parents are elements
   pub parents : Listed (c .els) (f .parents)
+  -- it has as many parents as its type: number 15 refuses any other (02, M-105)
+  pub parent-count : length (f .parents) ≡ c .parents (f .typ)
 
 -- a function application
 pub record FuncAppValid (c : Counts) (x : FuncApp) : Type 0 where

@@ -4,14 +4,13 @@ use mathlib.Core.Bool.{_&&_}
 use mathlib.Core.List.{List}
 use Prim.Native.Nat.{ℕ, _≤_, _<_}
 use native.Mathlib.Omega.{arith}
-use lib.ListN.{length, getD}
 use lib.Dec.{eqb}
 use borrow.Author.Tests.{le-ltb, lt-ltb}
 use Rattle.ids.proofs.Counted.{Search}
 use Rattle.signature.specs.declared.Type as code-type
 use Rattle.signature.specs.declared.TypeKind.{TypeKind}
-use Rattle.signature.specs.Model.{TypeM, ModelM, MorAppM, noType, typeOf, kindOf}
-use Rattle.signature.specs.Calls.{member, functions, modelGiven, inModels, inMorApps, pairGiven, at, absent, concreteTypeAt}
+use Rattle.signature.specs.Model.{TypeM, ModelM, MorAppM, typeOf, kindOf}
+use Rattle.signature.specs.Calls.{member, functions, modelGiven, inModels, inMorApps, pairGiven, at, absent, parentCount, concreteTypeAt}
 
 -- What each search looks for.
 
@@ -36,11 +35,11 @@ pub kind-told : (t : code-type.Type) (m : TypeM) (k : TypeKind) → typeOf t ≡
 kind-told t m k e h = ap kindOf (sym h) ∙ ap (λ (n : TypeM). n .kind) e
 
 -- The type lookup, of a type with n parents.
-module _ (ts : List TypeM) (t given n : ℕ) (parents : n ≡ length (getD ts t noType .parents)) where
+module _ (ts : List TypeM) (t given n : ℕ) (parents : n ≡ parentCount ts t) where
   pub too-few : given < n → absent ≡ concreteTypeAt ts t given
   unfolding concreteTypeAt
-  too-few h = sym (rw (lt-ltb given (length (getD ts t noType .parents)) (omega (arith, parents)), concreteTypeAt))
+  too-few h = sym (rw (lt-ltb given (parentCount ts t) (omega (arith, parents)), concreteTypeAt))
 
   pub enough : n ≤ given → at t n ≡ concreteTypeAt ts t given
   unfolding concreteTypeAt
-  enough h = ap (at t) parents ∙ sym (rw (le-ltb given (length (getD ts t noType .parents)) (omega (arith, parents)), concreteTypeAt))
+  enough h = ap (at t) parents ∙ sym (rw (le-ltb given (parentCount ts t) (omega (arith, parents)), concreteTypeAt))

@@ -5,11 +5,10 @@ use mathlib.Core.Logic.{_↔_}
 use mathlib.Core.Path.{_≡_, refl, sym}
 use mathlib.Core.Bool.{Bool, true, false}
 use mathlib.Core.List.{List}
-use lib.ListN.{length, getD}
 use lib.Dec.{ltb}
 use borrow.Author.Tests.{ltb-true}
-use Rattle.signature.specs.Model.{TypeM, noType}
-use Rattle.signature.specs.Calls.{TypedM, at, absent, concreteTypeAt}
+use Rattle.signature.specs.Model.{TypeM}
+use Rattle.signature.specs.Calls.{TypedM, at, absent, parentCount, concreteTypeAt}
 use Rattle.signature.proofs.Laws.{too-few, enough}
 
 -- The type lookup is absent exactly when the type has more parents than were given, and else gives the type with that many.
@@ -18,9 +17,9 @@ module _ (ts : List TypeM) (t given : ℕ) where
   unless-fewer true n e h = ltb-true given n e
   unless-fewer false n e h = let z : _≡_ {A = ℕ} 0 1 = cc in absurd (omega arith)
 
-  pub absent-exactly : concreteTypeAt ts t given ≡ absent ↔ given < length (getD ts t noType .parents)
+  pub absent-exactly : concreteTypeAt ts t given ≡ absent ↔ given < parentCount ts t
   unfolding concreteTypeAt
   absent-exactly = (unless-fewer _ _ refl, λ h. sym (too-few ts t given _ refl h))
 
-  pub leading : length (getD ts t noType .parents) ≤ given → concreteTypeAt ts t given ≡ at t (length (getD ts t noType .parents))
+  pub leading : parentCount ts t ≤ given → concreteTypeAt ts t given ≡ at t (parentCount ts t)
   leading h = sym (enough ts t given _ refl h)

@@ -197,6 +197,10 @@ withMorApp g m = with-mor-apps g (g .mor-apps ++ (m ∷ []))
 unfoldable pub pushMorApp : Bool → Sig → MorAppM → Outcome ℕ Sig
 pushMorApp started g m = outcome (morAppCauses started g m) g (length (g .mor-apps)) (withMorApp g m)
 
+-- how many parents a type has
+abbrev pub parentCount : List TypeM → ℕ → ℕ
+parentCount ts t = length (getD ts t noType .parents)
+
 -- "an own answer of type and parent count, the parents beside it"
 pub data TypedM : Type 0 where
   at : ℕ → ℕ → TypedM
@@ -204,7 +208,7 @@ pub data TypedM : Type 0 where
 
 -- `concrete_type_at`: "absent exactly when the type has more parents than were given, else the type with that many leading parents"
 unfoldable pub concreteTypeAt : List TypeM → ℕ → ℕ → TypedM
-concreteTypeAt ts t given = elim (ltb given (length (getD ts t noType .parents))) [ true ↦ absent | false ↦ at t (length (getD ts t noType .parents)) ]
+concreteTypeAt ts t given = elim (ltb given (parentCount ts t)) [ true ↦ absent | false ↦ at t (parentCount ts t) ]
 
 -- The type lookup: "3 for over four entries, 5 for an undeclared type".
 unfoldable pub lookupTypeCauses : Sig → ℕ → List ℕ → List Cause

@@ -15,7 +15,7 @@ ghost use Rattle.signature.specs.Model.{maxTypes, maxPreds, maxFuncs, ma
 ghost use Rattle.signature.specs.Model.{predOf, funcOf, modelOf, morAppOf, viewTypes, viewPreds, viewFuncs, viewModels};
 ghost use Rattle.signature.specs.Model.{viewMorApps, sigOf};
 ghost use Rattle.signature.specs.Calls.{isType, areTypes, isFunc, isModel, isMor, isMorOf, member, functions, modelGiven, inModels};
-ghost use Rattle.signature.specs.Calls.{inMorApps, pairGiven, concreteTypeAt, lookupType, typedOf, typeLookedOf};
+ghost use Rattle.signature.specs.Calls.{inMorApps, pairGiven, parentCount, concreteTypeAt, lookupType, typedOf, typeLookedOf};
 
 // Mor is the kind of a model's morphisms, with the model's type.
 pub enum TypeKind {
@@ -549,13 +549,20 @@ impl Signature {
 }
 
 impl Types {
+    // How many parents a type has.
+    pub fn parent_count(self, typ: TypeId) -> u16
+        ensures { λ r. ⌜ r ≡ parentCount (viewTypes self) (typ .0) ⌝ }
+    {
+        let data = self.get(typ);
+        let parents = data.parents;
+        parents.size() as u16
+    }
+
     // A type with as many of the given parents as it has; absent where it has more. The parents stand beside the answer.
     pub fn concrete_type_at(self, typ: TypeId, given: u16) -> Typed
         ensures { λ r. ⌜ typedOf r ≡ concreteTypeAt (viewTypes self) (typ .0) given ⌝ }
     {
-        let data = self.get(typ);
-        let parents = data.parents;
-        let n = parents.size() as u16;
+        let n = self.parent_count(typ);
         if given < n {
             return Typed::Absent;
         }

@@ -19,7 +19,7 @@ use Rattle.signature.specs.Model.{Sig}
 use Rattle.signature.specs.Calls.{isType, isModel}
 use Rattle.semantics.specs.Structure.{Fact, FuncApp, PredApp, Pair, Var, Ambient, Structure, maxVars}
 use Rattle.semantics.specs.Applying.{insertFuncAppOrEquate, applyAt}
-use Rattle.semantics.specs.Calls.{isEl, isReserved, isImposed, isMisapplied, equalityCauses, impositionCauses, applicationCauses, predicationCauses, variableCauses, ambientCauses}
+use Rattle.semantics.specs.Calls.{isEl, hasItsParents, isReserved, isImposed, isMisapplied, equalityCauses, impositionCauses, applicationCauses, predicationCauses, variableCauses, ambientCauses}
 use Rattle.semantics.specs.Calls.{Call, impose-type, apply-func, apply-pred, bind-var, bind-ambient, equate-els, Machine, machine, rule, equalityRule, impositionRule, applicationRule}
 use Rattle.semantics.proofs.Cases.{test}
 use Rattle.inserting.specs.View.{factWithin, appWithin, predAppWithin}
@@ -40,6 +40,12 @@ two-causes : (a b : Bool) → (a || (not b || false)) ≡ not (not a && b)
 two-causes true b = refl
 two-causes false true = refl
 two-causes false false = refl
+
+three-causes : (a b c : Bool) → (a || (not b || (not c || false))) ≡ not (not a && (b && c))
+three-causes true b c = refl
+three-causes false false c = refl
+three-causes false true true = refl
+three-causes false true false = refl
 
 four-causes : (a b c d : Bool) → (a || (not b || (c || (d || false)))) ≡ not (not a && (b && (not c && not d)))
 four-causes true b c d = refl
@@ -91,9 +97,10 @@ module _ (g : Sig) (s : Structure) where
   unfolding refuses
   refused-any k = given-any (rule k alone .causes)
 
-  fact-refused : (f : Fact) → refuses alone (impose-type f) ≡ not (factAllowed els (length (g .types)) f)
+  fact-refused : (f : Fact) → refuses alone (impose-type f) ≡ not (factAllowed (g .types) els f)
   unfolding rule impositionRule impositionCauses isImposed elsAlone any
-  fact-refused f = refused-any (impose-type f) ∙ two-causes (tooLong (f .parents)) (factWithin els (length (g .types)) f)
+  fact-refused f =
+      refused-any (impose-type f) ∙ three-causes (tooLong (f .parents)) (factWithin els (length (g .types)) f) (hasItsParents (g .types) f)
 
   func-app-refused : (x : FuncApp) → refuses alone (apply-func x) ≡ not (funcAppAllowed g els x)
   unfolding rule applicationRule applicationCauses insertFuncAppOrEquate applyAt lookupOf elsAlone any
@@ -141,8 +148,8 @@ module _ {A : Type 0} (refused : Call → Bool) (call : A → Call) (p : A → B
       fails-or true b = refl
       fails-or false b = refl
 
--- what the code judges of the entries, by its counts of elements, types and predicates: of the last table, of the last two, and so on
-module _ (g : Sig) (s : Structure) (els types preds : ℕ) where
+-- what the code judges of the entries, by its counts of elements and predicates: of the last table, of the last two, and so on
+module _ (g : Sig) (s : Structure) (els preds : ℕ) where
   abbrev pub pairsAllowed : Bool
   pairsAllowed = every (pairWithin els) (s .pairs)
 
@@ -153,7 +160,7 @@ module _ (g : Sig) (s : Structure) (els types preds : ℕ) where
   fromVars = every (varWithin els) (s .vars) && fromAmbients
 
   abbrev pub fromImpositions : Bool
-  fromImpositions = every (factAllowed els types) (s .impositions) && fromVars
+  fromImpositions = every (factAllowed (g .types) els) (s .impositions) && fromVars
 
   abbrev pub fromPredApps : Bool
   fromPredApps = every (predAppAllowed els preds) (s .pred-apps) && fromImpositions
@@ -162,10 +169,10 @@ module _ (g : Sig) (s : Structure) (els types preds : ℕ) where
   fromFuncApps = every (funcAppAllowed g els) (s .func-apps) && fromPredApps
 
   abbrev pub allowed : Bool
-  allowed = every (factAllowed els types) (s .facts) && fromFuncApps
+  allowed = every (factAllowed (g .types) els) (s .facts) && fromFuncApps
 
 module _ (g : Sig) (s : Structure) where
-  refused-entry : entryRefused g s ≡ not (allowed g s (length (s .links)) (length (g .types)) (length (g .preds)))
+  refused-entry : entryRefused g s ≡ not (allowed g s (length (s .links)) (length (g .preds)))
   unfolding entryRefused entryCalls
   refused-entry =
       let no = refuses (machine g (elsAlone s)) in
@@ -177,6 +184,5 @@ module _ (g : Sig) (s : Structure) where
       (some-refused no bind-ambient _ (ambient-refused g s) (s .ambients) _ _
       (last-refused no (λ (p : Pair). equate-els (p .lhs) (p .rhs)) _ (pair-refused g s) (s .pairs)))))))
 
-  pub entries-allowed : {els types preds : ℕ} → els ≡ length (s .links) → types ≡ length (g .types) → preds ≡ length (g .preds)
-      → not (entryRefused g s) ≡ allowed g s els types preds
-  entries-allowed e t p = ap not refused-entry ∙ not-not _ ∙ sym (λ i. allowed g s (e i) (t i) (p i))
+  pub entries-allowed : {els preds : ℕ} → els ≡ length (s .links) → preds ≡ length (g .preds) → not (entryRefused g s) ≡ allowed g s els preds
+  entries-allowed e p = ap not refused-entry ∙ not-not _ ∙ sym (λ i. allowed g s (e i) (p i))

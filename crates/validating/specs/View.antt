@@ -6,10 +6,10 @@ use lib.ListN.{length}
 use lib.Dec.{eqb, ltb}
 use Rattle.ids.specs.Ids.{tooLong}
 use Rattle.unification.specs.Roots.{rootOf}
-use Rattle.signature.specs.Model.{Sig}
+use Rattle.signature.specs.Model.{Sig, TypeM}
 use Rattle.signature.specs.Calls.{isType, isModel}
 use Rattle.semantics.specs.Structure.{Fact, FuncApp, PredApp, Pair, Var, Ambient, Structure, maxVars}
-use Rattle.semantics.specs.Calls.{isReserved, isMisapplied}
+use Rattle.semantics.specs.Calls.{hasItsParents, isReserved, isMisapplied}
 use Rattle.inserting.specs.View.{factWithin, appWithin, predAppWithin}
 use Rattle.file.specs.Layout.{sum}
 use Rattle.file.specs.File.{counts, headOf, entryRefused, linkRises, factOffRoot, otherOrder}
@@ -21,8 +21,8 @@ module _ {A : Type 0} where
 
 -- the call of an entry would accept it, where there are so many elements
 
-abbrev pub factAllowed : ℕ → ℕ → Fact → Bool
-factAllowed els types f = not (tooLong (f .parents)) && factWithin els types f
+abbrev pub factAllowed : List TypeM → ℕ → Fact → Bool
+factAllowed ts els f = not (tooLong (f .parents)) && (factWithin els (length ts) f && hasItsParents ts f)
 
 abbrev pub funcAppAllowed : Sig → ℕ → FuncApp → Bool
 funcAppAllowed g els x =

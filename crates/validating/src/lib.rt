@@ -12,13 +12,14 @@ use facts::Impositions;
 use ids::Ordering;
 use ids::TypeId;
 use signature::Signature;
+use signature::Types;
 use structure::Structure;
 use unification::Unification;
 ghost use mathlib.Core.Path.{_≡_};
 ghost use mathlib.Core.Bool.{not};
 ghost use Rattle.ids.specs.Table.{Sized};
 ghost use Rattle.unification.specs.Roots.{linksOf};
-ghost use Rattle.signature.specs.Model.{sigOf, maxTypes};
+ghost use Rattle.signature.specs.Model.{sigOf, viewTypes, maxTypes};
 ghost use Rattle.semantics.specs.Structure.{ambient, compareFact, compareFuncApp, comparePredApp, maxVars};
 ghost use Rattle.facts.specs.View.{factOf, factsOf, impositionsOf};
 ghost use Rattle.apps.specs.View.{funcAppOf, funcAppsOf, predAppOf, predAppsOf};
@@ -31,14 +32,15 @@ ghost use Rattle.validating.specs.View.{every, factAllowed, funcAppAllow
 // ---- entries, by the causes of their calls
 
 // Whether the call of a fact would accept it. A list that is handed over has no more entries than its places, so that its length needs no test here and below.
-fn fact_is_allowed(fact: Fact, els: u16, types: u16) -> bool
-    ensures { λ r. ⌜ r ≡ factAllowed els types (factOf fact) ⌝ }
+fn fact_is_allowed(fact: Fact, els: u16, types: Types) -> bool
+    ensures { λ r. ⌜ r ≡ factAllowed (viewTypes types) els (factOf fact) ⌝ }
 {
-    inserting::fact_is_within(fact, els, types)
+    let within = inserting::fact_is_within(fact, els, types.size());
+    ids::and(within, inserting::has_its_parents(types, fact))
 }
 
-fn facts_are_within(table: Facts, els: u16, types: u16) -> bool
-    ensures { λ r. ⌜ r ≡ every (factAllowed els types) (factsOf table) ⌝ }
+fn facts_are_allowed(table: Facts, els: u16, types: Types) -> bool
+    ensures { λ r. ⌜ r ≡ every (factAllowed (viewTypes types) els) (factsOf table) ⌝ }
 {
     let n = table.size();
     for i in 0..n {
@@ -49,8 +51,8 @@ fn facts_are_within(table: Facts, els: u16, types: u16) -> bool
     true
 }
 
-fn impositions_are_within(table: Impositions, els: u16, types: u16) -> bool
-    ensures { λ r. ⌜ r ≡ every (factAllowed els types) (impositionsOf table) ⌝ }
+fn impositions_are_allowed(table: Impositions, els: u16, types: Types) -> bool
+    ensures { λ r. ⌜ r ≡ every (factAllowed (viewTypes types) els) (impositionsOf table) ⌝ }
 {
     let n = table.size();
     for i in 0..n {
@@ -162,7 +164,6 @@ fn entries_are_allowed(structure: Structure, signature: Signature) -> bool
     let u = structure.unification;
     let els = u.size() as u16;
     let type_table = signature.types;
-    let types = type_table.size();
     let pred_table = signature.preds;
     let preds = pred_table.size();
     let facts = structure.els;
@@ -172,7 +173,7 @@ fn entries_are_allowed(structure: Structure, signature: Signature) -> bool
     let vars = structure.var_els;
     let ambients = structure.ambient_model_els;
     let pairs = structure.pending_equalities;
-    if !facts_are_within(facts, els, types) {
+    if !facts_are_allowed(facts, els, type_table) {
         return false;
     }
     if !func_apps_are_allowed(func_apps, els, signature) {
@@ -181,7 +182,7 @@ fn entries_are_allowed(structure: Structure, signature: Signature) -> bool
     if !pred_apps_are_within(pred_apps, els, preds) {
         return false;
     }
-    if !impositions_are_within(impositions, els, types) {
+    if !impositions_are_allowed(impositions, els, type_table) {
         return false;
     }
     if !vars_are_within(vars, els) {

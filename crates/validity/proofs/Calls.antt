@@ -38,7 +38,7 @@ use Rattle.semantics.proofs.Orders.{func-app-ordered, pred-app-ordered, var-ord
 use Rattle.semantics.proofs.Cases.{and-first, and-second, or-first, or-second}
 use Rattle.semantics.proofs.Equating.{short-relinked, equate-relinked}
 use Rattle.semantics.proofs.Links.{length-push, added-is, root-push}
-use Rattle.semantics.proofs.Judged.{step-by, listed-if}
+use Rattle.semantics.proofs.Judged.{step-by, listed-if, fact-if}
 use Rattle.semantics.proofs.Settling.{run-keeps}
 use Rattle.validity.proofs.Imposing.{canonical-valid}
 use Rattle.validity.proofs.Entering.{canonical-entry, canonical-unreserved, canonical-well-applied}
@@ -113,7 +113,7 @@ module _ (g : Sig) (s : Structure) (v : Valid g s) where
   -- Kind 6.
 
   more : CountsGrow c (countsAt g (suc (length (s .links))))
-  more = record { els = omega arith; types = omega arith; preds = omega arith; funcs = omega arith }
+  more = record { els = omega arith; types = omega arith; parents = λ t. refl; preds = omega arith; funcs = omega arith }
 
   added-valid : (mark : Bool) → length (s .links) < maxEls → ValidStructure (countsAt g (suc (length (s .links)))) (withEl mark s)
   unfolding withEl
@@ -180,15 +180,7 @@ module _ (g : Sig) (s : Structure) (v : Valid g s) where
       → ValidEffect g (withImposition (isImposed (canonicalFact (s .links) f) (s .impositions)) (canonicalFact (s .links) f) s)
   unfolding impositionCauses
   imposition-valid f clear =
-      let rest = isType g (f .typ) && areEls s (f .parents) in
-      let d = not-false (isEl s (f .el) && rest) (clear .1 .0) in
-      let e = and-second (isEl s (f .el)) rest d in
-      let new : FactValid c f = record {
-        el = ltb-true (f .el) (length (s .links)) (and-first (isEl s (f .el)) rest d);
-        typ = ltb-true (f .typ) (length (g .types)) (and-first (isType g (f .typ)) (areEls s (f .parents)) e);
-        parents = listed-if (length (s .links)) (f .parents) (clear .0) (and-second (isType g (f .typ)) (areEls s (f .parents)) e);
-      } in
-      imposed-valid f new _ (clear .1 .1 .0)
+      imposed-valid f (fact-if g (length (s .links)) f (clear .0) (clear .1 .0) (clear .1 .1 .0)) _ (clear .1 .1 .1 .0)
 
   -- Kind 9.
 

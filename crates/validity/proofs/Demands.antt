@@ -1,14 +1,17 @@
 -- What `typing` demands of a valid structure is valid.
+use mathlib.Core.Path.{_≡_, refl}
 use mathlib.Core.Bool.{Bool, true, false}
 use mathlib.Core.List.{List, [], _∷_, _++_}
 use Prim.Native.Nat.{ℕ, zero, suc, _<_}
 use native.Mathlib.Omega.{arith}
 use native.Mathlib.Nat.{not-suc-le-zero, le-of-suc-le-suc}
 use lib.ListN.{length, take, getD, length-take}
+use lib.Seq.{length-take-le}
 use lib.Dec.{ltb}
+use borrow.Author.Tests.{ltb-false}
 use Rattle.ids.proofs.Sorted.{All, all-join}
-use Rattle.signature.specs.Model.{Sig, noType, noFunc, noPred, funcAt, predAt}
-use Rattle.signature.specs.Calls.{at, absent, concreteTypeAt}
+use Rattle.signature.specs.Model.{Sig, noFunc, noPred, funcAt, predAt}
+use Rattle.signature.specs.Calls.{at, absent, parentCount, concreteTypeAt}
 use Rattle.semantics.specs.Structure.{FuncApp, PredApp}
 use Rattle.semantics.specs.Close.{demanded, demandedAt, demandedArgs, funcArgs, predArgs, funcResults, demands}
 use Rattle.semantics.specs.Valid.{countsAt, FactValid, FuncAppValid, PredAppValid, FuncValid, PredValid, Below, Listed, ValidSig}
@@ -27,16 +30,17 @@ module _ (g : Sig) (v : ValidSig g) (n : ℕ) where
   demandedAt-valid : (t : ℕ) (ps : List ℕ) (e : ℕ) → t < length (g .types) → Listed n ps → e < n
       → All (FactValid (countsAt g n)) (demandedAt g t ps e)
   unfolding demandedAt concreteTypeAt demanded
-  demandedAt-valid t ps e lt lp le = go (ltb (length ps) k)
+  demandedAt-valid t ps e lt lp le = go (ltb (length ps) k) refl
     where
       k : ℕ
-      k = length (getD (g .types) t noType .parents)
+      k = parentCount (g .types) t
 
-      go : (b : Bool) → All (FactValid (countsAt g n)) (demanded (elim b [ true ↦ absent | false ↦ at t k ]) ps e)
-      go true = tt
-      go false =
+      go : (b : Bool) → ltb (length ps) k ≡ b → All (FactValid (countsAt g n)) (demanded (elim b [ true ↦ absent | false ↦ at t k ]) ps e)
+      go true q = tt
+      go false q =
+          let many = length-take-le k ps (ltb-false (length ps) k q) in
           let parents : Listed n (take k ps) = record { short = omega (arith, length-take k ps, lp .short); below = take-below n k ps (lp .below) } in
-          (record { el = le; typ = lt; parents = parents }, tt)
+          (record { el = le; typ = lt; parents = parents; parent-count = many }, tt)
 
   demandedArgs-valid : (ts ps xs : List ℕ) → Below (length (g .types)) ts → Listed n ps → Below n xs
       → All (FactValid (countsAt g n)) (demandedArgs g ts ps xs)

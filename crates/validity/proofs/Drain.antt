@@ -134,7 +134,7 @@ module _ (c : Counts) (keep drop : ℕ) (w : Core) (h : ValidCore c w) (low : ke
   moved-valid f v = go (eqb (f .el) drop)
     where
       go : (t : Bool) → FactValid c (elim t [ true ↦ factAt keep f | false ↦ f ])
-      go true = record { el = omega arith; typ = v .typ; parents = v .parents }
+      go true = record { el = omega arith; typ = v .typ; parents = v .parents; parent-count = v .parent-count }
       go false = v
 
   moved-rooted : (f : Fact) → OnRoot (w .links) f → OnRoot (mergedOf (w .links) keep drop) (moved f)

@@ -1,5 +1,5 @@
 -- What is valid stays so where more is declared.
-use mathlib.Core.Path.{_≡_, sym, subst}
+use mathlib.Core.Path.{_≡_, sym, subst, _∙_}
 use mathlib.Core.Logic.{inl, inr}
 use mathlib.Core.Bool.{false}
 use mathlib.Core.List.{List, [], _∷_, _++_}
@@ -90,6 +90,7 @@ module _ {n m i j : ℕ} (k : n ≤ m) (l : i ≤ j) where
 pub record CountsGrow (c d : Counts) : Type 0 where
   pub els : c .els ≤ d .els
   pub types : c .types ≤ d .types
+  pub parents : (t : ℕ) → c .parents t ≡ d .parents t
   pub preds : c .preds ≤ d .preds
   pub funcs : c .funcs ≤ d .funcs
 
@@ -102,6 +103,7 @@ module _ (c d : Counts) (k : CountsGrow c d) where
     el = omega (arith, h .el, k .els);
     typ = omega (arith, h .typ, k .types);
     parents = listed-more (k .els) (f .parents) (h .parents);
+    parent-count = h .parent-count ∙ k .parents (f .typ);
   }
 
   pub func-app-more : (x : FuncApp) → FuncAppValid c x → FuncAppValid d x

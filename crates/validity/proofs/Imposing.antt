@@ -7,7 +7,7 @@ use Prim.Native.Nat.{ℕ, _<_}
 use native.Mathlib.Omega.{arith}
 use lib.ListN.{length, length-map}
 use lib.Dec.{eqb, ltb}
-use borrow.Author.Tests.{eqb-false, ltb-true, not-true}
+use borrow.Author.Tests.{eqb-true, eqb-false, ltb-true, not-true}
 use Rattle.ids.specs.Answers.{tooManyFacts}
 use Rattle.ids.specs.Table.{present, placed}
 use Rattle.ids.proofs.Sorted.{All, all-map, all-image, placed-all, placed-sorted, placed-absent, rewrite-all}
@@ -37,26 +37,28 @@ canonical-valid c ls f v = record {
   el = omega (arith, root-le ls (f .el), v .el);
   typ = v .typ;
   parents = roots-listed (c .els) ls (f .parents) (v .parents);
+  parent-count = length-map (f .parents) (rootOf ls) ∙ v .parent-count;
 }
 
 pub canonical-rooted : (ls : List ℕ) (f : Fact) → OnRoot ls (canonicalFact ls f)
 unfolding canonicalFact
 canonical-rooted ls f = root-root ls (f .el)
 
-factsAt-all : (P : Fact → Type 0) (e : ℕ) (fs : List Fact) → All P fs → All P (factsAt e fs)
+-- what holds of the facts of an element holds of those that are stored at it
+pub factsAt-all : (P : Fact → Type 0) (e : ℕ) (fs : List Fact) → All (λ f. f .el ≡ e → P f) fs → All P (factsAt e fs)
 unfolding factsAt
 factsAt-all P e [] h = tt
-factsAt-all P e (f ∷ fs) h = go (eqb (f .el) e) (factsAt-all P e fs (h .1))
+factsAt-all P e (f ∷ fs) h = go (eqb (f .el) e) refl (factsAt-all P e fs (h .1))
   where
-    go : (t : Bool) → All P (factsAt e fs) → All P (elim t [ true ↦ f ∷ factsAt e fs | false ↦ factsAt e fs ])
-    go true r = (h .0, r)
-    go false r = r
+    go : (t : Bool) → eqb (f .el) e ≡ t → All P (factsAt e fs) → All P (elim t [ true ↦ f ∷ factsAt e fs | false ↦ factsAt e fs ])
+    go true q r = (h .0 (eqb-true (f .el) e q), r)
+    go false q r = r
 
-types-valid : (c : Counts) (ls : List ℕ) (fs : List Fact) (e : ℕ) → All (FactValid c) fs → All (FactValid c) (concreteTypesOf ls fs e)
+pub types-valid : (c : Counts) (ls : List ℕ) (fs : List Fact) (e : ℕ) → All (FactValid c) fs → All (FactValid c) (concreteTypesOf ls fs e)
 unfolding concreteTypesOf
 types-valid c ls fs e h =
     rewrite-all compareFact (canonicalFact ls) (FactValid c) (factsAt (rootOf ls e) fs) []
-    (all-map (λ f v. canonical-valid c ls f v) (factsAt (rootOf ls e) fs) (factsAt-all (FactValid c) (rootOf ls e) fs h)) tt
+    (all-map (λ f v. canonical-valid c ls f v) (factsAt (rootOf ls e) fs) (factsAt-all (FactValid c) (rootOf ls e) fs (all-map (λ f v e. v) fs h))) tt
 
 -- either no link and no pair altered, or there was a merge and no pair waits
 abbrev pub Placed : Core → Core → Type 0

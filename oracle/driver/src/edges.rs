@@ -1,12 +1,12 @@
 //! Fixed histories: P1 to P10, every refusal number for every kind that can
-//! meet it, and the edges of document 01, of settle, of maps, of conflict reports and of
-//! files.
+//! meet it, and the edges of document 01, of settle, of maps, of conflict reports, of
+//! files and of the parents of impositions.
 
 use oracle::record::{AMBIENT_LOOKUP, TYPE_LOOKUP};
 use oracle::stream::{Entry, SHEET, SHEET_WITH_DUMPS};
 
 use crate::history::{bytes, chained, record, History, Words};
-use crate::{files, finds, maps, proved, settled, settles};
+use crate::{counts, files, finds, maps, proved, settled, settles};
 
 /// All fixed histories in order. Small ones with dumps.
 pub fn all() -> Vec<Entry> {
@@ -14,6 +14,7 @@ pub fn all() -> Vec<Entry> {
     entries.extend(files::all().iter().map(History::list_with_dumps));
     entries.extend(files::full().iter().map(files::parked_when_full));
     entries.extend(files::at_the_limits().iter().map(History::list));
+    entries.extend(counts::in_files().iter().map(History::list));
     // A sheet cannot hold the kinds of files.
     for words in [105, 106, 107, 108].map(|kind| record(kind, 0, 0, &[], &[])) {
         entries.push(History::new().push(words).sheet());
@@ -65,6 +66,7 @@ fn without_files() -> Vec<Entry> {
         entries.push(history.sheet_with_dumps());
         entries.push(history.with_settles().list_with_dumps());
     }
+    entries.extend(counts::small().iter().map(History::list_with_dumps));
     entries.extend(finds::refused().map(|(history, _)| history.list_with_flags()));
     let (most, _) = finds::most();
     entries.extend([most.list(), most.with_settles().sheet()]);
@@ -147,7 +149,7 @@ fn good_record(kind: u16) -> Words {
         5 => record(5, 6, 0, &[], &[2, 5]),
         6 => record(6, 1, 0, &[], &[]),
         7 => record(7, 0, 2, &[], &[]),
-        8 => record(8, 2, 1, &[1, 0], &[]),
+        8 => record(8, 2, 5, &[1, 0], &[]),
         9 => record(9, 5, 2, &[0, 1], &[1, 2]),
         10 => record(10, 0, 0, &[0, 1], &[1, 2]),
         11 => record(11, 8, 2, &[], &[]),
@@ -181,8 +183,8 @@ fn altered_words() -> Vec<History> {
 /// A record, and the number that refuses it or 0.
 pub type Numbered = (u16, Words);
 
-/// Histories and what may come next, one record at a time. Where a higher number
-/// applies too, a comment says that it is "not" that one.
+/// Histories and what may come next, one record at a time. Where a number that comes
+/// later applies too, a comment says that it is "not" that one.
 pub fn numbered_refusals() -> Vec<(History, Vec<Numbered>)> {
     let altered = |kind: u16, word: usize, value: u16| {
         let mut words = good_record(kind);
@@ -253,6 +255,18 @@ pub fn numbered_refusals() -> Vec<(History, Vec<Numbered>)> {
         (5, record(8, 3, 1, &[0], &[])),          // element
         (5, record(8, 0, 6, &[0], &[])),          // type
         (5, record(8, 0, 1, &[3], &[])),          // parent
+        (5, record(8, 3, 1, &[], &[])),           // element, not 15
+        (5, record(8, 0, 6, &[0, 0], &[])),       // type, not 15
+        (5, record(8, 0, 5, &[0, 1, 3], &[])),    // parent, not 15
+        (15, record(8, 0, 1, &[], &[])),          // fewer
+        (15, record(8, 0, 1, &[0, 0], &[])),      // more
+        (15, record(8, 0, 0, &[0], &[])),         // of a Model
+        (15, record(8, 0, 2, &[0], &[])),         // of a Mor
+        (15, record(8, 0, 5, &[1], &[])),         // of an Enum
+        (15, record(8, 0, 5, &[0, 1, 2], &[])),   // of an Enum
+        (0, record(8, 0, 5, &[2, 2], &[])),       // a parent twice
+        (0, record(9, 5, 2, &[], &[1])),          // the parents of applications are free
+        (0, record(10, 0, 0, &[], &[1])),         // and of predicates too
         (5, record(9, 10, 0, &[], &[])),          // function
         (5, record(9, 5, 3, &[0], &[1])),         // result
         (5, record(9, 5, 2, &[3], &[1])),         // parent
@@ -283,8 +297,16 @@ pub fn numbered_refusals() -> Vec<(History, Vec<Numbered>)> {
             after.push((3, altered(kind, word, 5))); // count, slot or unused word
         }
     }
+    // A slot past the count, or an unused word, beside too few parents: not 15.
+    let mut fewer = record(8, 2, 5, &[0, 1], &[]);
+    fewer[4] = 1;
+    after.push((3, fewer));
+    let mut fewer = record(8, 2, 5, &[], &[]);
+    fewer[15] = 1;
+    after.push((3, fewer));
     let mut all = vec![(signature(), before), (beginning(), after)];
     all.extend(maps::numbered_refusals());
+    all.push(counts::numbered_refusals());
     all
 }
 
@@ -327,14 +349,10 @@ fn small_cases() -> Vec<History> {
         }
         h.impose(1, 2, &[0]).impose(1, 2, &[2]).conflicts().close().conflicts();
     });
-    // The first fact agrees with the second and disagrees with the third.
+    // Facts are ordered by type, then place by place.
     case(&|h| {
-        h.plain(&[]).els(4).impose(0, 0, &[1]).impose(0, 0, &[1, 2]).impose(0, 0, &[1, 3]);
-        h.impose(0, 0, &[2]).close().conflicts();
-    });
-    // A shorter list comes before its extension, not before every longer list.
-    case(&|h| {
-        h.plain(&[]).els(4).impose(0, 0, &[2]).impose(0, 0, &[1, 2]).impose(0, 0, &[1]);
+        h.plain(&[]).plain(&[0, 0]).plain(&[0]).els(4).impose(0, 2, &[1]).impose(0, 1, &[2, 1]);
+        h.impose(0, 1, &[1, 3]).impose(0, 1, &[1, 2]).impose(3, 2, &[2]).impose(3, 2, &[1]);
         h.close().conflicts();
     });
     // Marked parents: the order of the facts as roots decides who joins whom.
@@ -350,8 +368,8 @@ fn small_cases() -> Vec<History> {
     }
     // Impositions that become equal stay.
     case(&|h| {
-        h.plain(&[]).els(3).impose(0, 0, &[1]).impose(0, 0, &[2]).equal(1, 2);
-        h.close().impose(0, 0, &[2]).close().impose(2, 0, &[2]).impose(1, 0, &[1]);
+        h.plain(&[]).plain(&[0]).els(3).impose(0, 1, &[1]).impose(0, 1, &[2]).equal(1, 2);
+        h.close().impose(0, 1, &[2]).close().impose(2, 1, &[2]).impose(1, 1, &[1]);
     });
     // Ambients, variables and predicate applications are stored as given.
     case(&|h| {
@@ -396,7 +414,7 @@ fn lookups() -> History {
 /// A chain of links as long as it can be, found and shortened.
 fn deep_links(els: u16) -> History {
     let mut h = History::new();
-    h.plain(&[]).els(els.into());
+    h.plain(&[]).plain(&[0]).els(els.into());
     for el in 1..els {
         h.equal(el - 1, el);
     }
@@ -405,7 +423,7 @@ fn deep_links(els: u16) -> History {
     h.root_const(last).equal(last, last).root_const(last);
     h.root(last).root_const(last).root_const(last - 1);
     h.equal(last, last - 1).root_const(last).root_const(last - 1).root_const(last - 2);
-    h.var(0, last).root_const(last).impose(last, 0, &[last]).root_const(last);
+    h.var(0, last).root_const(last).impose(last, 1, &[last]).root_const(last);
     h.root(last / 2).root_const(last / 2).equal(0, 0).close().root(last);
     h
 }
@@ -444,7 +462,7 @@ fn stale_keys() -> History {
 /// passes and of the facts decides who joins whom, or in which round.
 fn joins() -> Vec<History> {
     let mut start = History::new();
-    start.model(&[]).plain(&[0]).pred(&[0], &[1]);
+    start.model(&[]).plain(&[0]).plain(&[0, 0]).plain(&[0; 4]).pred(&[0], &[1]);
     start.func(&[0], &[], 1).func(&[0], &[1], 1).func(&[], &[0], 0);
     let with_els = |marked: &[u16], els: u16| {
         let mut h = start.clone();
@@ -473,8 +491,8 @@ fn joins() -> Vec<History> {
 
     // Only facts of one type join, and they do in every parent.
     let mut every_parent = with_els(&[2, 3, 4], 6);
-    every_parent.impose(0, 1, &[1, 1]).impose(0, 1, &[1, 3]).impose(0, 0, &[2]);
-    every_parent.impose(5, 1, &[1, 1, 1]).impose(5, 1, &[1, 1, 4, 4]).close().conflicts();
+    every_parent.impose(0, 2, &[1, 1]).impose(0, 2, &[1, 3]).impose(0, 1, &[2]);
+    every_parent.impose(5, 3, &[1; 4]).impose(5, 3, &[1, 1, 1, 4]).close().conflicts();
 
     // A merge without a new fact is a change.
     let mut merge_alone = with_els(&[2], 3);
@@ -678,17 +696,17 @@ fn pairs_by_stale_results() -> History {
 
 fn impositions() -> History {
     let mut h = History::new();
-    h.plain(&[]).els(9);
+    h.plain(&[]).plain(&[0]).els(9);
     for el in 0..8 {
         for parent in 0..8 {
-            h.impose(el, 0, &[parent]);
+            h.impose(el, 1, &[parent]);
         }
     }
-    h.impose(0, 0, &[8]).impose(0, 0, &[0]).impose(0, 1, &[8]); // 9, accepted, 5
+    h.impose(0, 1, &[8]).impose(0, 1, &[0]).impose(0, 2, &[8]); // 9, accepted, 5
     for el in 1..8 {
         h.equal(0, el);
     }
-    h.close().impose(7, 0, &[7]).impose(8, 0, &[8]).close();
+    h.close().impose(7, 1, &[7]).impose(8, 1, &[8]).close();
     h
 }
 

@@ -15,11 +15,12 @@ pub const TABLES: [(usize, usize); 8] =
 /// The bytes of the slot that a list has.
 pub const ROOM: usize = 16384;
 
-/// The signature of the structures below: two Models, two types under them, the Mor of
+/// The signature of the structures below: two Models, four types under them, the Mor of
 /// the first Model with its functions, another function, and two predicates.
 fn signature() -> History {
     let mut h = History::new();
     h.model(&[]).model(&[]).plain(&[0]).plain(&[0, 1, 0, 1]).mor(0, &[]);
+    h.plain(&[0, 1]).plain(&[1, 0, 1]);
     h.func(&[], &[4], 0).func(&[], &[4], 0).func(&[], &[0], 4).func(&[], &[4, 4], 4);
     h.func(&[0], &[2, 2, 2, 2], 2).func(&[0, 0, 0, 0], &[], 2);
     h.pred(&[0], &[2, 2]).pred(&[], &[]).model_ids(0, 4, [0, 1, 2, 3]);
@@ -59,10 +60,8 @@ pub fn small() -> Vec<History> {
     case(&|h| _ = h.els(2).settle().equal(0, 0).equal(1, 1));
     // Facts of several types and parents on several elements, in chains of one to five.
     case(&|h| {
-        h.els(5).impose(1, 2, &[0]);
-        for parents in [&[3][..], &[2, 3, 4], &[2, 3], &[], &[2, 3, 4, 4]] {
-            h.impose(0, 3, parents);
-        }
+        h.els(5).impose(1, 2, &[0]).impose(0, 3, &[3, 4, 4, 1]).impose(0, 6, &[2, 3, 4]);
+        h.impose(0, 5, &[2, 3]).impose(0, 0, &[]).impose(0, 3, &[2, 3, 4, 4]);
         h.impose(4, 2, &[4]).impose(4, 0, &[]).impose(4, 3, &[0, 1, 2, 3]).close();
     });
     // Facts of elements between which there are others without any.
@@ -71,8 +70,8 @@ pub fn small() -> Vec<History> {
     });
     // Impositions: not in order, of no to four parents, and equal ones.
     case(&|h| {
-        h.els(4).impose(3, 2, &[0]).impose(0, 3, &[3, 2, 1, 0]).impose(0, 2, &[]);
-        h.impose(0, 2, &[1, 2]).impose(1, 2, &[1, 2, 3]).impose(3, 2, &[1]).equal(0, 1).close();
+        h.els(4).impose(3, 2, &[0]).impose(0, 3, &[3, 2, 1, 0]).impose(0, 0, &[]);
+        h.impose(0, 5, &[1, 2]).impose(1, 6, &[1, 2, 3]).impose(3, 2, &[1]).equal(0, 1).close();
     });
     // Function applications with lists of every length.
     case(&|h| {
@@ -187,10 +186,10 @@ fn facts() -> History {
 /// The longest file: every table full.
 fn all_full() -> History {
     let mut h = History::new();
-    for _ in 0..32 {
+    for _ in 0..31 {
         h.model(&[]);
     }
-    h.pred(&[], &[0, 1, 2, 3]).func(&[], &[], 0).els(256);
+    h.model(&[0]).pred(&[], &[0, 1, 2, 3]).func(&[], &[], 0).els(256);
     for el in 0..256 {
         h.holds(0, &[], &[el; 4]);
     }
@@ -276,23 +275,26 @@ fn byte_times(text: &str) -> Vec<u8> {
     vec![byte; times.parse().expect("how many times")]
 }
 
-/// A line of a sheet as tools/sheet has it, without names, and lists of arguments only.
+/// A line of a sheet as tools/sheet has it, without names.
 fn declaration(text: &str) -> Words {
-    let (before, inside) = text.split_once('(').unwrap_or((text, ")"));
-    let numbers = |text: &str| -> Vec<u16> {
-        text.trim_end_matches(')').split(' ').filter_map(|word| word.parse().ok()).collect()
+    let number = |word: &str| -> u16 { word.parse().expect("a number") };
+    let list = |opening: char, closing: char| -> Vec<u16> {
+        let inside = text.split_once(opening).and_then(|(_, rest)| rest.split_once(closing));
+        inside.map_or("", |(inside, _)| inside).split_whitespace().map(number).collect()
     };
-    let (before_numbers, args) = (numbers(before), numbers(inside));
-    let of = |place: usize| before_numbers.get(place).copied().unwrap_or(0);
-    let words: Vec<&str> = before.split(' ').collect();
+    let (parents, args) = (list('[', ']'), list('(', ')'));
+    // What stands in no list.
+    let outside = text.split(['[', '(']).filter_map(|part| part.split([']', ')']).next_back());
+    let words: Vec<&str> = outside.flat_map(str::split_whitespace).collect();
     match words[..] {
-        ["type", "plain"] => record(1, 0, 0, &[], &[]),
-        ["type", "model"] => record(1, 1, 0, &[], &[]),
-        ["type", "mor", _] => record(1, 3, of(0), &[], &[]),
-        ["predicate"] => record(2, 0, 0, &[], &args),
-        ["function", "->", _] => record(3, 0, of(0), &[], &[]),
-        ["model", ..] => record(4, of(0), of(1), &[], &args),
-        ["morphism-application", ..] => record(5, of(0), 0, &[], &args),
+        ["type", "plain"] => record(1, 0, 0, &parents, &[]),
+        ["type", "model"] => record(1, 1, 0, &parents, &[]),
+        ["type", "enum"] => record(1, 2, 0, &parents, &[]),
+        ["type", "mor", model] => record(1, 3, number(model), &parents, &[]),
+        ["predicate"] => record(2, 0, 0, &parents, &args),
+        ["function", "->", codomain] => record(3, 0, number(codomain), &parents, &args),
+        ["model", typ, mor] => record(4, number(typ), number(mor), &[], &args),
+        ["morphism-application", func] => record(5, number(func), 0, &[], &args),
         _ => panic!("no declaration: {text}"),
     }
 }
@@ -349,7 +351,7 @@ fn nothing_stays() -> History {
     h.els(3).store();
     let more = |h: &mut History| {
         h.marked_el().equal(0, 1).close().impose(2, 2, &[0]).apply(5, &[1], &[], 2);
-        h.holds(0, &[1], &[2, 2]).var(3, 1).ambient(1, 1).impose(0, 3, &[2, 2]).equal(2, 0);
+        h.holds(0, &[1], &[2, 2]).var(3, 1).ambient(1, 1).impose(0, 5, &[2, 2]).equal(2, 0);
     };
     more(&mut h);
     h.load().store().settle().load().close();
@@ -429,11 +431,12 @@ fn under_less(history: &History) -> History {
 }
 
 /// Files loaded under signatures of which a declaration is another: a type of another kind,
-/// a function that became one of a record 4 or of a record 5, a relation with other types.
+/// with as many parents or not, a function that became one of a record 4 or of a record 5,
+/// a relation with other types.
 fn other_signatures() -> Vec<History> {
     let others: [Words; 6] = [
         record(1, 0, 0, &[], &[]),
-        record(1, 2, 0, &[0, 0], &[]),
+        record(1, 2, 0, &[0], &[]),
         record(2, 0, 0, &[], &[0, 0, 0]),
         record(3, 0, 1, &[0], &[0, 1, 2, 3]),
         record(4, 0, 4, &[], &[5, 4, 1, 0]),
@@ -646,7 +649,7 @@ pub fn after(history: &History) -> State {
 
 /// Puts stores and loads between the calls of a list: mostly both, sometimes a load of what
 /// was stored some calls ago, a store with little room, a damaged file, or a signature that
-/// is declared again, in part or in full.
+/// is declared again, in part, with other parents of a type, or in full.
 pub fn scatter(rng: &mut Rng, history: &mut History) {
     let chance = rng.pick(&[3, 10, 30, 100]);
     let declared = declarations(history);
@@ -670,6 +673,9 @@ pub fn scatter(rng: &mut Rng, history: &mut History) {
                         let count = declared - rng.between(1, declared.min(3));
                         under(history, &records[..count]);
                     }
+                    if rng.percent(30) {
+                        under(history, &with_other_parents(rng, &records[..declared]));
+                    }
                     under(history, &records[..declared]);
                 }
                 _ => _ = history.store().load(),
@@ -687,6 +693,26 @@ fn under(history: &mut History, declarations: &[Words]) {
     history.begin_again();
     declarations.iter().for_each(|&words| _ = history.push(words));
     history.load();
+}
+
+/// The declarations with a parent less, or one more, in a type that is not the first one,
+/// before which there is none that could be its parent.
+fn with_other_parents(rng: &mut Rng, declarations: &[Words]) -> Vec<Words> {
+    let mut others = declarations.to_vec();
+    let places = 0..others.len();
+    let types: Vec<usize> = places.filter(|&place| others[place][1] == 1).skip(1).collect();
+    if !types.is_empty() {
+        let words = &mut others[rng.pick(&types)];
+        match usize::from(words[4]) {
+            count @ 1..=4 if rng.percent(50) => {
+                words[4] -= 1;
+                words[5 + count] = 0;
+            }
+            0..4 => words[4] += 1,
+            _ => {}
+        }
+    }
+    others
 }
 
 /// Changes that a load may refuse or not, and the load.

@@ -71,26 +71,16 @@ pub fn small() -> Vec<Reported> {
         }
         h.close().conflicts();
     });
-    // Several classes: four, two and no finds; one fact; none; two facts that agree.
-    case(&[[3, 7]], &|h| {
+    // Several classes: four, two and no finds; one fact; none; three finds.
+    case(&[[4, 9]], &|h| {
         h.impose(0, 1, &[5, 6, 7, 8]).impose(0, 2, &[5, 6]).impose(1, 2, &[5, 6]);
         h.impose(1, 4, &[5, 6, 7]).impose(2, 0, &[]).impose(2, 1, &[5, 6, 7, 8]);
-        h.impose(3, 4, &[5, 6, 7]).impose(5, 4, &[6]).impose(5, 4, &[6, 7, 8]).close().conflicts();
-    });
-    // Facts that agree, the first with fewer or as many parents as it can.
-    case(&[[0, 1]], &|h| _ = h.impose(0, 4, &[1]).impose(0, 4, &[1, 2, 3]).close().conflicts());
-    case(&[[0, 0]], &|h| _ = h.impose(0, 4, &[]).impose(0, 4, &[1, 2, 3]).close().conflicts());
-    case(&[[0, 3]], &|h| {
-        h.impose(0, 1, &[1, 2, 3]).impose(0, 1, &[1, 2, 3, 4]).impose(0, 1, &[1, 2, 3, 5]);
+        h.impose(3, 4, &[5, 6, 7]).impose(5, 4, &[6, 7, 8]).impose(5, 4, &[6, 7, 7]);
         h.close().conflicts();
     });
-    // A first fact that agrees with a longer one and disagrees with a shorter.
-    case(&[[1, 2]], &|h| {
-        h.impose(0, 1, &[1, 2]).impose(0, 1, &[1, 2, 3]).impose(0, 1, &[2]).close().conflicts();
-    });
     // The order of the roots decides: 5 joins 2, so that its fact comes first.
-    case(&[[1, 3], [1, 1]], &|h| {
-        h.impose(0, 4, &[5]).impose(0, 4, &[3, 4, 1]).close().conflicts();
+    case(&[[1, 3], [1, 3]], &|h| {
+        h.impose(0, 4, &[5, 1, 1]).impose(0, 4, &[3, 4, 1]).close().conflicts();
         h.equal(2, 5).close().conflicts();
     });
     // Classes that merge: the facts of three elements, two of which become one.

@@ -1,6 +1,7 @@
 //! The commands around the oracle; README.md lists them.
 
 mod compare;
+mod counts;
 mod damage;
 mod edges;
 mod files;

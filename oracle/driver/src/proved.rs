@@ -60,7 +60,7 @@ pub fn p6() -> History {
     p
 }
 
-/// P7: parents 1, and 1, 2, do not conflict.
+/// P7: a type of two parents imposed with one, which is refused, and with two.
 pub fn p7() -> History {
     let mut p = History::new();
     p.model(&[]).model(&[]).plain(&[0, 1]).els(3);

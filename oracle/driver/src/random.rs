@@ -362,10 +362,11 @@ impl<'a> Maker<'a> {
             for _ in 0..self.rng.between(1, 3) {
                 let typ = self.rng.between(1, self.types.len() - 1) as u16;
                 let parents = self.impose_type(el, typ);
-                // The same with its first parents only, so that the two agree.
+                // The same with other parents from some place on.
                 if self.rng.percent(15) {
-                    let count = self.rng.between(0, parents.len());
-                    self.history.impose(el, typ, &parents[..count]);
+                    let same = self.rng.between(0, parents.len());
+                    let others = self.some_els(parents.len() - same);
+                    self.history.impose(el, typ, &[&parents[..same], &others].concat());
                 }
             }
             if self.rng.percent(15) {
@@ -675,10 +676,15 @@ impl<'a> Maker<'a> {
         self.impose_type(el, typ);
     }
 
-    /// Imposes a type; gives its parents.
+    /// Imposes a type; gives its parents. Now and then there is one less than the type
+    /// has, or one more: less often in a sheet, which ends there.
     fn impose_type(&mut self, el: u16, typ: u16) -> Vec<u16> {
         let declared = self.types[usize::from(typ)].0;
-        let count = self.about(declared);
+        let count = match self.rng.below(if self.is_list { 80 } else { 300 }) {
+            0 => declared.saturating_sub(1),
+            1 => (declared + 1).min(4),
+            _ => declared,
+        };
         let parents = self.some_els(count);
         self.history.impose(el, typ, &parents);
         parents

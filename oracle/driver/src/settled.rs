@@ -209,11 +209,11 @@ fn refused() -> Vec<History> {
         h.equal(0, 1).equal(0, 0).apply(0, &[], &[], 1).close().apply(0, &[], &[], 1).close();
     });
     case(&|h| {
-        h.plain(&[]).els(9);
+        h.plain(&[]).plain(&[0]).els(9);
         for number in 0..64 {
-            h.impose(number / 8, 0, &[number % 8]);
+            h.impose(number / 8, 1, &[number % 8]);
         }
-        h.settle().impose(0, 0, &[8]).impose(0, 0, &[0]).close();
+        h.settle().impose(0, 1, &[8]).impose(0, 1, &[0]).close();
     });
     case(&|h| {
         h.plain(&[]).func(&[], &[0], 0).pred(&[], &[0]).els(17);

@@ -4,7 +4,7 @@ use std::collections::BTreeSet;
 use std::fs;
 use std::path::Path;
 
-use oracle::record::{self, Record};
+use oracle::record::{self, Record, LOAD};
 use oracle::stream::{self, Entry, LIST};
 use standin::Fault;
 
@@ -13,7 +13,7 @@ use crate::history::History;
 use crate::rng::Rng;
 use crate::settled::{self, Calls};
 use crate::{
-    damage, edges, files, finds, histories, maps, proved, random, sample, settles, shrink,
+    counts, damage, edges, files, finds, histories, maps, proved, random, sample, settles, shrink,
 };
 
 /// What an entry prints, without the line that begins it.
@@ -87,11 +87,12 @@ fn p6_leading_parents() {
 }
 
 #[test]
-fn p7_shorter_list_agrees() {
+fn p7_one_parent_of_two() {
     let p = proved::p7();
-    assert_eq!(sheet(&p), ["close 1 0 1", "conflicts 0", "end 10"]);
-    assert_eq!(list(&p)[8..], ["close 1 0 1", "conflicts 0 1"]);
-    assert_eq!(tagged(&structure(&p), "f "), ["f 0 2 1", "f 0 2 1 2"]);
+    assert_eq!(sheet(&p), ["refused 15 at 6"]);
+    assert_eq!(list(&p)[6..], ["refused 15", "answer 1", "close 1 0 1", "conflicts 0 0"]);
+    assert_eq!(tagged(&structure(&p), "f "), ["f 0 2 1 2"]);
+    assert_eq!(structure_after(&p, 6), structure_after(&p, 7));
 }
 
 #[test]
@@ -383,6 +384,54 @@ fn reports_stand_beside_refusals() {
     assert_eq!(refusals, [vec!["refused 3"; 3], vec!["refused 9"; 2], vec!["refused 11"; 2]]);
 }
 
+/// An imposition is accepted where it gives as many parents as its type has, and else
+/// refused with 15.
+#[test]
+fn impositions_give_the_parents_of_their_types() {
+    let h = counts::every_number();
+    let lines = list(&h);
+    let first = lines.iter().rposition(|line| line.starts_with("number ")).expect("elements") + 1;
+    for typ in 0..5 {
+        for given in 0..5 {
+            let expected = if given == typ { "answer 1" } else { "refused 15" };
+            assert_eq!(lines[first + 5 * typ + given], expected, "{given} of {typ} parents");
+        }
+    }
+    assert_eq!(lines[first + 25..], ["close 1 0 1", "conflicts 0 0"]);
+}
+
+/// A refused one leaves the structure, with its links and flags.
+#[test]
+fn an_imposition_refused_with_15_leaves_everything() {
+    let mut refused = 0;
+    for h in counts::small() {
+        for (place, line) in last_lines(&h).iter().enumerate() {
+            if line == "refused 15" {
+                assert_eq!(structure_after(&h, place), structure_after(&h, place + 1));
+                refused += 1;
+            }
+        }
+    }
+    assert_eq!(refused, 33);
+}
+
+/// The file with another number of parents in a fact or an imposition, and under
+/// signatures whose types have another.
+#[test]
+fn files_have_the_parents_of_their_types() {
+    let [changed, elsewhere] = &counts::in_files()[..] else { panic!("two of them") };
+    let loads = |h: &History| {
+        let lines = last_lines(h).into_iter().zip(&h.records);
+        let loads = lines.filter(|(_, words)| words[1] == LOAD);
+        loads.map(|(line, _)| line).collect::<Vec<_>>()
+    };
+    // Those that go on come last.
+    assert_eq!(loads(changed)[..18], ["refused 14"; 18]);
+    assert_eq!(loads(changed)[18..], ["answer 1"; 3]);
+    assert_eq!(loads(elsewhere)[..2], ["answer 1"; 2]);
+    assert_eq!(loads(elsewhere)[2..], ["refused 14"; 5]);
+}
+
 /// A history that may grow by `limit` records of one kind and no more.
 fn assert_limit(start: &History, limit: u16, grow: &dyn Fn(&mut History, u16)) {
     let mut h = start.clone();
@@ -401,11 +450,11 @@ fn tables_are_full_at_their_limits() {
     assert_limit(&none, 32, &|h, _| _ = h.pred(&[], &[]));
     assert_limit(&none, 256, &|h, _| _ = h.el());
     let mut start = History::new();
-    start.plain(&[]);
+    start.plain(&[]).plain(&[0]);
     assert_limit(&start, 64, &|h, _| _ = h.func(&[], &[], 0));
     start.func(&[], &[], 0).pred(&[], &[]).els(17);
     assert_limit(&start, 256, &|h, _| _ = h.equal(0, 0));
-    assert_limit(&start, 64, &|h, n| _ = h.impose(n % 16, 0, &[n / 16]));
+    assert_limit(&start, 64, &|h, n| _ = h.impose(n % 16, 1, &[n / 16]));
     assert_limit(&start, 256, &|h, n| _ = h.apply(0, &[n % 16], &[n / 16], 0));
     assert_limit(&start, 256, &|h, n| _ = h.holds(0, &[n % 16], &[n / 16]));
 }
@@ -460,6 +509,12 @@ fn numbered_refusals_have_their_numbers() {
     }
 }
 
+/// The last line of each call's answer in a list.
+fn last_lines(history: &History) -> Vec<String> {
+    let lines = list(history).into_iter();
+    lines.filter(|line| !line.starts_with("conflict ")).collect()
+}
+
 /// The kinds of calls, and the numbers that each can meet.
 const NUMBERS: [(u16, &[u16]); 23] = [
     (1, &[3, 4, 5, 6, 9]),
@@ -469,7 +524,7 @@ const NUMBERS: [(u16, &[u16]); 23] = [
     (5, &[3, 4, 5, 6, 8, 9]),
     (6, &[3, 9]),
     (7, &[3, 5, 9]),
-    (8, &[3, 5, 9]),
+    (8, &[3, 5, 9, 15]),
     (9, &[3, 5, 7, 9, 12]),
     (10, &[3, 5, 9]),
     (11, &[3, 5, 8]),

@@ -126,11 +126,12 @@ fn morphism_application_over_a_plain_type() {
 #[test]
 fn a_close_can_leave_stale_applications() {
     let mut signature = types(&[TypeKind::Plain]);
+    signature.declare_type(TypeKind::Plain, type_ids(&[0]));
     signature.declare_func(Vec::new(), Vec::new(), TypeId::new(0));
     let mut structure = applied(2, 0, &[1]);
     structure.inferred_parent_els.insert(ElId(1));
     for parent in [0, 1] {
-        let ct = ConcreteType { typ: TypeId::new(0), parents: vec![ElId(parent)] };
+        let ct = ConcreteType { typ: TypeId::new(1), parents: vec![ElId(parent)] };
         structure.impose_type(ElId(0), ct);
     }
     structure.close(&signature);
@@ -170,15 +171,46 @@ fn a_merge_without_a_fact_is_work() {
 fn a_close_can_make_impositions_equal() {
     let mut structure = applied(2, 0, NONE);
     structure.func_apps.clear();
+    let mut signature = types(&[TypeKind::Plain]);
+    signature.declare_type(TypeKind::Plain, type_ids(&[0]));
     for parent in [0, 1] {
-        let ct = ConcreteType { typ: TypeId::new(0), parents: vec![ElId(parent)] };
+        let ct = ConcreteType { typ: TypeId::new(1), parents: vec![ElId(parent)] };
         assert!(structure.impose_type(ElId(0), ct));
     }
     structure.equate(ElId(0), ElId(1));
-    structure.close(&types(&[TypeKind::Plain]));
+    structure.close(&signature);
     let queued = &structure.pending_type_impositions;
     assert_eq!(queued.len(), 2);
     assert_eq!(queued[0], queued[1]);
+}
+
+/// A type without parents imposed with one: the Rust makes a fact of it. We give 15.
+#[test]
+fn a_type_without_parents_is_imposed_with_one() {
+    let mut structure = applied(1, 0, NONE);
+    structure.func_apps.clear();
+    let ct = ConcreteType { typ: TypeId::new(0), parents: vec![ElId(0)] };
+    assert!(structure.impose_type(ElId(0), ct.clone()));
+    assert!(structure.close(&types(&[TypeKind::Plain])));
+    assert_eq!(structure.concrete_types_of(ElId(0)), [ct]);
+}
+
+/// A type of two parents imposed with one, with two and with three: the Rust takes them
+/// all, and since only the parents that both facts have are compared, none disagrees. We
+/// give 15 for the first and the last.
+#[test]
+fn a_type_of_two_parents_is_imposed_with_any_number() {
+    let mut signature = types(&[TypeKind::Model, TypeKind::Model]);
+    signature.declare_type(TypeKind::Plain, type_ids(&[0, 1]));
+    let mut structure = applied(4, 0, NONE);
+    structure.func_apps.clear();
+    for parents in [&[1][..], &[1, 2], &[1, 2, 3]] {
+        let ct = ConcreteType { typ: TypeId::new(2), parents: el_ids(parents) };
+        assert!(structure.impose_type(ElId(0), ct));
+    }
+    assert!(structure.close(&signature));
+    assert_eq!(structure.els[&ElId(0)].len(), 3);
+    assert!(structure.type_conflicts().is_empty());
 }
 
 /// An application of id makes the Rust add applications of dom and cod.

@@ -176,7 +176,7 @@ impl Oracle {
         count
     }
 
-    /// The first that applies of the numbers 3 to 7, 12 and 8.
+    /// The first that applies of the numbers 3 to 6, 15, 7, 12 and 8.
     fn refusal(&self, record: &Record) -> Option<u16> {
         if !record.is_well_formed() {
             return Some(3);
@@ -190,6 +190,9 @@ impl Oracle {
         }
         if self.has_wrong_type(record) {
             return Some(6);
+        }
+        if record.kind() == 8 && self.has_other_parents(record) {
+            return Some(15);
         }
         if record.kind() == 9 && self.is_barred(FuncId::new(record.a())) {
             return Some(7);
@@ -227,6 +230,17 @@ impl Oracle {
             12 => !is_model(record.a()),
             _ => false,
         }
+    }
+
+    /// Whether an imposition gives another number of parents than its type has. The Rust
+    /// takes any number.
+    fn has_other_parents(&self, record: &Record) -> bool {
+        usize::from(record.parent_count()) != self.parent_count(TypeId::new(record.b()))
+    }
+
+    /// How many parents a declared type has.
+    fn parent_count(&self, typ: TypeId) -> usize {
+        self.signature.type_(typ).parents.len()
     }
 
     /// Whether `func` is a morphism application function or, where there is one, id
@@ -292,7 +306,7 @@ impl Oracle {
             || structure.pred_apps.len() > MAX_APPS
     }
 
-    /// The effect of a record that numbers 3 to 8 and 12 let pass.
+    /// The effect of a record that numbers 3 to 8, 12 and 15 let pass.
     fn carry_out(&mut self, record: &Record) -> Result<Answer, Met> {
         let (a, b) = (record.a(), record.b());
         let (parents, args) = (record.parents(), record.args());
@@ -489,8 +503,14 @@ impl Oracle {
     }
 
     fn conflicts(&self) -> Conflicts {
-        let conflicts = self.structure.type_conflicts().into_iter();
-        let each = conflicts.map(|c| (c.el.0, fact(c.a), fact(c.b))).collect();
+        let conflicts = self.structure.type_conflicts();
+        let reported = conflicts.iter().map(|c| (c.el, c.a.clone(), c.b.clone()));
+        // Two facts of one type have as many parents, so that one of these differs.
+        let els = self.structure.els.keys().map(|&el| (el, self.structure.concrete_types_of(el)));
+        let several = els.filter(|(_, cts)| cts.len() >= 2);
+        let first_two = several.map(|(el, cts)| (el, cts[0].clone(), cts[1].clone()));
+        assert!(reported.eq(first_two), "the first two facts of a class disagree");
+        let each = conflicts.into_iter().map(|c| (c.el.0, fact(c.a), fact(c.b))).collect();
         Conflicts { each, finds: self.finds() }
     }
 
@@ -510,6 +530,10 @@ impl Oracle {
         assert!(els().all(|el| links.link(el) <= el), "links fall");
         assert!(structure.els.keys().copied().eq(els().filter(is_root)), "facts stand on roots");
         assert!(self.facts() <= MAX_FACTS);
+        let impositions = structure.pending_type_impositions.iter().map(|(_, ct)| ct);
+        let mut cts = structure.els.values().flatten().chain(impositions);
+        let has_its_parents = |ct: &ConcreteType| ct.parents.len() == self.parent_count(ct.typ);
+        assert!(cts.all(has_its_parents), "facts and impositions have as many parents as types");
         if !self.book.is_whole() {
             // A file may have what no call makes (docs/FILE.md).
             return;

@@ -114,6 +114,7 @@ impl Slot {
             }
             _ => loaded,
         };
+        oracle.assert_sound();
         Answer::Said(true)
     }
 }

@@ -1,5 +1,6 @@
 //! The public calls with their refusals.
 
+use std::collections::BTreeSet;
 use std::mem;
 
 use crate::close::{close, settle, Closed, Met, Settled};
@@ -110,6 +111,7 @@ impl State {
             (RefusedSettleUnsettles, 15, Refused(_)) => true,
             (RefusedLookupUnsettles, 101..=104, Refused(_)) => true,
             (NineUnsettles, _, Refused(9)) => true,
+            (FifteenUnsettles, _, Refused(15)) => true,
             _ => false,
         };
         let comes = match (fault, answer) {
@@ -117,6 +119,7 @@ impl State {
             (NoSettles, Said(false)) => true,
             (ElevenSettles, Refused(11)) => true,
             (NineSettles, Refused(9)) => [13, 15].contains(&w[1]),
+            (FifteenSettles, Refused(15)) => true,
             _ => false,
         };
         let is_taken = is_yes && !stays;
@@ -131,6 +134,9 @@ impl State {
         }
         if let Some(number) = self.refusal(w) {
             self.begun |= self.is(Fault::RefusalsBegin) && (6..=15).contains(&w[1]);
+            if number == 15 {
+                return self.refuse_parents(w);
+            }
             return Answer::Refused(number);
         }
         let before = (w[1] == 13).then(|| self.clone());
@@ -154,6 +160,23 @@ impl State {
         }
     }
 
+    /// Refuses an imposition with 15. It leaves everything, but for wrong versions.
+    fn refuse_parents(&mut self, w: &Words) -> Answer {
+        match self.fault {
+            Some(Fault::FifteenQueues) => _ = self.queue_imposition(w),
+            Some(Fault::FifteenShortens) => _ = self.find_and_shorten(w[2]),
+            Some(Fault::FifteenUnstarts) => self.begun = false,
+            Some(Fault::NoForFifteen) => return Answer::Said(false),
+            _ => {}
+        }
+        Answer::Refused(match self.fault {
+            Some(Fault::ThreeForFifteen) => 3,
+            Some(Fault::SixForFifteen) => 6,
+            Some(Fault::TwelveForFifteen) => 12,
+            _ => 15,
+        })
+    }
+
     /// The state after a close that is refused with this number.
     fn leave_refused(&mut self, number: u16, before: State) {
         match self.fault {
@@ -170,34 +193,39 @@ impl State {
     /// The number that refuses a record of kinds 1 to 15 at once.
     pub fn refusal(&self, w: &Words) -> Option<u16> {
         let order = match self.fault {
-            Some(Fault::FourBeforeThree) => [4, 3, 5, 6, 7, 12, 8, 9],
-            Some(Fault::FiveBeforeThree) => [5, 3, 4, 6, 7, 12, 8, 9],
-            Some(Fault::FiveBeforeFour) => [3, 5, 4, 6, 7, 12, 8, 9],
-            Some(Fault::SixBeforeFour) => [3, 6, 4, 5, 7, 12, 8, 9],
-            Some(Fault::SixBeforeFive) => [3, 4, 6, 5, 7, 12, 8, 9],
-            Some(Fault::SevenBeforeFive) => [3, 4, 7, 5, 6, 12, 8, 9],
-            Some(Fault::EightBeforeFive) => [3, 4, 8, 5, 6, 7, 12, 9],
-            Some(Fault::EightBeforeSix) => [3, 4, 5, 8, 6, 7, 12, 9],
-            Some(Fault::NineBeforeFive) => [3, 4, 9, 5, 6, 7, 12, 8],
-            Some(Fault::NineBeforeSix) => [3, 4, 5, 9, 6, 7, 12, 8],
-            Some(Fault::NineBeforeSeven) => [3, 4, 5, 6, 9, 7, 12, 8],
-            Some(Fault::NineBeforeEight) => [3, 4, 5, 6, 7, 12, 9, 8],
-            Some(Fault::TwelveBeforeThree) => [12, 3, 4, 5, 6, 7, 8, 9],
-            Some(Fault::TwelveBeforeFive) => [3, 4, 12, 5, 6, 7, 8, 9],
-            Some(Fault::TwelveBeforeSeven) => [3, 4, 5, 6, 12, 7, 8, 9],
-            Some(Fault::TwelveAfterNine) => [3, 4, 5, 6, 7, 8, 9, 12],
-            _ => [3, 4, 5, 6, 7, 12, 8, 9],
+            Some(Fault::FourBeforeThree) => [4, 3, 5, 6, 15, 7, 12, 8, 9],
+            Some(Fault::FiveBeforeThree) => [5, 3, 4, 6, 15, 7, 12, 8, 9],
+            Some(Fault::FiveBeforeFour) => [3, 5, 4, 6, 15, 7, 12, 8, 9],
+            Some(Fault::SixBeforeFour) => [3, 6, 4, 5, 15, 7, 12, 8, 9],
+            Some(Fault::SixBeforeFive) => [3, 4, 6, 5, 15, 7, 12, 8, 9],
+            Some(Fault::SevenBeforeFive) => [3, 4, 7, 5, 6, 15, 12, 8, 9],
+            Some(Fault::EightBeforeFive) => [3, 4, 8, 5, 6, 15, 7, 12, 9],
+            Some(Fault::EightBeforeSix) => [3, 4, 5, 8, 6, 15, 7, 12, 9],
+            Some(Fault::NineBeforeFive) => [3, 4, 9, 5, 6, 15, 7, 12, 8],
+            Some(Fault::NineBeforeSix) => [3, 4, 5, 9, 6, 15, 7, 12, 8],
+            Some(Fault::NineBeforeSeven) => [3, 4, 5, 6, 15, 9, 7, 12, 8],
+            Some(Fault::NineBeforeEight) => [3, 4, 5, 6, 15, 7, 12, 9, 8],
+            Some(Fault::TwelveBeforeThree) => [12, 3, 4, 5, 6, 15, 7, 8, 9],
+            Some(Fault::TwelveBeforeFive) => [3, 4, 12, 5, 6, 15, 7, 8, 9],
+            Some(Fault::TwelveBeforeSeven) => [3, 4, 5, 6, 15, 12, 7, 8, 9],
+            Some(Fault::TwelveAfterNine) => [3, 4, 5, 6, 15, 7, 8, 9, 12],
+            Some(Fault::FifteenBeforeThree) => [15, 3, 4, 5, 6, 7, 12, 8, 9],
+            Some(Fault::FifteenBeforeFive) => [3, 4, 15, 5, 6, 7, 12, 8, 9],
+            Some(Fault::FifteenAfterNine) => [3, 4, 5, 6, 7, 12, 8, 9, 15],
+            _ => [3, 4, 5, 6, 15, 7, 12, 8, 9],
         };
         order.into_iter().find(|&number| self.applies(number, w))
     }
 
     /// Whether a refusal applies to a record of kinds 1 to 15, whatever else does.
     fn applies(&self, number: u16, w: &Words) -> bool {
+        use Fault::FifteenForNoType;
         match number {
             3 => !self.is_formed(w),
             4 => (1..=5).contains(&w[1]) && self.begun,
-            5 => self.is_any_undeclared(w),
+            5 => self.is_any_undeclared(w) && !(self.is_of_no_type(w) && self.is(FifteenForNoType)),
             6 => self.is_wrong_type(w),
+            15 => self.has_other_parents(w),
             7 => w[1] == 9 && self.is_barred(w[2]),
             12 => w[1] == 9 && self.is_misapplied(w),
             8 => self.is_given_again(w),
@@ -302,6 +330,74 @@ impl State {
             5 => args(w).first().is_some_and(|&typ| not(typ, 3)),
             12 => not(w[2], 1) && !self.is(Fault::AmbientOfAnyType),
             _ => false,
+        }
+    }
+
+    /// Whether it is an imposition of an undeclared type.
+    fn is_of_no_type(&self, w: &Words) -> bool {
+        w[1] == 8 && usize::from(w[3]) >= self.types.len()
+    }
+
+    /// Whether an imposition gives another number of parents than its type has.
+    fn has_other_parents(&self, w: &Words) -> bool {
+        use Fault::*;
+        let given = usize::from(w[4]);
+        let relation = match (w[1], self.fault) {
+            (9, Some(FuncParentsCounted)) => self.funcs.get(usize::from(w[2])),
+            (10, Some(PredParentsCounted)) => self.preds.get(usize::from(w[2])),
+            _ => None,
+        };
+        if let Some(relation) = relation {
+            return relation.parents.len() != given;
+        }
+        if w[1] != 8 {
+            return false;
+        }
+        let Some(typ) = self.types.get(usize::from(w[3])) else {
+            return self.is(FifteenForNoType);
+        };
+        let declared = typ.parents.len();
+        match self.fault {
+            Some(NoFifteen) => false,
+            Some(FewerParents | FewerParentsFilled) => given > declared,
+            Some(MoreParents | MoreParentsCut) => given < declared,
+            Some(EmptyListFree) => given > 0 && given != declared,
+            Some(ParentlessFree) => declared > 0 && given != declared,
+            Some(PlainCounted) => typ.kind == 0 && given != declared,
+            Some(ParentTypesJudged) => {
+                let has = |(el, of): (&u16, &u16)| {
+                    let facts = self.facts.get(usize::from(self.root(*el)));
+                    facts.is_some_and(|facts| facts.iter().any(|fact| fact.typ == *of))
+                };
+                given != declared || !parents(w).iter().zip(&typ.parents).all(has)
+            }
+            Some(fault) => self.given_parents(fault, w) != self.declared_parents(fault, w, typ),
+            None => given != declared,
+        }
+    }
+
+    /// How many parents an imposition gives, as a wrong version counts them.
+    fn given_parents(&self, fault: Fault, w: &Words) -> usize {
+        let distinct = |els: Vec<u16>| els.into_iter().collect::<BTreeSet<u16>>().len();
+        match fault {
+            Fault::GivenCountedOnce => distinct(parents(w)),
+            Fault::EqualCountedOnce => distinct(self.roots(&parents(w))),
+            _ => w[4].into(),
+        }
+    }
+
+    /// How many parents the type of an imposition has, as a wrong version counts them.
+    fn declared_parents(&self, fault: Fault, w: &Words, typ: &Type) -> usize {
+        use Fault::*;
+        let of = |typ: Option<&Type>| typ.map_or(0, |typ| typ.parents.len());
+        match fault {
+            CountedByFirstType => of(self.types.first()),
+            CountedByLastType => of(self.types.last()),
+            CountedByElement => of(self.types.get(usize::from(w[2]))),
+            CountedByModel if typ.kind == 3 => of(self.types.get(usize::from(typ.model))),
+            ModelsCounted => typ.parents.iter().filter(|&&of| self.kind_of(of) == Some(1)).count(),
+            DeclaredCountedOnce => typ.parents.iter().collect::<BTreeSet<_>>().len(),
+            _ => typ.parents.len(),
         }
     }
 
@@ -443,7 +539,14 @@ impl State {
     }
 
     fn imposition(&self, w: &Words) -> (u16, Fact) {
-        let fact = Fact { typ: w[3], parents: parents(w) };
+        let mut fact = Fact { typ: w[3], parents: parents(w) };
+        let declared = || self.types[usize::from(w[3])].parents.len();
+        if self.is(Fault::MoreParentsCut) {
+            fact.parents.truncate(declared());
+        }
+        if self.is(Fault::FewerParentsFilled) {
+            fact.parents.resize(declared(), 0);
+        }
         if self.is(Fault::ImpositionStoredAsGiven) {
             return (w[2], fact);
         }
@@ -508,15 +611,10 @@ impl State {
                 Answer::Said(if self.is(Fault::EqualitySaysGiven) { w[2] != w[3] } else { differ })
             }
             8 => {
-                let entry = self.imposition(w);
                 if self.is(Fault::ImpositionShortens) {
                     self.find_and_shorten(w[2]);
                 }
-                let new = !self.impositions.contains(&entry);
-                if new {
-                    self.impositions.push(entry);
-                }
-                Answer::Said(new)
+                Answer::Said(self.queue_imposition(w))
             }
             9 => Answer::Said(self.apply(w)),
             10 => {
@@ -543,6 +641,16 @@ impl State {
             14 => Answer::Conflicts(self.report()),
             _ => Answer::Settled(settle(self)?),
         })
+    }
+
+    /// Queues the imposition, unless it is queued; says whether it did.
+    fn queue_imposition(&mut self, w: &Words) -> bool {
+        let entry = self.imposition(w);
+        let new = !self.impositions.contains(&entry);
+        if new {
+            self.impositions.push(entry);
+        }
+        new
     }
 
     /// Queues the pair as given; says whether the roots differ.
@@ -614,6 +722,10 @@ impl State {
                 let undeclared = given.iter().any(|&el| usize::from(el) >= self.links.len());
                 if undeclared && self.is(Fault::LookupParentsDeclared) {
                     return Answer::Refused(5);
+                }
+                let declared = self.types[usize::from(w[2])].parents.len();
+                if given.len() != declared && self.is(Fault::LookupParentsCounted) {
+                    return Answer::Refused(15);
                 }
                 Answer::Typed(self.concrete_type_at(w[2], &given))
             }

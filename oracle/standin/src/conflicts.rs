@@ -30,11 +30,9 @@ impl State {
                 *parent = self.root(*parent);
                 finds += 1;
             }
-            for later in 1..types.len() {
-                let against =
-                    if self.is(Fault::NeighboursConflict) { &types[later - 1] } else { &first };
-                if self.disagree(against, &types[later]) {
-                    conflicts.push((el, against.clone(), types[later].clone()));
+            for later in &types[1..] {
+                if self.disagree(&first, later) {
+                    conflicts.push((el, first.clone(), later.clone()));
                     if !self.is(Fault::OneConflictPerFact) {
                         break;
                     }
@@ -48,9 +46,8 @@ impl State {
     }
 
     fn disagree(&self, a: &Fact, b: &Fact) -> bool {
-        let by_length = self.is(Fault::LengthsConflict) && a.parents.len() != b.parents.len();
         let by_parents = a.parents.iter().zip(&b.parents).any(|(p, q)| p != q);
-        a.typ != b.typ || by_length || (by_parents && !self.is(Fault::ConflictTypesOnly))
+        a.typ != b.typ || (by_parents && !self.is(Fault::ConflictTypesOnly))
     }
 
     /// The finds that a wrong version answers in place of `finds`.
@@ -143,8 +140,6 @@ impl Class {
         let parents = of(self.first());
         match fault {
             FoundForEachLater => parents * self.later().len(),
-            FoundForEachCompared => parents * self.compared().len(),
-            FoundForEachPair => self.compared().iter().map(|fact| self.pairs(fact)).sum(),
             FoundWhenCompared => {
                 self.compared().iter().map(|fact| self.pairs(fact)).max().unwrap_or(0)
             }

@@ -5,7 +5,7 @@ use std::cmp::Ordering;
 use std::fmt;
 
 use crate::faults::Fault;
-use crate::state::{App, Fact, State, Words};
+use crate::state::{App, Fact, Relation, State, Words};
 
 /// A table of a file, in the order of the head.
 #[derive(Copy, Clone, Debug, PartialEq, Eq)]
@@ -217,6 +217,7 @@ fn places(row: &[u8], at: usize) -> (&[u8], usize) {
     (&row[at..at + PLACES], row[at + PLACES].into())
 }
 
+/// The entries of a list. One that is too long has those of its places.
 fn list(row: &[u8], at: usize) -> Vec<u16> {
     let (places, count) = places(row, at);
     places[..count.min(PLACES)].iter().map(|&entry| entry.into()).collect()
@@ -244,6 +245,14 @@ fn record(kind: u16, a: u16, b: u16, parents: &[u16], args: &[u16]) -> Words {
     words[6..6 + parents.len()].copy_from_slice(parents);
     words[10..10 + args.len()].copy_from_slice(args);
     words
+}
+
+/// A call with the counts that the row has, where its lists begin at these places.
+fn with_counts(mut call: Words, row: &[u8], lists: &[usize]) -> Words {
+    for (which, &at) in lists.iter().enumerate() {
+        call[4 + which] = places(row, at).1 as u16;
+    }
+    call
 }
 
 /// The index of each element's first fact, where the facts are of these elements.
@@ -340,19 +349,21 @@ impl Content {
         let mut calls = Vec::new();
         for (row, &el) in self.facts.iter().zip(owners) {
             let Fact { typ, parents } = fact_in(row);
-            calls.push((Facts, record(8, el as u16, typ, &parents, &[])));
+            calls.push((Facts, with_counts(record(8, el as u16, typ, &parents, &[]), row, &[1])));
         }
         for row in &self.func_apps {
             let App { head, parents, args } = app_in(row);
-            calls.push((FuncApps, record(9, head, row[11].into(), &parents, &args)));
+            let call = record(9, head, row[11].into(), &parents, &args);
+            calls.push((FuncApps, with_counts(call, row, &[1, 6])));
         }
         for row in &self.pred_apps {
             let App { head, parents, args } = app_in(row);
-            calls.push((PredApps, record(10, head, 0, &parents, &args)));
+            let call = record(10, head, 0, &parents, &args);
+            calls.push((PredApps, with_counts(call, row, &[1, 6])));
         }
         for row in &self.impositions {
             let (el, Fact { typ, parents }) = imposition_in(row);
-            calls.push((Impositions, record(8, el, typ, &parents, &[])));
+            calls.push((Impositions, with_counts(record(8, el, typ, &parents, &[]), row, &[2])));
         }
         for (table, kind, rows) in
             [(Vars, 11, &self.vars), (Ambients, 12, &self.ambients), (Pairs, 7, &self.pairs)]
@@ -400,9 +411,17 @@ impl State {
             found.push(Trouble::UnstartedSettled);
         }
         let alone = self.with_els_alone(counts[0]);
-        for (table, call) in content.calls(&owners) {
-            if let Some(number) = alone.refusal(&call) {
-                found.push(Trouble::Entry(table, number));
+        let mut before = None;
+        for (table, mut call) in content.calls(&owners) {
+            self.cut_counts(table, &mut call);
+            let is_first = before.replace(table) != Some(table);
+            let is_too_long = call[4..6].iter().any(|&count| usize::from(count) > PLACES);
+            match alone.refusal(&call) {
+                // That was found above.
+                Some(3) if is_too_long => {}
+                Some(15) if self.overlooks_parents(table, is_first, &call) => {}
+                Some(number) => found.push(Trouble::Entry(table, number)),
+                None => {}
             }
         }
         if content.links.iter().enumerate().any(|(el, &link)| usize::from(link) > el) {
@@ -754,13 +773,41 @@ impl State {
         }
     }
 
+    /// Takes a list that is too long for one of four, where the fault does.
+    fn cut_counts(&self, table: Table, call: &mut Words) {
+        for which in [0, 1] {
+            if self.overlooks(Trouble::ListCount(table, which)) {
+                call[4 + which] = call[4 + which].min(PLACES as u16);
+            }
+        }
+    }
+
+    /// Whether the fault does not see that this fact or imposition has another number of
+    /// parents than its type.
+    fn overlooks_parents(&self, table: Table, is_first: bool, call: &Words) -> bool {
+        use Fault::*;
+        let declared = self.types.get(usize::from(call[3])).map_or(0, |typ| typ.parents.len());
+        let is_fewer = usize::from(call[4]) < declared;
+        match self.fault {
+            Some(FewerFactParentsLoad) => table == Facts && is_fewer,
+            Some(MoreFactParentsLoad) => table == Facts && !is_fewer,
+            Some(FewerImpositionParentsLoad) => table == Impositions && is_fewer,
+            Some(MoreImpositionParentsLoad) => table == Impositions && !is_fewer,
+            Some(FirstFactCounted) => table == Facts && !is_first,
+            Some(FirstImpositionCounted) => table == Impositions && !is_first,
+            _ => false,
+        }
+    }
+
     fn number_of(&self, trouble: Trouble, file: &[u8]) -> u16 {
         let is_over = || {
             let counts = if file.len() < HEAD { Vec::new() } else { head(file) };
             counts.iter().zip(TABLES).any(|(&count, (_, most, _))| count > most)
         };
+        let is_of_parents = matches!(trouble, Trouble::Entry(_, 15));
         match (self.fault, trouble.number()) {
             (Some(Fault::ThirteenForFourteen), 14) => 13,
+            (Some(Fault::FifteenForFourteen), 14) if is_of_parents => 15,
             (Some(Fault::FourteenForThirteen), 13) => 14,
             (Some(Fault::FourteenFirst), 13) if is_over() => 14,
             (Some(Fault::NoHeadIsFourteen), 13) if file.len() < HEAD => 14,
@@ -844,6 +891,10 @@ impl State {
             let (places, count) = places(row, at);
             places[..count.min(PLACES)].iter().any(|&el| off_root(el))
         };
+        let has_other_parents = |relations: &[Relation], rows: &[Vec<u8>]| {
+            let of = |row: &[u8]| relations.get(usize::from(row[0]));
+            rows.iter().any(|row| of(row).is_none_or(|of| of.parents.len() != places(row, 1).1))
+        };
         let any = |rows: &[Vec<u8>], is: &dyn Fn(&Vec<u8>) -> bool| rows.iter().any(is);
         let is_refused = match fault {
             StaleKeyRefused => {
@@ -870,6 +921,8 @@ impl State {
             PairInItselfRefused => any(&content.pairs, &|row| row[0] == row[1]),
             PairsRefused => !content.pairs.is_empty(),
             SettledPairsRefused => content.settled == 1 && !content.pairs.is_empty(),
+            FileFuncParentsCounted => has_other_parents(&self.funcs, &content.func_apps),
+            FilePredParentsCounted => has_other_parents(&self.preds, &content.pred_apps),
             UnstartedRefused => content.started == 0,
             LoadAfterStartRefused => self.begun,
             _ => false,

@@ -88,9 +88,12 @@ fn run_sheet(mut state: State, bytes: &[u8], dumps: bool, out: &mut String) {
         }
         let other_call = record[1] > 15 && !state.is(Fault::CallKindsInSheets);
         let answer = if other_call { Answer::Refused(3) } else { state.call(record) };
+        let goes_on = state.is(Fault::SheetGoesOnAtFifteen);
         if let Answer::Refused(number) = answer {
-            *out += &format!("refused {number} at {at}\n");
-            return;
+            if number != 15 || !goes_on {
+                *out += &format!("refused {number} at {at}\n");
+                return;
+            }
         }
         let prints = match answer {
             Answer::Closed(_) | Answer::Conflicts(_) => true,

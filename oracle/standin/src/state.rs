@@ -184,11 +184,8 @@ impl State {
     }
 
     fn fact_order(&self, a: &Fact, b: &Fact) -> Ordering {
-        let first = match self.fault {
-            Some(Fault::ShorterFirst) => (a.typ, a.parents.len()).cmp(&(b.typ, b.parents.len())),
-            Some(Fault::ParentsFirst) => a.parents.cmp(&b.parents),
-            _ => Ordering::Equal,
-        };
+        let first =
+            if self.is(Fault::ParentsFirst) { a.parents.cmp(&b.parents) } else { Ordering::Equal };
         first.then_with(|| a.cmp(b))
     }
 

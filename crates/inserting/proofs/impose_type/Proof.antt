@@ -5,7 +5,7 @@ use mathlib.Core.List.{List, [], _∷_, _++_}
 use lib.ListN.{length}
 use lib.Dec.{leb}
 use borrow.Author.Tests.{leb-false}
-use Rattle.ids.specs.Answers.{Cause, _if_, malformed, undeclared, noRoom}
+use Rattle.ids.specs.Answers.{Cause, _if_, malformed, undeclared, wrongParentCount, noRoom}
 use Rattle.ids.specs.Limits.{maxList}
 use Rattle.ids.specs.Ids.{tooLong, givenEls}
 use Rattle.ids.specs.Judge.{verdictOf}
@@ -19,7 +19,7 @@ use Rattle.unification.specs.Roots.{linksOf}
 use Rattle.signature.specs.Model.{Sig, sigOf}
 use Rattle.semantics.specs.Structure as model
 use Rattle.semantics.specs.Structure.{fact, maxImpositions, canonicalFact, with-impositions}
-use Rattle.semantics.specs.Calls.{isImposed, impositionCauses, withImposition, impose-type, says, impositionRule, rule, acceptance}
+use Rattle.semantics.specs.Calls.{isImposed, hasItsParents, impositionCauses, withImposition, impose-type, says, impositionRule, rule, acceptance}
 use Rattle.semantics.proofs.Judged.{step-refuses}
 use Rattle.facts.specs.View.{factOf, givenFact, impositionsOf}
 use Rattle.structure.specs.View.{structureOf}
@@ -30,11 +30,11 @@ use borrow.Author.Needs.{needs}
 use Rattle.inserting.proofs.impose_type.Statement.{statement}
 use Rattle.inserting.proofs.impose_type.Tie as tie
 
-abbrev sized : tie.After-refuse-if3 → tie.After-size
-sized c = c .before .before .before .before .before .before
+abbrev sized : tie.After-refuse-if4 → tie.After-size
+sized c = c .before .before .before .before .before .before .before .before
 
-abbrev start : tie.After-refuse-if3 → tie.Start
-start c = sized c .before .before .before .before .before
+abbrev start : tie.After-refuse-if4 → tie.Start
+start c = sized c .before .before .before .before .before .before
 
 -- the parents are held as they were given unless they are too long
 given : (c : tie.Start) → let f = c .args .fact in tooLong (givenEls (f .ct .parents)) ≡ false → givenFact f ≡ factOf f
@@ -44,7 +44,7 @@ given c short =
     λ i. fact (f .el .0) (f .ct .typ .0) (held-els (f .ct .parents) four short .same i)
 
 -- whether the entry is queued
-queued : (c : tie.After-refuse-if3) → let a = start c .args in
+queued : (c : tie.After-refuse-if4) → let a = start c .args in
     sized c .before .contains .result
     ≡ isImposed (canonicalFact (linksOf (a .structure .unification)) (factOf (a .fact))) (impositionsOf (a .structure .«pending_type_impositions»))
 queued c =
@@ -56,22 +56,27 @@ queued c =
 abbrev later : Sig → model.Structure → model.Fact → List Cause
 later g s f =
     undeclared if not (factDeclared g s f)
+    ∷ wrongParentCount if not (hasItsParents (g .types) f)
     ∷ noRoom if (not (isImposed (canonicalFact (s .links) f) (s .impositions)) && leb maxImpositions (length (s .impositions)))
     ∷ []
 
 -- the verdict, as the causes decide it
-so-far : (c : tie.After-refuse-if3) → let a = start c .args in
-    SoFar (verdictOf (c .refuse-if3 .result)) (impositionCauses (sigOf (a .signature)) (structureOf (a .structure)) (givenFact (a .fact)))
+so-far : (c : tie.After-refuse-if4) → let a = start c .args in
+    SoFar (verdictOf (c .refuse-if4 .result)) (impositionCauses (sigOf (a .signature)) (structureOf (a .structure)) (givenFact (a .fact)))
 unfolding impositionCauses
 so-far c =
     let a = start c .args in
-    let first = c .before .before .before in
-    let full = c .before .and .ensures ∙ (λ i. not (queued c i) && leb maxImpositions (sized c .size .ensures .is i)) in
+    let third = c .before in
+    let second = third .before in
+    let first = second .before in
+    let counted = first .before .before in
+    let full = counted .before .before .and .ensures ∙ (λ i. not (queued c i) && leb maxImpositions (sized c .size .ensures .is i)) in
     let s1 = judge malformed begin (first .refuse-if .ensures) (first .before .is-too-long .ensures) in
-    let s2 = judge undeclared s1 (c .before .before .refuse-if2 .ensures) (ap not (first .before .before .fact-is-declared .ensures)) in
-    let s3 = judge noRoom s2 (c .refuse-if3 .ensures) full in
+    let s2 = judge undeclared s1 (second .refuse-if2 .ensures) (ap not (counted .before .fact-is-declared .ensures)) in
+    let s3 = judge wrongParentCount s2 (third .refuse-if3 .ensures) (ap not (counted .has-its-parents .ensures)) in
+    let s4 = judge noRoom s3 (c .refuse-if4 .ensures) full in
     record {
-      is = s3 .is ∙ behind malformed _ (givenFact (a .fact)) (factOf (a .fact)) (later (sigOf (a .signature)) (structureOf (a .structure))) (given (start c));
+      is = s4 .is ∙ behind malformed _ (givenFact (a .fact)) (factOf (a .fact)) (later (sigOf (a .signature)) (structureOf (a .structure))) (given (start c));
     }
 
 returns : tie.Need-returns
@@ -96,7 +101,7 @@ returns-3 c =
     let imps = impositionsOf (s .«pending_type_impositions») in
     let absent = told (queued judged) (c .before .before .if1 .left) in
     held-accepts impose-type _ (so-far judged) (ap verdictOf (asked .enum-told .given .1)) (λ none. given (start judged) (none .0)) (λ none.
-    let room = leb-false maxImpositions (length imps) (sym (and-then (not-false absent) refl) ∙ none .1 .1 .0) in
+    let room = leb-false maxImpositions (length imps) (sym (and-then (not-false absent) refl) ∙ none .1 .1 .1 .0) in
     let pushed = c .before .push .ensures .0 ∙ push-room maxImpositions imps _ room
     ∙ ap (λ (f : model.Fact). imps ++ (f ∷ [])) (sized judged .before .before .canonical-fact .ensures) in
     accepts _ (c .accept2 .ensures _) (ap says (sym (not-false absent)))
@@ -106,6 +111,8 @@ pub impose-type-spec : {M : Type 1} → statement M
 impose-type-spec =
     tie.close
     (tie.spec
+    (λ c κs. search needs)
+    (λ c κs. search needs)
     (λ c κs. search needs)
     (λ c κs. search needs)
     (λ c κs. search needs)
