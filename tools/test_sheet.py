@@ -571,20 +571,20 @@ class Samples(unittest.TestCase):
         self.assertEqual((crate / "stdin").read_bytes(), (SAMPLES / "three-pages.sheet").read_bytes())
         self.assertEqual((crate / "stdout").read_bytes(), (SAMPLES / "three-pages.out").read_bytes())
 
-    def test_p2_is_that_of_document_01(self):
+    def test_p2_is_that_of_the_documents(self):
         self.assertEqual((SAMPLES / "p2.sheet").read_bytes(), pack(P2))
         self.assertEqual((SAMPLES / "p2.out").read_text(),
-                         "close 1 1 2\nconflict 2 1 0 / 1 1\nconflicts 1\nend 12\n")
+                         "close 1 1 2 2\nconflict 2 1 0 / 1 1\nconflicts 1\nend 12\n")
 
-    def test_closes_of_p1_and_p5_are_those_of_document_01(self):
-        self.assertEqual((SAMPLES / "p1.out").read_text(), "close 0 0 1\nend 1\n")
+    def test_closes_of_p1_and_p5_are_those_of_the_documents(self):
+        self.assertEqual((SAMPLES / "p1.out").read_text(), "close 0 0 1 0\nend 1\n")
         self.assertEqual((SAMPLES / "p5.out").read_text(),
-                         "close 1 1 2\nclose 1 1 3\nclose 0 0 1\nend 15\n")
+                         "close 1 1 2 3\nclose 1 1 3 0\nclose 0 0 1 0\nend 15\n")
 
     def test_the_transfer_box(self):
         """Four names are joined by the laws of maps, and bearing-8 is in two sets."""
         self.assertEqual((SAMPLES / "transfer-box.out").read_text(),
-                         "close 1 4 3\nclose 0 0 1\nconflict 12 2 0 / 2 2\nconflicts 1\nend 37\n")
+                         "close 1 4 3 14\nclose 0 0 1 0\nconflict 12 2 0 / 2 2\nconflicts 1\nend 37\n")
         self.assertEqual((SAMPLES / "refused-identity.out").read_text(), "refused 12 at 11\n")
 
     def test_parents(self):
@@ -596,7 +596,7 @@ class Samples(unittest.TestCase):
         text = sheet.disassemble((SAMPLES / "refused-parents.sheet").read_bytes())
         index, = re.findall(r"# (\d+): 't1' has 2 parents, 1 given: refused with 15$", text, re.MULTILINE)
         self.assertEqual((SAMPLES / "refused-parents.out").read_text(),
-                         f"close 1 0 1\nrefused 15 at {index}\n")
+                         f"close 1 0 1 1\nrefused 15 at {index}\n")
 
     def test_a_settle_stands_for_the_closes(self):
         """The samples told with a settle are the others but for how they close."""
@@ -740,8 +740,8 @@ class Script(unittest.TestCase):
 
     def test_the_last_line_decides(self):
         (self.root / "a.sheet").write_bytes(b"sheet\n")
-        for lines, code in (("close 0 0 1\nend 1\n", 0), ("refused 5 at 3\n", 0), ("", 1),
-                            ("close 0 0 1\n", 1), ("end 1\nclose 0 0 1\n", 1), ("ends\n", 1)):
+        for lines, code in (("close 0 0 1 0\nend 1\n", 0), ("refused 5 at 3\n", 0), ("", 1),
+                            ("close 0 0 1 0\n", 1), ("end 1\nclose 0 0 1 0\n", 1), ("ends\n", 1)):
             with self.subTest(lines=lines):
                 self.program(f"cat >/dev/null; printf '{lines}'".replace("\n", "\\n"))
                 self.assertEqual(self.run_script("a.sheet")[:2], (code, lines.encode()))

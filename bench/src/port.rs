@@ -6,8 +6,8 @@ use oracle::timing::{CLOSE, CONFLICTS, SETTLE};
 
 use crate::clock;
 
-/// Builds the sheet or the list of so many bytes once and makes the call so many times; the four words get the numbers of its answer,
-/// at most three, and the last that was read of what the calls returned.
+/// Builds the sheet or the list of so many bytes once and makes the call so many times; words 0, 1, 2 and 4 get the numbers of its
+/// answer, and word 3 the last that was read of what the calls returned.
 type Calls = unsafe extern "C" fn(*const u8, usize, u64, *mut u64);
 
 extern "C" {
@@ -55,21 +55,21 @@ impl Call {
         }
     }
 
-    fn run(self, sheet: &[u8], times: u64) -> ([u64; 4], Duration) {
-        let mut out = [0; 4];
+    fn run(self, sheet: &[u8], times: u64) -> ([u64; 5], Duration) {
+        let mut out = [0; 5];
         let start = clock::now();
-        // SAFETY: the bytes and the four words are lent for the call, and the proved function stays within them.
+        // SAFETY: the bytes and the five words are lent for the call, and the proved function stays within them.
         unsafe { self.function()(sheet.as_ptr(), sheet.len(), times, out.as_mut_ptr()) };
         (out, clock::now() - start)
     }
 
     /// The line that one call prints, of several the last.
     pub fn line(self, sheet: &[u8]) -> String {
-        let [first, second, third, _] = self.run(sheet, 1).0;
+        let [first, second, third, _, last] = self.run(sheet, 1).0;
         match self {
             Call::Settle => format!("settle {first} {second}"),
             Call::Conflicts => format!("conflicts {first} {second}"),
-            Call::Close | Call::Nothing => format!("close {first} {second} {third}"),
+            Call::Close | Call::Nothing => format!("close {first} {second} {third} {last}"),
             Call::Store | Call::Load => format!("{first} bytes"),
         }
     }

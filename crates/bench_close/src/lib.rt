@@ -55,6 +55,7 @@ fn nothing(structure: Structure, signature: Signature, more: u16) -> Stepped {
         changed: false,
         merges: 0,
         rounds: 1,
+        added: 0,
     });
     Stepped {
         answer,
@@ -62,13 +63,14 @@ fn nothing(structure: Structure, signature: Signature, more: u16) -> Stepped {
     }
 }
 
-// Changed, merges and rounds, or closes, merges and 0; a refusal's number with 2 for changed.
-fn report(answer: Answer, out: &mut [u64; 4]) {
+// Changed, merges, rounds and, last, facts added; or closes and merges; a refusal's number with 2 for changed.
+fn report(answer: Answer, out: &mut [u64; 5]) {
     match answer {
         Answer::Closed(c) => {
             out[0] = if c.changed { 1 } else { 0 };
             out[1] = c.merges;
             out[2] = c.rounds;
+            out[4] = c.added;
         }
         Answer::Summed(t) => {
             out[0] = t.closes;
@@ -135,7 +137,7 @@ fn read_of(s: Structure, at: usize) -> u16 {
 }
 
 // A number out of the structure and the answer, so that both are used.
-fn keep(stepped: Stepped, i: u64, out: &mut [u64; 4]) {
+fn keep(stepped: Stepped, i: u64, out: &mut [u64; 5]) {
     let most = Structure::MAX_FACTS as u64;
     let at = (out[3] % most + i % most) as usize;
     let read = read_of(stepped.structure, at);
@@ -170,7 +172,7 @@ fn part_of_conflicts(conflicts: TypeConflicts, at: usize) -> u16 {
 }
 
 // A number out of the structure and one out of the conflicts, so that both are used; and how many conflicts and finds there are.
-fn keep_report(reported: Conflicting, i: u64, out: &mut [u64; 4]) {
+fn keep_report(reported: Conflicting, i: u64, out: &mut [u64; 5]) {
     let most = Structure::MAX_FACTS as u64;
     let at = (out[3] % most + i % most) as usize;
     let read = read_of(reported.structure, at);
@@ -184,7 +186,7 @@ fn keep_report(reported: Conflicting, i: u64, out: &mut [u64; 4]) {
 // Builds the sheet once and closes it so many times. What is read of one result says where the next one is read, and is a
 // flag of the next structure given, which no close and no settle looks at: so no close, and nothing that it returns, can be left out.
 #[no_mangle]
-pub extern "C" fn bench_close(bytes: &[u8], times: u64, out: &mut [u64; 4]) {
+pub extern "C" fn bench_close(bytes: &[u8], times: u64, out: &mut [u64; 5]) {
     let run = build(bytes, CLOSE);
     let signature = run.signature;
     let mut structure = run.structure;
@@ -197,7 +199,7 @@ pub extern "C" fn bench_close(bytes: &[u8], times: u64, out: &mut [u64; 4]) {
 
 // The same with settles.
 #[no_mangle]
-pub extern "C" fn bench_settle(bytes: &[u8], times: u64, out: &mut [u64; 4]) {
+pub extern "C" fn bench_settle(bytes: &[u8], times: u64, out: &mut [u64; 5]) {
     let run = build(bytes, SETTLE);
     let signature = run.signature;
     let mut structure = run.structure;
@@ -210,7 +212,7 @@ pub extern "C" fn bench_settle(bytes: &[u8], times: u64, out: &mut [u64; 4]) {
 
 // The same with conflict reports. The flag here is `settled`, which a report hands on as given.
 #[no_mangle]
-pub extern "C" fn bench_conflicts(bytes: &[u8], times: u64, out: &mut [u64; 4]) {
+pub extern "C" fn bench_conflicts(bytes: &[u8], times: u64, out: &mut [u64; 5]) {
     let run = build(bytes, CONFLICTS);
     let mut structure = run.structure;
     for i in 0..times {
@@ -222,7 +224,7 @@ pub extern "C" fn bench_conflicts(bytes: &[u8], times: u64, out: &mut [u64; 4]) 
 
 // The same with closes that do nothing. The last word of a record is 0, which the compiler does not know.
 #[no_mangle]
-pub extern "C" fn bench_nothing(bytes: &[u8], times: u64, out: &mut [u64; 4]) {
+pub extern "C" fn bench_nothing(bytes: &[u8], times: u64, out: &mut [u64; 5]) {
     let run = build(bytes, CLOSE);
     let signature = run.signature;
     let first = records::record_in(bytes, 0);
@@ -237,7 +239,7 @@ pub extern "C" fn bench_nothing(bytes: &[u8], times: u64, out: &mut [u64; 4]) {
 }
 
 // How many bytes were stored, and a byte of the file; which one is known only when the program runs.
-fn keep_stored(stored: Stored, file: &[u8; File::MAX_BYTES], i: u64, out: &mut [u64; 4]) {
+fn keep_stored(stored: Stored, file: &[u8; File::MAX_BYTES], i: u64, out: &mut [u64; 5]) {
     if let Stored::Bytes(n) = stored {
         out[0] = n as u64;
     }
@@ -251,7 +253,7 @@ fn wide(b: u8) -> u64 {
 }
 
 // How many bytes were loaded, those of the longest file, and a number out of the structure; of a refusal its number.
-fn keep_loaded(loading: Loading, i: u64, out: &mut [u64; 4]) {
+fn keep_loaded(loading: Loading, i: u64, out: &mut [u64; 5]) {
     let most = Structure::MAX_FACTS as u64;
     let at = (out[3] % most + i % most) as usize;
     let structure = loading.structure;
@@ -280,7 +282,7 @@ fn load_whole(signature: Signature, file: &[u8; File::MAX_BYTES]) -> Loading {
     loading::load(signature, all)
 }
 
-fn store_once(structure: Structure, i: u64, out: &mut [u64; 4]) {
+fn store_once(structure: Structure, i: u64, out: &mut [u64; 5]) {
     let mut file = [0u8; File::MAX_BYTES];
     let stored = storing::store(structure, &mut file);
     keep_stored(stored, &file, i, out);
@@ -288,7 +290,7 @@ fn store_once(structure: Structure, i: u64, out: &mut [u64; 4]) {
 
 // What a list of calls leaves, stored so many times. `settled` of the structure given is what was read of the file before.
 #[no_mangle]
-pub extern "C" fn bench_store(bytes: &[u8], times: u64, out: &mut [u64; 4]) {
+pub extern "C" fn bench_store(bytes: &[u8], times: u64, out: &mut [u64; 5]) {
     let ran = driver::run(bytes);
     let run = ran.machine;
     let mut structure = run.structure;
@@ -302,7 +304,7 @@ fn load_times(
     signature: Signature,
     file: &mut [u8; File::MAX_BYTES],
     times: u64,
-    out: &mut [u64; 4],
+    out: &mut [u64; 5],
 ) {
     for i in 0..times {
         set_settled(file, out[3]);
@@ -314,7 +316,7 @@ fn load_times(
 // The file of what a list of calls leaves, of the longest that there are, loaded so many times. Its byte for settled is what was read of the
 // structure before.
 #[no_mangle]
-pub extern "C" fn bench_load(bytes: &[u8], times: u64, out: &mut [u64; 4]) {
+pub extern "C" fn bench_load(bytes: &[u8], times: u64, out: &mut [u64; 5]) {
     let ran = driver::run(bytes);
     let run = ran.machine;
     let signature = run.signature;

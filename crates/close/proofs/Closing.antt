@@ -155,11 +155,11 @@ module _ (g : Sig) {s : code.Structure} {before now : Lent} {apps apps' predicat
     -- the call is accepted
     pub accepts : after .counts .met ≡ 0 → {changed : Bool} → changed ≡ (ltb 1 ran || ltb (workOf (now .counts)) (workOf (after .counts)))
         → {t : model.Structure} → t ≡ afterClose (close-run made (coreOf after)) (structureOf s)
-        → answers (closed (report changed (after .counts .merges) ran)) (machine g (leaves true (closed (report changed (after .counts .merges) ran)) t))
-        ≡ step calls.close (machine g (structureOf s))
+        → let c = report changed (after .counts .merges) ran (after .counts .added) in
+        answers (closed c) (machine g (leaves true (closed c) t)) ≡ step calls.close (machine g (structureOf s))
     unfolding rule acceptance closeRule reportOf grew
     accepts h e p =
-        let reports = (λ i. report (e i) (after .counts .merges) ran) ∙ ap reportOf run-is in
+        let reports = (λ i. report (e i) (after .counts .merges) ran (after .counts .added)) ∙ ap reportOf run-is in
         let leaves-it = p ∙ ap (λ (c : closing.CloseRun). afterClose c (structureOf s)) run-is in
         (λ i. answers (closed (reports i)) (machine g (leaves true (closed (reports i)) (leaves-it i))))
         ∙ sym (met-accepts calls.close (machine g (structureOf s)) (closeRun g (structureOf s) .core .met) refl (sym met-is ∙ met-none h))

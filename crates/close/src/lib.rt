@@ -86,6 +86,7 @@ pub fn close(structure: Structure, signature: Signature) -> Stepped
         changed,
         merges: counts.merges,
         rounds: ran.rounds,
+        added: counts.added,
     };
     let number = counts.met;
     if number != 0 {

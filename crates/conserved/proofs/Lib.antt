@@ -3,3 +3,4 @@ pub mod Composed
 pub mod Lent
 pub mod Parked
 pub mod Settled
+pub mod Counted

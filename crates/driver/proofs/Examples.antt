@@ -58,8 +58,8 @@ pub record Worked (kind : ℕ) (k : Call) (a : Answer) (cs : List Closed) : Type
   pub ends : Ends (callsIn (worked kind)) cs
   pub unmarked : anyMarked (history (callsIn (worked kind)) .book .marks) ≡ false
 
--- a close: "close 1 1 2"
-pub with-close : Worked 13 close (closed (report true 1 2)) (report true 1 2 ∷ [])
+-- a close: "close 1 1 2 0"
+pub with-close : Worked 13 close (closed (report true 1 2 0)) (report true 1 2 0 ∷ [])
 unfolding computed
 with-close = record {
   calls = refl;
@@ -69,8 +69,8 @@ with-close = record {
   unmarked = refl;
 }
 
--- a settle: "settle 2 1", whose closes are "close 1 1 2" and "close 0 0 1"
-pub with-settle : Worked 15 settle (summed (totals 2 1)) (report true 1 2 ∷ report false 0 1 ∷ [])
+-- a settle: "settle 2 1", whose closes are "close 1 1 2 0" and "close 0 0 1 0"
+pub with-settle : Worked 15 settle (summed (totals 2 1)) (report true 1 2 0 ∷ report false 0 1 0 ∷ [])
 unfolding computed
 with-settle = record {
   calls = refl;

@@ -60,8 +60,8 @@ record Worked (k : Call) (cs : List Closed) : Type 0 where
   -- a close after it reports no change
   next-unchanged : step close (after k .machine) .answer ≡ closed noChange
 
--- "close 1 2 3"
-with-close : Worked close (report true 2 3 ∷ [])
+-- "close 1 2 3 2"
+with-close : Worked close (report true 2 3 2 ∷ [])
 unfolding computed worked
 with-close = record {
   ran = closes refl;
@@ -73,8 +73,8 @@ with-close = record {
   next-unchanged = refl;
 }
 
--- "settle 2 2": its closes answer "close 1 2 3" and "close 0 0 1"
-with-settle : Worked settle (report true 2 3 ∷ noChange ∷ [])
+-- "settle 2 2": its closes answer "close 1 2 3 2" and "close 0 0 1 0"
+with-settle : Worked settle (report true 2 3 2 ∷ noChange ∷ [])
 unfolding computed worked
 with-settle = record {
   ran = settles {t = totals 2 2} refl;
@@ -120,13 +120,13 @@ record JoinedByLaw (ks : List Call) (c : Closed) (n x y : ℕ) : Type 0 where
   many : elements (history (ks ++ (close ∷ [])) .book) ≡ n
   same-root : rootOf (history (ks ++ (close ∷ [])) .machine .structure .links) x ≡ rootOf (history (ks ++ (close ∷ [])) .machine .structure .links) y
 
--- "close 1 1 3"
-identities-joined : JoinedByLaw identities (report true 1 3) 3 0 1
+-- "close 1 1 3 3"
+identities-joined : JoinedByLaw identities (report true 1 3 3) 3 0 1
 unfolding computed identities
 identities-joined = record { ran = closes refl; unmarked = refl; many = refl; same-root = refl }
 
--- "close 1 2 3"
-composites-joined : JoinedByLaw composites (report true 2 3) 6 4 5
+-- "close 1 2 3 5"
+composites-joined : JoinedByLaw composites (report true 2 3 5) 6 4 5
 unfolding computed composites
 composites-joined = record { ran = closes refl; unmarked = refl; many = refl; same-root = refl }
 

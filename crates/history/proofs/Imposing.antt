@@ -1,14 +1,14 @@
 -- Facts imposed: without a merge this is plain set insertion, and without a mark there is no merge.
 use mathlib.Core.Path.{_≡_, refl, sym, subst, ap, _∙_}
-use mathlib.Core.Logic.{_≢_}
+use mathlib.Core.Logic.{_≢_, inl, inr}
 use mathlib.Core.Bool.{Bool, true, false, not, _&&_, _||_, and-false}
 use mathlib.Core.List.{List, [], _∷_}
 use mathlib.Core.Option.{Option, none, some}
-use Prim.Native.Nat.{ℕ, _+_, _≤_, _<_}
+use Prim.Native.Nat.{ℕ, _+_, _-_, _≤_, _<_}
 use native.Mathlib.Omega.{arith}
 use lib.ListN.{length}
 use lib.Dec.{eqb, ltb}
-use borrow.Author.Tests.{eqb-false, ltb-false, not-true}
+use borrow.Author.Tests.{eqb-false, ltb-true, ltb-false, lt-ltb, le-ltb, not-true}
 use Rattle.ids.specs.Answers.{tooManyFacts}
 use Rattle.ids.specs.Table.{present, placed}
 use Rattle.ids.proofs.Sorted.{All, placed-there, placed-all}
@@ -16,9 +16,9 @@ use Rattle.unification.specs.Roots.{rootOf}
 use Rattle.unification.proofs.Laws.{root-root}
 use Rattle.semantics.specs.Structure.{Fact, compareFact, canonicalFact, maxFacts, pair}
 use Rattle.semantics.specs.Types.{Core, with-pairs, with-added, with-met, marked, concreteTypesOf, refineRoots, refine, refineParents, refineAll}
-use Rattle.semantics.specs.Types.{insertFact, insertCanonical, impose, imposeAll, grew}
+use Rattle.semantics.specs.Types.{insertFact, insertCanonical, impose, imposeAll, grown, growth, grew}
 use Rattle.semantics.proofs.Orders.{fact-ordered}
-use Rattle.semantics.proofs.Cases.{and-first}
+use Rattle.semantics.proofs.Cases.{test, and-first}
 use Rattle.validity.proofs.Drain.{drain-merges}
 use Rattle.history.proofs.Tables.{present-stays}
 use Rattle.history.proofs.Drain.{Counted, counted-none, counted-then, drain-counted, Unmarked}
@@ -236,7 +236,7 @@ unfolding imposeAll
 imposeAll-counts [] w = omega arith
 imposeAll-counts (f ∷ fs) w = omega (arith, impose-counts f w, imposeAll-counts fs (impose f w))
 
-imposeAll-adds : (fs : List Fact) (w : Core) → w .added ≤ imposeAll fs w .added
+pub imposeAll-adds : (fs : List Fact) (w : Core) → w .added ≤ imposeAll fs w .added
 unfolding imposeAll impose
 imposeAll-adds [] w = omega arith
 imposeAll-adds (f ∷ fs) w =
@@ -249,6 +249,35 @@ unfolding grew
 imposeAll-still fs w e =
     let v = imposeAll fs w in
     omega (arith, ltb-false (w .merges + w .added) (v .merges + v .added) e, imposeAll-counts fs w, imposeAll-adds fs w)
+
+-- What imposing answers (02, M-106): "two counts, merges made and facts added".
+
+-- the Rust's yes, "if a merge happened or the set grew"
+pub grew-growth : (fs : List Fact) (w : Core) → let a = growth w (imposeAll fs w) in grew w (imposeAll fs w) ≡ ltb 0 (a .merges + a .added)
+unfolding grew growth
+grew-growth fs w =
+    let v = imposeAll fs w in
+    let before = w .merges + w .added in
+    let after = v .merges + v .added in
+    let most = imposeAll-counts fs w in
+    let more = imposeAll-adds fs w in
+    elim (test (ltb before after)) [
+      | inl e ↦ e ∙ sym (lt-ltb 0 ((v .merges - w .merges) + (v .added - w .added)) (omega (arith, ltb-true before after e, most, more)))
+      | inr e ↦ e ∙ sym (le-ltb 0 ((v .merges - w .merges) + (v .added - w .added)) (omega (arith, ltb-false before after e, most, more)))
+    ]
+
+-- of a list the answers are summed
+pub growth-sum : (f : Fact) (fs : List Fact) (w : Core) →
+    let a = growth w (impose f w) in
+    let b = growth (impose f w) (imposeAll fs (impose f w)) in
+    growth w (imposeAll (f ∷ fs) w) ≡ grown (a .merges + b .merges) (a .added + b .added)
+unfolding imposeAll growth
+growth-sum f fs w =
+    let v = impose f w in
+    let u = imposeAll fs v in
+    let m : u .merges - w .merges ≡ (v .merges - w .merges) + (u .merges - v .merges) = omega (arith, impose-counts f w, imposeAll-counts fs v) in
+    let n : u .added - w .added ≡ (v .added - w .added) + (u .added - v .added) = omega (arith, imposeAll-adds (f ∷ []) w, imposeAll-adds fs v) in
+    λ i. grown (m i) (n i)
 
 -- nothing was refined
 pub impose-refined : (f : Fact) (w : Core) → impose f w .merges ≡ w .merges

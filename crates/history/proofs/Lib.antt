@@ -21,6 +21,7 @@ pub mod Histories
 pub mod Conservation
 pub mod Images
 pub mod Unchanged
+pub mod NoChange
 pub mod Examples
 pub mod Versions
 pub mod WrongLaws

@@ -2,7 +2,7 @@
 -- structure, marks or not, its applications rewritten or not.
 use mathlib.Core.Path.{_≡_, refl, sym, subst, ap, _∙_}
 use mathlib.Core.Bool.{Bool, true, false, not, _&&_, _||_}
-use mathlib.Core.List.{List, [], _∷_, _++_, map}
+use mathlib.Core.List.{List, [], _∷_, _++_}
 use mathlib.Core.Option.{Option, none, some}
 use Prim.Native.Nat.{ℕ, _<_}
 use native.Mathlib.Omega.{arith}
@@ -18,7 +18,7 @@ use Rattle.unification.proofs.Theorems.{short-formed, short-root}
 use Rattle.signature.specs.Model.{Sig}
 use Rattle.signature.specs.Calls.{typeCauses, predCauses, funcCauses, modelCauses, morAppCauses}
 use Rattle.semantics.specs.Structure.{Fact, FuncApp, PredApp, Pair, pair, Var, Ambient, Structure, empty, compareFact, compareFuncApp, comparePredApp}
-use Rattle.semantics.specs.Structure.{canonicalFact, canonicalFuncApp, fact, with-links, with-marks, with-pairs, with-pred-apps, with-vars}
+use Rattle.semantics.specs.Structure.{canonicalFuncApp, with-links, with-marks, with-pairs, with-pred-apps, with-vars}
 use Rattle.semantics.specs.Structure.{with-ambients}
 use Rattle.semantics.specs.Types.{marked}
 use Rattle.semantics.specs.MapLaws.{mapLaws}
@@ -42,7 +42,7 @@ use Rattle.validity.proofs.Calls.{ValidMachine, step-valid}
 use Rattle.history.specs.Settled.{asserts, isYes, saidYes}
 use Rattle.history.proofs.Counts.{added-root}
 use Rattle.history.proofs.Drain.{WithinClass}
-use Rattle.semantics.proofs.Canonical.{entered, enterAll-alike}
+use Rattle.semantics.proofs.Canonical.{fact-alike, entered, enterAll-alike}
 use Rattle.history.proofs.Unjoined.{Fixed, Unjoined, Safe}
 use Rattle.history.proofs.Operations.{held-alike}
 use Rattle.history.proofs.Passes.{LawsHeld, canonical-no-work}
@@ -52,10 +52,6 @@ use Rattle.history.proofs.SecondClose.{second-close}
 -- Of the links only the roots count, and of the marks only those of the n elements.
 
 module _ (ls ks : List ℕ) (roots : (e : ℕ) → rootOf ks e ≡ rootOf ls e) where
-  fact-alike : (f : Fact) → canonicalFact ks f ≡ canonicalFact ls f
-  unfolding canonicalFact
-  fact-alike f = λ i. fact (roots (f .el) i) (f .typ) (map (λ e. roots e i) (f .parents))
-
   module _ (ms ns : List Bool) (n : ℕ) (marks : (e : ℕ) → e < n → marked ns e ≡ marked ms e) where
     -- the root of an element is an element
     root-marked : (e : ℕ) → e < n → marked ns (rootOf ks e) ≡ marked ms (rootOf ls e)
@@ -71,7 +67,7 @@ module _ (ls ks : List ℕ) (roots : (e : ℕ) → rootOf ks e ≡ rootOf ls e) 
 
     safe-alike : (fs : List Fact) → All (λ f. Below n (f .parents)) fs → (d : Fact) → Below n (d .parents) → Safe ls ms fs d → Safe ks ns fs d
     safe-alike fs below d b s = record {
-      stored = ap (λ (f : Fact). present compareFact f fs) (fact-alike d) ∙ s .stored;
+      stored = ap (λ (f : Fact). present compareFact f fs) (fact-alike ls ks roots d) ∙ s .stored;
       none-joined = all-map (λ f h e t. fixed-alike (f .parents) (d .parents) (h .0) b (h .1 (e ∙ roots (d .el)) t)) fs
           (all-both (λ f. Below n (f .parents)) (λ f. f .el ≡ rootOf ls (d .el) → Unjoined ls ms f d) fs below (s .none-joined));
     }

@@ -72,7 +72,7 @@ unfolding computed shown
 apart = record {
   calls = plainEl ∷ plainEl ∷ [];
   call = close;
-  answers = report false 0 1 ∷ [];
+  answers = report false 0 1 0 ∷ [];
   book = plainBook empty [] [] 0;
   root = 1;
   ran = closes refl;
@@ -85,7 +85,7 @@ unfolding computed shown
 equal = record {
   calls = plainEl ∷ plainEl ∷ equate-els 0 1 ∷ [];
   call = close;
-  answers = report true 1 2 ∷ [];
+  answers = report true 1 2 0 ∷ [];
   book = plainBook empty (pair 0 1 ∷ []) [] 1;
   root = 0;
   ran = closes refl;
@@ -99,7 +99,7 @@ unfolding computed shown
 equal-before = record {
   calls = plainEl ∷ plainEl ∷ equate-els 0 1 ∷ close ∷ [];
   call = close;
-  answers = report false 0 1 ∷ [];
+  answers = report false 0 1 0 ∷ [];
   book = plainBook empty (pair 0 1 ∷ []) [] 1;
   root = 0;
   ran = closes refl;
@@ -113,7 +113,7 @@ unfolding computed shown
 refused-equal = record {
   calls = plainEl ∷ equate-els 0 1 ∷ plainEl ∷ [];
   call = close;
-  answers = report false 0 1 ∷ [];
+  answers = report false 0 1 0 ∷ [];
   book = plainBook empty [] [] 0;
   root = 1;
   ran = closes refl;
@@ -127,7 +127,7 @@ unfolding computed shown
 two-results = record {
   calls = typ plain [] ∷ func [] [] 0 ∷ plainEl ∷ plainEl ∷ app 0 [] [] 0 ∷ app 0 [] [] 1 ∷ [];
   call = close;
-  answers = report true 1 2 ∷ [];
+  answers = report true 1 2 1 ∷ [];
   book = plainBook (constants (constant ∷ [])) [] (func-app 0 [] [] 1 ∷ func-app 0 [] [] 0 ∷ []) 1;
   root = 0;
   ran = closes refl;
@@ -141,7 +141,7 @@ unfolding computed shown
 two-parents = record {
   calls = typ plain [] ∷ func [] [] 0 ∷ plainEl ∷ plainEl ∷ app 0 (0 ∷ []) [] 0 ∷ app 0 (1 ∷ []) [] 1 ∷ [];
   call = close;
-  answers = report true 0 2 ∷ [];
+  answers = report true 0 2 2 ∷ [];
   book = plainBook (constants (constant ∷ [])) [] (func-app 0 (1 ∷ []) [] 1 ∷ func-app 0 (0 ∷ []) [] 0 ∷ []) 0;
   root = 1;
   ran = closes refl;
@@ -155,7 +155,7 @@ unfolding computed shown
 two-functions = record {
   calls = typ plain [] ∷ func [] [] 0 ∷ func [] [] 0 ∷ plainEl ∷ plainEl ∷ app 0 [] [] 0 ∷ app 1 [] [] 1 ∷ [];
   call = close;
-  answers = report true 0 2 ∷ [];
+  answers = report true 0 2 2 ∷ [];
   book = plainBook (constants (constant ∷ constant ∷ [])) [] (func-app 1 [] [] 1 ∷ func-app 0 [] [] 0 ∷ []) 0;
   root = 1;
   ran = closes refl;
@@ -169,7 +169,7 @@ unfolding computed shown
 two-lengths = record {
   calls = typ plain [] ∷ func [] [] 0 ∷ plainEl ∷ plainEl ∷ app 0 [] [] 0 ∷ app 0 [] (0 ∷ []) 1 ∷ [];
   call = close;
-  answers = report true 0 2 ∷ [];
+  answers = report true 0 2 2 ∷ [];
   book = plainBook (constants (constant ∷ [])) [] (func-app 0 [] (0 ∷ []) 1 ∷ func-app 0 [] [] 0 ∷ []) 0;
   root = 1;
   ran = closes refl;
@@ -183,7 +183,7 @@ unfolding computed shown
 marked-parent = record {
   calls = typ model [] ∷ typ plain (0 ∷ []) ∷ plainEl ∷ markedEl ∷ impose 0 1 (0 ∷ []) ∷ impose 0 1 (1 ∷ []) ∷ [];
   call = close;
-  answers = report true 1 1 ∷ [];
+  answers = report true 1 1 1 ∷ [];
   book = book (sig (type-entry model [] ∷ type-entry plain (0 ∷ []) ∷ []) [] [] [] []) (false ∷ true ∷ []) [] [] 1;
   root = 0;
   ran = closes refl;
@@ -197,7 +197,7 @@ unfolding computed shown
 equal-settled = record {
   calls = plainEl ∷ plainEl ∷ equate-els 0 1 ∷ [];
   call = settle;
-  answers = report true 1 2 ∷ noChange ∷ [];
+  answers = report true 1 2 0 ∷ noChange ∷ [];
   book = plainBook empty (pair 0 1 ∷ []) [] 1;
   root = 0;
   ran = settles {t = totals 2 1} refl;
@@ -211,7 +211,7 @@ unfolding computed shown
 functions-settled = record {
   calls = typ plain [] ∷ func [] [] 0 ∷ func [] [] 0 ∷ plainEl ∷ plainEl ∷ app 0 [] [] 0 ∷ app 1 [] [] 1 ∷ [];
   call = settle;
-  answers = report true 0 2 ∷ noChange ∷ [];
+  answers = report true 0 2 2 ∷ noChange ∷ [];
   book = plainBook (constants (constant ∷ constant ∷ [])) [] (func-app 1 [] [] 1 ∷ func-app 0 [] [] 0 ∷ []) 0;
   root = 1;
   ran = settles {t = totals 2 0} refl;
@@ -227,7 +227,7 @@ unfolding computed shown
 identity-cod = record {
   calls = signature102 ++ (plainEl ∷ plainEl ∷ identity 0 0 ∷ cod 0 1 ∷ []);
   call = close;
-  answers = report true 1 3 ∷ [];
+  answers = report true 1 3 3 ∷ [];
   book = mapsBook idApps;
   root = 0;
   ran = closes refl;
@@ -241,7 +241,7 @@ unfolding computed shown
 composite-cod = record {
   calls = signature102 ++ (plainEl ∷ plainEl ∷ composite 0 1 0 ∷ cod 1 0 ∷ cod 0 1 ∷ []);
   call = close;
-  answers = report true 1 3 ∷ [];
+  answers = report true 1 3 4 ∷ [];
   book = mapsBook codApps;
   root = 0;
   ran = closes refl;
@@ -255,7 +255,7 @@ unfolding computed shown
 composite-middle = record {
   calls = signature102 ++ (plainEl ∷ plainEl ∷ composite 0 0 0 ∷ cod 0 0 ∷ dom 0 1 ∷ []);
   call = close;
-  answers = report true 1 3 ∷ [];
+  answers = report true 1 3 3 ∷ [];
   book = mapsBook middleApps;
   root = 0;
   ran = closes refl;
@@ -269,7 +269,7 @@ unfolding computed shown
 composite-replaced = record {
   calls = signature102 ++ (downFrom 4 (λ n. plainEl) ++ (composite 1 1 0 ∷ dom 2 0 ∷ dom 3 1 ∷ equate-els 1 2 ∷ equate-els 0 3 ∷ []));
   call = close;
-  answers = report true 3 3 ∷ [];
+  answers = report true 3 3 4 ∷ [];
   book = exactBook;
   root = 0;
   ran = closes refl;
@@ -283,7 +283,7 @@ unfolding computed shown
 composite-chain = record {
   calls = signature102 ++ (downFrom 6 (λ n. plainEl) ++ (composite 0 4 3 ∷ composite 1 4 0 ∷ composite 2 4 1 ∷ dom 2 5 ∷ []));
   call = close;
-  answers = report true 0 4 ∷ [];
+  answers = report true 0 4 6 ∷ [];
   book = book maps (false ∷ false ∷ false ∷ false ∷ false ∷ false ∷ []) []
       (func-app 0 [] (2 ∷ []) 5 ∷ func-app 3 [] (2 ∷ 4 ∷ []) 1 ∷ func-app 3 [] (1 ∷ 4 ∷ []) 0 ∷ func-app 3 [] (0 ∷ 4 ∷ []) 3 ∷ []) 0;
   root = 1;

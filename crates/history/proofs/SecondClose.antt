@@ -124,9 +124,9 @@ module _ (g : Sig) (preds : List PredApp) where
 
 -- A close that does nothing.
 
--- "close 0 0 1"
+-- "close 0 0 1 0"
 abbrev pub noChange : Closed
-noChange = report false 0 1
+noChange = report false 0 1 0
 
 -- what the first round of a close begins with
 abbrev begun : Structure → Turn
@@ -193,15 +193,22 @@ module _ (g : Sig) (s : Structure) where
         (decided-accepts (refusing s) (accepting (reportOf c) (afterClose c s)) (close-first c ∙ idle-met))
         ∙ ap (λ (c : Closed). accepted c) idle-report
 
-  -- conversely: such a close is one round, which reports no work, and impositions that are all answered with no
+  -- a close that reports no change is one round, which reports no work ..
+  pub first-unworked : closeRun g s .core .met ≡ none → reportOf (closeRun g s) .changed ≡ false → first .worked ≡ false
+  unfolding closeRun imposedAfter reportOf rounds fuel
+  first-unworked m e =
+      let more = ltb 1 (r .count) in
+      let same = imposeAll-same (s .impositions) (r .core) (or-second more (grew (r .core) w) e) m in
+      only-unworked g (s .pred-apps) fuel (omega arith) first (ltb-false 1 (r .count) (or-first more (grew (r .core) w) e)) (ap (λ (v : Core). v .met) (sym same) ∙ m)
+
+  -- .. and impositions that are all answered with no
   was-idle : closeRun g s .core .met ≡ none → reportOf (closeRun g s) .changed ≡ false → Idle g s
   unfolding closeRun imposedAfter reportOf coreAtStart rounds fuel lastRound
   was-idle m e =
       let more = ltb 1 (r .count) in
       let same = imposeAll-same (s .impositions) (r .core) (or-second more (grew (r .core) w) e) m in
       let met = ap (λ (v : Core). v .met) (sym same) ∙ m in
-      let few = ltb-false 1 (r .count) (or-first more (grew (r .core) w) e) in
-      let unworked = only-unworked g (s .pred-apps) fuel (omega arith) first few met in
+      let unworked = first-unworked m e in
       let one : r .core ≡ first .core = ap (λ (x : Rounds). x .core) (stop g (s .pred-apps) fuel first unworked) in
       let no-work = round-was-idle g (s .pred-apps) (s .func-apps) (coreAtStart s) unworked (ap (λ (v : Core). v .met) (sym one) ∙ met) in
       let safe = subst (λ (v : Core). All (Safe (v .links) (v .marks) (v .facts)) (s .impositions)) one (same-safe (s .impositions) (r .core) same m) in
@@ -292,7 +299,7 @@ next-settles m u =
     settle-by m (λ (t : Step). t .answer ≡ summed (totals 1 0)) (λ e. ap (λ (r : SettleRun). summed (sumsOf (r .reports))) one)
     (λ n e. none-some (sym (ap (λ (r : SettleRun). r .met) one) ∙ e))
 
--- of a valid structure, "close C 0 R" is followed by "close 0 0 1"
+-- of a valid structure, "close C 0 R F" is followed by "close 0 0 1 0"
 pub second-close : (m : Machine) (c : Closed) → Valid (m .sig) (m .structure) → step calls.close m .answer ≡ closed c → c .merges ≡ 0
     → NextUnchanged (step calls.close m .after)
 unfolding leaves

@@ -171,7 +171,7 @@ unfolding afterCalls
 calls-settled-unchanged [] m v h = h
 calls-settled-unchanged (k ∷ ks) m v h = calls-settled-unchanged ks (step k m .after) (step-valid k m v) (step-settled-unchanged k m v h)
 
--- "the next close then reports no change": it is accepted, with no merge and in one round, and so is a settle, of this one close
+-- "the next close then reports no change": it is accepted, with no merge, in one round and with no new fact, and so is a settle, of this one close
 pub record NothingToClose (m : Machine) : Type 0 where
   pub closes : step close m .answer ≡ closed noChange
   pub settles : step settle m .answer ≡ summed (totals 1 0)

@@ -13,11 +13,11 @@ use Rattle.ids.proofs.Sorted.{All, all-at, all-from, all-map, no-test, present-
 use Rattle.unification.specs.Roots.{rootOf}
 use Rattle.unification.proofs.Numbers.{same-or}
 use Rattle.unification.proofs.Laws.{root-root}
-use Rattle.semantics.specs.Structure.{Fact, compareFact, canonicalFact, fact}
+use Rattle.semantics.specs.Structure.{Fact, compareFact, canonicalFact}
 use Rattle.semantics.specs.Types.{Core, marked, factsAt, concreteTypesOf, refine, refineParents, refineAll, insertCanonical, impose, imposeAll}
 use Rattle.semantics.specs.Valid.{OnRoot}
 use Rattle.semantics.proofs.Orders.{fact-ordered, fact-same}
-use Rattle.semantics.proofs.Canonical.{map-root}
+use Rattle.semantics.proofs.Canonical.{canon-fact}
 use Rattle.validity.proofs.Imposing.{factsAt-all}
 use Rattle.history.proofs.Imposing.{joins, refine-none, refine-still, refine-counted, refineParents-counted, refineOne, refineOne-counted}
 use Rattle.history.proofs.Imposing.{refineAll-counted, Stored, insert-grown, insert-there, insert-idle, insert-all, impose-refined}
@@ -265,10 +265,6 @@ insertAll-roots (f ∷ fs) w h =
     insertAll-roots fs (insertCanonical f w)
     (subst (λ ls. OnRoots ls (insertCanonical f w .facts)) (sym (insert-grown f w .links))
     (insert-all f w (λ x. rootOf (w .links) (x .el) ≡ x .el) (root-root (w .links) (f .el)) h))
-
-canon-fact : (ls : List ℕ) (f : Fact) → canonicalFact ls (canonicalFact ls f) ≡ canonicalFact ls f
-unfolding canonicalFact
-canon-fact ls f = λ i. fact (root-root ls (f .el) i) (f .typ) (map-root ls (f .parents) i)
 
 module _ (ls : List ℕ) (ms : List Bool) (fs : List Fact) where
   abbrev pub rewrittenFacts : List Fact

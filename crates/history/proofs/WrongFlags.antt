@@ -113,12 +113,12 @@ after ks = settled101 ++ ks
 
 pub table : List Row
 table =
-    row "no answer clears it" (leaving (λ k a. isYes a)) (after (equate-els 0 1 ∷ [])) false (report true 1 2)
-    ∷ row "an equality answered with yes leaves it" (leaving (yesOf 7)) (after (equate-els 0 1 ∷ [])) false (report true 1 2)
-    ∷ row "an imposition answered with yes leaves it" (leaving (yesOf 8)) (after (impose 0 1 [] ∷ [])) false (report true 0 1)
-    ∷ row "a function application answered with yes leaves it" (leaving (yesOf 9)) (after (app 0 [] (0 ∷ []) 1 ∷ [])) false (report true 1 2)
+    row "no answer clears it" (leaving (λ k a. isYes a)) (after (equate-els 0 1 ∷ [])) false (report true 1 2 0)
+    ∷ row "an equality answered with yes leaves it" (leaving (yesOf 7)) (after (equate-els 0 1 ∷ [])) false (report true 1 2 0)
+    ∷ row "an imposition answered with yes leaves it" (leaving (yesOf 8)) (after (impose 0 1 [] ∷ [])) false (report true 0 1 1)
+    ∷ row "a function application answered with yes leaves it" (leaving (yesOf 9)) (after (app 0 [] (0 ∷ []) 1 ∷ [])) false (report true 1 2 0)
     ∷ row "a predicate application answered with yes leaves it" (leaving (yesOf 10)) (after (plainEl ∷ predicate 0 [] (3 ∷ []) ∷ [])) false
-    (report true 0 2)
+    (report true 0 2 1)
     ∷ row "an equality answered with no clears it" (clearing (notYesOf 7)) (after (equate-els 1 2 ∷ [])) true noChange
     ∷ row "an imposition answered with no clears it" (clearing (notYesOf 8)) (after (impose 2 0 [] ∷ [])) true noChange
     ∷ row "a function application answered with no clears it" (clearing (notYesOf 9)) (after (app 0 [] (0 ∷ []) 0 ∷ [])) true noChange
@@ -136,11 +136,11 @@ table =
     ∷ row "a close that changed nothing does not set it" (leaving (notYesOf 13)) (close ∷ []) true noChange
     ∷ row "a settle does not set it" (leaving (notYesOf 15)) settled101 true noChange
     ∷ row "a no sets it" (setting (λ k a. asserts k && (isAccepted a && not (isYes a)))) (after (equate-els 0 1 ∷ equate-els 1 2 ∷ [])) false
-    (report true 1 2)
+    (report true 1 2 0)
     ∷ row "another accepted call sets it" (setting (λ k a. not (asserts k) && isAccepted a)) (after (equate-els 0 1 ∷ plainEl ∷ [])) false
-    (report true 1 2)
-    ∷ row "a refused call sets it" (setting (λ k a. not (isAccepted a))) (after (equate-els 0 1 ∷ equate-els 0 9 ∷ [])) false (report true 1 2)
-    ∷ row "a yes sets it" (setting (λ k a. isYes a)) (plainEl ∷ plainEl ∷ equate-els 0 1 ∷ []) false (report true 1 2)
+    (report true 1 2 0)
+    ∷ row "a refused call sets it" (setting (λ k a. not (isAccepted a))) (after (equate-els 0 1 ∷ equate-els 0 9 ∷ [])) false (report true 1 2 0)
+    ∷ row "a yes sets it" (setting (λ k a. isYes a)) (plainEl ∷ plainEl ∷ equate-els 0 1 ∷ []) false (report true 1 2 0)
     ∷ []
 
 rows-show : map shownBy table ≡ map statedBy table

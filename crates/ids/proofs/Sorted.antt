@@ -1,8 +1,8 @@
 -- Laws of tables that are strictly sorted, over any type of entries and any order.
-use mathlib.Core.Path.{_≡_, refl, sym, ap, _∙_}
+use mathlib.Core.Path.{_≡_, refl, sym, ap, ap₂, subst, _∙_}
 use mathlib.Core.Logic.{inl, inr}
 use mathlib.Core.Bool.{Bool, true, false}
-use mathlib.Core.List.{List, [], _∷_, _++_, map, List·Memᴰ, List·Memᴰ·head, List·Memᴰ·tail, List·Memᴰ·not-nil, List·Memᴰ·cases-cons}
+use mathlib.Core.List.{List, [], _∷_, _++_, map, append-nil, append-assoc, List·Memᴰ, List·Memᴰ·head, List·Memᴰ·tail, List·Memᴰ·not-nil, List·Memᴰ·cases-cons}
 use mathlib.Core.Option.{Option, some, none}
 use Prim.Native.Nat.{ℕ, suc, _+_, _≤_, _<_}
 use native.Mathlib.Omega.{arith}
@@ -304,6 +304,28 @@ module _ {A : Type 0} {cmp : A → A → Ordering} (o : Ordered cmp) (f : A → 
     | inl q ↦ rewrite-kept (f y) xs (placed cmp (f x) done) (placed-sorted o (f x) done s) (rw q (placed-there o (f x) done))
     | inr k ↦ rewrite-there xs (placed cmp (f x) done) (placed-sorted o (f x) done s) k
   ]
+
+-- Entries in order that are their own images: a rewriting leaves them as they are.
+
+pub map-same : {A : Type 0} (f : A → A) (l : List A) → All (λ x. f x ≡ x) l → map f l ≡ l
+map-same f [] h = refl
+map-same f (x ∷ xs) h = ap₂ _∷_ (h .0) (map-same f xs (h .1))
+
+module _ {A : Type 0} (cmp : A → A → Ordering) (f : A → A) where
+  sorted-before : (x : A) (done l : List A) → Sorted cmp (done ++ (x ∷ l)) → All (λ y. cmp y x ≡ Less) done
+  sorted-before x [] l s = tt
+  sorted-before x (y ∷ done) l s = (all-right (λ z. cmp y z ≡ Less) done (x ∷ l) (s .0) .0, sorted-before x done l (s .1))
+
+  pub rewrite-same : (l done : List A) → map f l ≡ l → Sorted cmp (done ++ l) → rewriteInto cmp f l done ≡ done ++ l
+  unfolding rewriteInto
+  rewrite-same [] done e s = sym (append-nil done)
+  rewrite-same (x ∷ xs) done e s =
+      let head : f x ≡ x = cc in
+      let tail : map f xs ≡ xs = cc in
+      let end : placed cmp (f x) done ≡ done ++ (x ∷ []) = rw head (placed-last cmp x done (sorted-before x done xs s)) in
+      ap (rewriteInto cmp f xs) end
+      ∙ rewrite-same xs (done ++ (x ∷ [])) tail (subst (Sorted cmp) (sym (append-assoc done (x ∷ []) xs)) s)
+      ∙ append-assoc done (x ∷ []) xs
 
 -- Keys.
 

@@ -1,5 +1,5 @@
 -- What the steps of imposing a fact leave, as the definitions speak of it.
-use Prim.Native.Nat.{ℕ, _≤_}
+use Prim.Native.Nat.{ℕ, _-_, _≤_}
 use mathlib.Core.Path.{_≡_}
 use mathlib.Core.Bool.{Bool, true, false}
 use mathlib.Core.List.{List}
@@ -8,7 +8,7 @@ use Rattle.ids.specs.declared.Ordering.the-variants.{Less}
 use Rattle.ids.specs.Sorted.{All}
 use Rattle.rows.specs.Table.{isLess}
 use Rattle.semantics.specs.Structure.{Fact, compareFact}
-use Rattle.semantics.specs.Types.{Core, concreteTypesOf, refineAll, insertFact}
+use Rattle.semantics.specs.Types.{Core, concreteTypesOf, refineAll, insertFact, grown, growth}
 use Rattle.merging.specs.declared.Tally.{Tally}
 use Rattle.merging.specs.View.{lent, ElsHeld, PairsHeld, Passes}
 
@@ -26,3 +26,7 @@ refined f w = refineAll (concreteTypesOf (w .links) (w .facts) (f .el)) f w
 abbrev pub InsertsFact : List (List ℕ) → Tally → List (List ℕ) → Tally → Fact → Type 0
 InsertsFact facts c facts' r f =
     (els pairs : List (List ℕ)) → ElsHeld els c → PairsHeld pairs c → Passes (lent els facts pairs c) (lent els facts' pairs r) 1 (insertFact f)
+
+-- "Imposing a fact answers two counts, merges made and facts added" (02, M-106): f imposes on w, and the counts r are above c by what it answers
+abbrev pub Answers : Tally → Tally → (Core → Core) → Core → Type 0
+Answers c r f w = grown (r .merges - c .merges) (r .added - c .added) ≡ growth w (f w)

@@ -22,10 +22,10 @@ ghost use Rattle.semantics.specs.Types.{refine, refineParents, impose, imposeAl
 ghost use Rattle.facts.specs.View.{factOf, impositionsOf};
 ghost use Rattle.fact_rows.specs.View.{factsIn};
 ghost use Rattle.el_rows.specs.View.{linksIn, marksIn};
-ghost use Rattle.merging.specs.View.{lent, ElsHeld, FactsHeld, LentHeld, RoomToCount, Passes};
+ghost use Rattle.merging.specs.View.{lent, coreOf, ElsHeld, FactsHeld, LentHeld, RoomToCount, Passes};
 ghost use Rattle.imposing.specs.Bounds.{onePair, oneList, oneFact, oneImposed, allImpositions};
 ghost use Rattle.imposing.specs.Keeps.{keepsPair, keepsParents, keepsTypes};
-ghost use Rattle.imposing.specs.View.{FirstOf, InsertsFact, refined};
+ghost use Rattle.imposing.specs.View.{FirstOf, InsertsFact, refined, Answers};
 
 // Whether two parents are not merged: their roots are one, or neither is marked.
 fn keeps_pair(els: &[ElRow], n: usize, p: ElId, q: ElId) -> bool
@@ -247,7 +247,8 @@ fn insert_fact(facts: &mut [FactRow], counts: Tally, fact: Fact) -> Tally
     next
 }
 
-// A fact imposed: the types that the element has are refined, then the fact is inserted, its parents as roots, at the root.
+// A fact imposed: the types that the element has are refined, then the fact is inserted, its parents as roots, at the root. The answer is by how much
+// `merges` and `added` grew.
 pub fn impose_concrete_type(
     els: &mut [ElRow],
     facts: &mut [FactRow],
@@ -258,6 +259,7 @@ pub fn impose_concrete_type(
     requires { ⌜ LentHeld (lent (now els) (now facts) (now pairs) counts) × RoomToCount oneImposed counts ⌝ }
     ensures { λ r. ⌜ Passes (lent (now (els .entry)) (now (facts .entry)) (now (pairs .entry)) counts)
         (lent (now (els .exit)) (now (facts .exit)) (now (pairs .entry)) r) oneImposed (impose (factOf fact)) ⌝ }
+    ensures { λ r. ⌜ Answers counts r (impose (factOf fact)) (coreOf (lent (now (els .entry)) (now (facts .entry)) (now (pairs .entry)) counts)) ⌝ }
 {
     let refined = refine_types(els, facts, pairs, counts, fact);
     let entry = el_rows::canonical_fact(els, refined.els as usize, fact);

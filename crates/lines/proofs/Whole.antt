@@ -45,10 +45,12 @@ module _ {line bytes : List ℕ} {most : ℕ} (built : Built line bytes most) wh
 -- The lines by their parts, in the order in which they are added.
 
 pub close-parts : (c : Closed) {changed : ℕ} → changed ≡ bit (c .changed)
-    → close-word ++ spaced (changed ∷ []) ++ spaced (c .merges ∷ []) ++ spaced (c .rounds ∷ []) ++ (newline ∷ []) ≡ closeLine c
+    → close-word ++ spaced (changed ∷ []) ++ spaced (c .merges ∷ []) ++ spaced (c .rounds ∷ []) ++ spaced (c .added ∷ []) ++ (newline ∷ []) ≡ closeLine c
 unfolding closeLine
 close-parts c e =
-    rw (← e) (rw (spaced-more _ (c .merges ∷ c .rounds ∷ []), spaced-more (c .merges) (c .rounds ∷ [])) (simp append-assoc))
+    rw (← e)
+    (rw (spaced-more _ (c .merges ∷ c .rounds ∷ c .added ∷ []), spaced-more (c .merges) (c .rounds ∷ c .added ∷ []), spaced-more (c .rounds) (c .added ∷ []))
+    (simp append-assoc))
 
 pub conflict-parts : (c : Conflict)
     → conflict-word ++ spaced (c .el ∷ []) ++ spaced (c .a .typ ∷ c .a .parents) ++ (space ∷ slash ∷ []) ++ spaced (c .b .typ ∷ c .b .parents) ++ (newline ∷ [])

@@ -7,6 +7,7 @@ ghost use mathlib.Core.List.{[], _∷_};
 ghost use Prim.Native.Nat.{_+_, _<_};
 ghost use Rattle.ids.specs.Ids.{elsOf};
 ghost use Rattle.ids.specs.Table.{Sized};
+ghost use Rattle.semantics.specs.Close.{report};
 ghost use Rattle.semantics.specs.Calls.{totals};
 ghost use Rattle.semantics.specs.Sheet as sheet;
 ghost use Rattle.facts.specs.View.{factOf};
@@ -119,21 +120,22 @@ fn digit(x: u64) -> u8
     (48 + x) as u8
 }
 
-fn bit(b: bool) -> u64
+fn bit(b: bool) -> u16
     ensures { λ r. ⌜ r ≡ sheet.bit b ⌝ }
 {
     if b { 1 } else { 0 }
 }
 
-// `close C M R`
-pub fn close_line(changed: bool, merges: u64, rounds: u64) -> Line
-    ensures { λ r. ⌜ lineOf r ≡ sheet.closeLine (record { changed = changed; merges = merges; rounds = rounds }) ⌝ }
+// `close C M R F`
+pub fn close_line(changed: bool, merges: u64, rounds: u64, added: u64) -> Line
+    ensures { λ r. ⌜ lineOf r ≡ sheet.closeLine (report changed merges rounds added) ⌝ }
 {
     let word = Line::new().put_word(b"close");
-    let first = word.put_spaced(bit(changed));
+    let first = word.put_number(bit(changed));
     let second = first.put_spaced(merges);
     let third = second.put_spaced(rounds);
-    third.put(b'\n')
+    let fourth = third.put_spaced(added);
+    fourth.put(b'\n')
 }
 
 // `conflict E T p.. / U q..`

@@ -53,7 +53,7 @@ module _ (l : List Act) (n : Notes) (applies : acted l .notes ≡ some n) where
       ap (λ (m : Machine). m .structure .settled) (c .machine ∙ sym (after-history (n .list))) ∙ settled-is (n .list)
       ∙ ap (λ (x : Notes). settledAfter (x .events)) (sym (c .notes))
 
-  -- and where it says yes a close is accepted and reports no change, no merge and one round
+  -- and where it says yes a close is accepted and reports no change, no merge, one round and no new fact
   pub settled-closes-noted : acted l .machine .structure .settled ≡ true → NothingToClose (acted l .machine)
   settled-closes-noted =
       settled-closes-at (n .list) (acted l .machine) (after-history (n .list) ∙ sym (continues l n applies .machine))

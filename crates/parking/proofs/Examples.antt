@@ -45,7 +45,7 @@ remaining = (declared ++ stated) ++ (equate-els 0 1 ∷ [])
 
 -- each hypothesis of the rule, and what the book then is: four elements, and the merges of the close after the load alone
 record Worked (n : Notes) : Type 0 where
-  ran : RanCloses (acted worked .machine) close (report true 2 3 ∷ [])
+  ran : RanCloses (acted worked .machine) close (report true 2 3 2 ∷ [])
   applies : acted (worked ++ (call close ∷ [])) .notes ≡ some n
   unmarked : anyMarked (n .book .marks) ≡ false
   four : elements (n .book) ≡ 4
@@ -97,16 +97,16 @@ elsewhere = map call unnamed ++ (park ∷ restart ∷ (map call signature102 ++ 
 record OtherSignature (s : State) : Type 0 where
   nothing-noted : s .notes ≡ none
   settled : s .machine .structure .settled ≡ true
-  changes : step close (s .machine) .answer ≡ closed (report true 1 3)
+  changes : step close (s .machine) .answer ≡ closed (report true 1 3 0)
 
 other-signature : OtherSignature (acted elsewhere)
 unfolding acting unnamed elsewhere
 other-signature = record { nothing-noted = refl; settled = refl; changes = refl }
 
 -- so the rule says of the first what it says
-conserves : Conserved (notesOf (remaining ++ (close ∷ [])) .book) (acted (worked ++ (call close ∷ [])) .machine .structure .links) (report true 2 3 ∷ [])
+conserves : Conserved (notesOf (remaining ++ (close ∷ [])) .book) (acted (worked ++ (call close ∷ [])) .machine .structure .links) (report true 2 3 2 ∷ [])
 unfolding ParkedConservation
-conserves = parked-conservation worked close (report true 2 3 ∷ []) (notesOf (remaining ++ (close ∷ []))) (works .ran) (works .applies) (works .unmarked)
+conserves = parked-conservation worked close (report true 2 3 2 ∷ []) (notesOf (remaining ++ (close ∷ []))) (works .ran) (works .applies) (works .unmarked)
 
 two-classes : Classes Shared (notesOf (remaining ++ (close ∷ [])) .book) 2
 two-classes = rw two at (conserves .by-class .counted)

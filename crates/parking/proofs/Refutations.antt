@@ -125,7 +125,7 @@ thrice = call plainEl ∷ call plainEl ∷ park ∷ call (equate-els 0 1) ∷ ca
 
 -- what a version notes of it at the close that ends it
 record Thrice (v : Version) (n : Notes) : Type 0 where
-  ran : RanCloses (actedBy v thrice .machine) close (report true 1 2 ∷ [])
+  ran : RanCloses (actedBy v thrice .machine) close (report true 1 2 0 ∷ [])
   applies : actedBy v (thrice ++ (call close ∷ [])) .notes ≡ some n
   two : n .book .marks ≡ false ∷ false ∷ []
 
@@ -133,7 +133,7 @@ record Thrice (v : Version) (n : Notes) : Type 0 where
 too-many : (v : Version) (n : Notes) → Thrice v n → n .book .merges ≡ 3 → ConservedOver (actedBy v) → ⊥
 unfolding ConservedOver anyMarked
 too-many v n w three h =
-    let c = h thrice close (report true 1 2 ∷ []) n (w .ran) (w .applies) (ap anyMarked (w .two)) in
+    let c = h thrice close (report true 1 2 0 ∷ []) n (w .ran) (w .applies) (ap anyMarked (w .two)) in
     omega (arith, c .by-class .sum, three, ap length (w .two))
 
 -- what these versions note: all calls, or those of the list with the sum of all
@@ -154,7 +154,7 @@ one-merge = (_, (record { ran = closes refl; applies = refl; two = refl }, refl)
 pub begun-anew-refuted : ConservedOver (actedBy begunAnew) → ⊥
 unfolding acting actedBy actsBy actBy restoredBy ConservedOver
 begun-anew-refuted h =
-    let c = h (call plainEl ∷ call plainEl ∷ park ∷ restore 0 ∷ []) close (report false 0 1 ∷ []) _ (closes refl) refl refl in
+    let c = h (call plainEl ∷ call plainEl ∷ park ∷ restore 0 ∷ []) close (report false 0 1 0 ∷ []) _ (closes refl) refl refl in
     omega (arith, c .by-class .long)
 
 -- answers that stay: settled at the store, and the equality after it was answered with yes
@@ -173,5 +173,5 @@ any-signature-unsettled h =
 pub any-signature-refuted : ConservedOver (actedBy anySignature) → ⊥
 unfolding acting actedBy actsBy actBy restoredBy unnamed elsewhere ConservedOver AppliesNeither
 any-signature-refuted h =
-    let c = h elsewhere close (report true 1 3 ∷ []) _ (closes refl) refl refl in
+    let c = h elsewhere close (report true 1 3 0 ∷ []) _ (closes refl) refl refl in
     apart-by-fits (with-models maps []) (c .plain (refl, (refl, tt)) .one-root 0 1 (omega arith) (omega arith) .0 refl)

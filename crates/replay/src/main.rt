@@ -325,7 +325,7 @@ fn answer_line(answer: Answer, listed: u16) -> Line {
         Answer::Number(x) => number_line(b"number", x),
         Answer::Says(b) => number_line(b"answer", bit(b)),
         Answer::Done => number_line(b"answer", bit(true)),
-        Answer::Closed(c) => lines::close_line(c.changed, c.merges, c.rounds),
+        Answer::Closed(c) => lines::close_line(c.changed, c.merges, c.rounds, c.added),
         Answer::Conflicting(finds) => pair_line(b"conflicts", listed, finds),
         Answer::Summed(t) => lines::settle_line(t.closes, t.merges),
         Answer::Refused(x) => number_line(b"refused", x),

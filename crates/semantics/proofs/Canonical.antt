@@ -1,4 +1,4 @@
--- Applications that are rewritten already: the table that `functionality` makes is rewritten into itself.
+-- Applications and facts that are rewritten already: the table that `functionality` makes is rewritten into itself.
 use mathlib.Core.Path.{_≡_, refl, sym, ap, ap₂, _∙_}
 use mathlib.Core.Bool.{Bool, false}
 use mathlib.Core.List.{List, [], _∷_, _++_, map, append-assoc, append-nil, List·Memᴰ}
@@ -10,7 +10,7 @@ use Rattle.ids.proofs.Sorted.{All, all-of, all-map, Sorted, equal-swap, lookup-
 use Rattle.ids.proofs.Appending.{lookup-past}
 use Rattle.unification.specs.Roots.{rootOf}
 use Rattle.unification.proofs.Laws.{root-root}
-use Rattle.semantics.specs.Structure.{FuncApp, Pair, compareFuncApp, canonicalFuncApp, func-app}
+use Rattle.semantics.specs.Structure.{Fact, fact, FuncApp, Pair, compareFuncApp, canonicalFact, canonicalFuncApp, func-app}
 use Rattle.semantics.specs.Close.{Rewritten, enterAt, enter, enterAll, rewriting}
 use Rattle.semantics.proofs.Functionality.{enterAll-all, enterAll-sorted}
 use Rattle.semantics.proofs.Orders.{func-app-ordered, same-func-app, SameKey}
@@ -38,6 +38,21 @@ pub canonical-alike : (ls ks : List ℕ) → ((e : ℕ) → rootOf ks e ≡ root
 unfolding canonicalFuncApp
 canonical-alike ls ks roots x =
     λ i. func-app (x .func) (map (λ e. roots e i) (x .parents)) (map (λ e. roots e i) (x .args)) (roots (x .result) i)
+
+-- A fact likewise: one that is its own image is not stale.
+
+abbrev pub CanonFact : List ℕ → Fact → Type 0
+CanonFact ls f = canonicalFact ls f ≡ f
+
+pub canon-fact : (ls : List ℕ) (f : Fact) → CanonFact ls (canonicalFact ls f)
+unfolding canonicalFact
+canon-fact ls f = λ i. fact (root-root ls (f .el) i) (f .typ) (map-root ls (f .parents) i)
+
+pub fact-alike : (ls ks : List ℕ) → ((e : ℕ) → rootOf ks e ≡ rootOf ls e) → (f : Fact) → canonicalFact ks f ≡ canonicalFact ls f
+unfolding canonicalFact
+fact-alike ls ks roots f = λ i. fact (roots (f .el) i) (f .typ) (map (λ e. roots e i) (f .parents))
+
+-- The table.
 
 module _ (l : List FuncApp) (sorted : Sorted compareFuncApp l) where
   -- two entries with one key are one

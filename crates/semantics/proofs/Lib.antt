@@ -17,3 +17,4 @@ pub mod Computes
 pub mod ProvedCases
 pub mod RefusedSettle
 pub mod WrongSettles
+pub mod WrongCounts

@@ -36,8 +36,8 @@ pub data Source : Type 0 where
 
 -- an answer that a row states
 pub data Stated : Type 0 where
-  -- changed (1 or 0), merges, rounds
-  closes : ℕ → ℕ → ℕ → Stated
+  -- changed (1 or 0), merges, rounds, facts added
+  closes : ℕ → ℕ → ℕ → ℕ → Stated
   -- closes run, merges summed
   settles : ℕ → ℕ → Stated
   -- the conflicts, and the finds
@@ -95,7 +95,7 @@ pub record Row : Type 0 where
 
 -- what a row states of a call's answer; what the other accepted calls answer it leaves out
 unfoldable pub stated : Answer → List Stated → List Stated
-stated (closed c) rest = closes (bit (c .changed)) (c .merges) (c .rounds) ∷ rest
+stated (closed c) rest = closes (bit (c .changed)) (c .merges) (c .rounds) (c .added) ∷ rest
 stated (steps.summed t) rest = settles (t .closes) (t .merges) ∷ rest
 stated (conflicting cs n) rest = conflicts cs n ∷ rest
 stated (typed t) rest = types t ∷ rest
@@ -314,7 +314,7 @@ composite f g h = app 3 [] (f ∷ g ∷ []) h
 abbrev pub lawRow : ℕ → ℕ → ℕ → ℕ → Row
 lawRow f x g y = record {
   source = calls (signature102 ++ (downFrom 4 (λ n. plainEl) ++ (composite 0 1 2 ∷ app f [] (x ∷ []) 3 ∷ close ∷ [])));
-  output = tells (closes 1 0 2 ∷ []);
+  output = tells (closes 1 0 2 4 ∷ []);
   claims = key g [] (y ∷ []) is result (some 3) ∷ [];
 }
 
@@ -398,7 +398,7 @@ mapRows =
     -- the identity's law: of its result dom and cod are its argument
     record {
       source = calls (signature102 ++ (plainEl ∷ plainEl ∷ identity 0 1 ∷ close ∷ close ∷ []));
-      output = tells (closes 1 0 2 ∷ closes 0 0 1 ∷ []);
+      output = tells (closes 1 0 2 2 ∷ closes 0 0 1 0 ∷ []);
       claims = key 0 [] (1 ∷ []) is result (some 0) ∷ key 1 [] (1 ∷ []) is result (some 0) ∷ settled is flag true ∷ [];
     }
     -- the composite's laws, each from either side
@@ -411,14 +411,14 @@ mapRows =
     -- two values of one map are one: of two identities with one result the arguments are
     ∷ record {
       source = calls (signature102 ++ (plainEl ∷ plainEl ∷ plainEl ∷ identity 0 2 ∷ identity 1 2 ∷ close ∷ []));
-      output = tells (closes 1 1 3 ∷ []);
+      output = tells (closes 1 1 3 3 ∷ []);
       claims = link 1 is el 0 ∷ key 0 [] (2 ∷ []) is result (some 0) ∷ [];
     }
     -- the premises are read up to equality: the composite is of 0, dom is declared of 3, and 0 and 3 are one
     ∷ record {
       source = calls
           (signature102 ++ (downFrom 6 (λ n. plainEl) ++ (composite 0 1 2 ∷ dom 3 4 ∷ dom 2 5 ∷ equate-els 0 3 ∷ close ∷ [])));
-      output = tells (closes 1 2 3 ∷ []);
+      output = tells (closes 1 2 3 5 ∷ []);
       claims = link 3 is el 0 ∷ link 5 is el 4 ∷ [];
     }
     -- a chain of composites against the order of the table: each round carries dom one composite further, so that there are more rounds than
@@ -427,24 +427,24 @@ mapRows =
       source = calls
           (signature102
           ++ (downFrom 6 (λ n. plainEl) ++ (composite 0 4 3 ∷ composite 1 4 0 ∷ composite 2 4 1 ∷ dom 2 5 ∷ close ∷ [])));
-      output = tells (closes 1 0 4 ∷ []);
+      output = tells (closes 1 0 4 6 ∷ []);
       claims = key 0 [] (3 ∷ []) is result (some 5) ∷ [];
     }
     -- the laws of a composite in their order: the middle one, last, gives dom(0) = 2, which the next round gives to the composite
     ∷ record {
       source = calls (signature102 ++ (plainEl ∷ plainEl ∷ plainEl ∷ composite 0 0 1 ∷ cod 0 2 ∷ close ∷ []));
-      output = tells (closes 1 0 3 ∷ []);
+      output = tells (closes 1 0 3 3 ∷ []);
       claims = key 0 [] (1 ∷ []) is result (some 2) ∷ key 1 [] (1 ∷ []) is result (some 2) ∷ [];
     }
     -- an application that a law adds is a change, and so is a pair that it queues
     ∷ record {
       source = calls (signature102 ++ (plainEl ∷ plainEl ∷ dom 1 0 ∷ close ∷ identity 0 1 ∷ close ∷ []));
-      output = tells (closes 1 0 2 ∷ closes 1 0 2 ∷ []);
+      output = tells (closes 1 0 2 2 ∷ closes 1 0 2 0 ∷ []);
       claims = settled is flag false ∷ [];
     }
     ∷ record {
       source = calls (signature102 ++ (plainEl ∷ plainEl ∷ plainEl ∷ dom 1 0 ∷ cod 1 2 ∷ close ∷ identity 0 1 ∷ close ∷ []));
-      output = tells (closes 1 0 2 ∷ closes 1 1 3 ∷ []);
+      output = tells (closes 1 0 2 3 ∷ closes 1 1 3 0 ∷ []);
       claims = link 2 is el 0 ∷ [];
     }
     -- the laws of every model
@@ -453,7 +453,7 @@ mapRows =
           (typesAndFuncs
           ++ (modelOf 0 2 (0 ∷ 1 ∷ 2 ∷ 3 ∷ []) ∷ modelOf 1 3 (4 ∷ 5 ∷ 6 ∷ 7 ∷ []) ∷ plainEl ∷ plainEl ∷ plainEl
           ∷ app 6 [] (0 ∷ []) 2 ∷ app 6 [] (1 ∷ []) 2 ∷ close ∷ []));
-      output = tells (closes 1 1 3 ∷ []);
+      output = tells (closes 1 1 3 2 ∷ []);
       claims = link 1 is el 0 ∷ key 4 [] (2 ∷ []) is result (some 0) ∷ [];
     }
     -- what is looked up is looked up under the stored parents: typing merges the marked 1 into 0, and the law finds dom(1; 2) = 5 in that round. By
@@ -462,7 +462,7 @@ mapRows =
       source = calls
           (boxed102 ++ (plainEl ∷ markedEl ∷ downFrom 5 (λ n. plainEl)
           ++ (app 4 (0 ∷ []) [] 6 ∷ app 4 (1 ∷ []) [] 6 ∷ app 3 (1 ∷ []) (2 ∷ 3 ∷ []) 4 ∷ app 0 (1 ∷ []) (2 ∷ []) 5 ∷ close ∷ [])));
-      output = tells (closes 1 1 2 ∷ []);
+      output = tells (closes 1 1 2 3 ∷ []);
       claims = link 1 is el 0 ∷ key 0 (0 ∷ []) (4 ∷ []) is result (some 5) ∷ [];
     }
     -- .. and the root of the argument: typing merges the marked 2 into 1, and the law of the composite of 2 finds dom(1) = 5
@@ -470,7 +470,7 @@ mapRows =
       source = calls
           (boxed102 ++ (plainEl ∷ plainEl ∷ markedEl ∷ downFrom 4 (λ n. plainEl)
           ++ (app 4 (1 ∷ []) [] 6 ∷ app 4 (2 ∷ []) [] 6 ∷ composite 2 3 4 ∷ dom 1 5 ∷ close ∷ [])));
-      output = tells (closes 1 1 2 ∷ []);
+      output = tells (closes 1 1 2 3 ∷ []);
       claims = link 2 is el 1 ∷ key 0 [] (4 ∷ []) is result (some 5) ∷ [];
     }
     -- what is added is added as roots: typing merges the marked 1 into 0, and the identity over 1 meets dom(0; 3) = 4
@@ -478,7 +478,7 @@ mapRows =
       source = calls
           (boxed102 ++ (plainEl ∷ markedEl ∷ downFrom 4 (λ n. plainEl)
           ++ (app 4 (0 ∷ []) [] 5 ∷ app 4 (1 ∷ []) [] 5 ∷ app 2 (1 ∷ []) (2 ∷ []) 3 ∷ app 0 (0 ∷ []) (3 ∷ []) 4 ∷ close ∷ [])));
-      output = tells (closes 1 2 3 ∷ []);
+      output = tells (closes 1 2 3 3 ∷ []);
       claims = link 4 is el 2 ∷ [];
     }
     -- a close shortens a path: typing merges 2 into 1 and 1 into 0, and then the law dom(4) = 0 meets the stored result 2, whose root it finds
@@ -487,7 +487,7 @@ mapRows =
           (boxed102
           ++ (plainEl ∷ markedEl ∷ markedEl ∷ plainEl ∷ plainEl
           ∷ app 4 (1 ∷ []) [] 3 ∷ app 4 (2 ∷ []) [] 3 ∷ app 5 (0 ∷ []) [] 3 ∷ dom 4 2 ∷ identity 0 4 ∷ close ∷ []));
-      output = tells (closes 1 2 2 ∷ []);
+      output = tells (closes 1 2 2 4 ∷ []);
       claims = link 1 is el 0 ∷ link 2 is el 0 ∷ [];
     }
     -- two elements in three closes, "the element count plus one": the first merges them in its impositions, the second finds by a law what that brought
@@ -501,14 +501,50 @@ mapRows =
     }
     ∷ argCountRows
 
+-- How many facts were new (02, M-106). P1 to P5 and P8 to P10 below state F as every row does.
+abbrev pub addedRows : List Row
+addedRows =
+    -- "and no others": a merge moves the fact of 1 to 0, and none is new
+    record {
+      source = calls
+          (typ plain [] ∷ typ plain [] ∷ plainEl ∷ plainEl ∷ impose 0 0 [] ∷ impose 1 1 [] ∷ close ∷ equate-els 0 1 ∷ close ∷ []);
+      output = tells (closes 1 0 1 2 ∷ closes 1 1 2 0 ∷ []);
+      claims = facts 0 is fact-list (fact 0 0 [] ∷ fact 0 1 [] ∷ []) ∷ facts 1 is fact-list [] ∷ [];
+    }
+    -- "that enlarged a set": one fact demanded twice and imposed is new once, in its first close
+    ∷ record {
+      source = calls
+          (typ plain [] ∷ func [] (0 ∷ []) 0 ∷ plainEl ∷ app 0 [] (0 ∷ []) 0 ∷ impose 0 0 [] ∷ close ∷ close ∷ []);
+      output = tells (closes 1 0 2 1 ∷ closes 0 0 1 0 ∷ []);
+      claims = facts 0 is fact-list (fact 0 0 [] ∷ []) ∷ [];
+    }
+    -- a canonical copy beside a stale one enlarges the set, also where the imposing that brings it merged: 2 has the type with parent 1, the marked 1 is merged
+    -- with 0, and the type with parent 0 is inserted; `canonicalise_refs` makes the two one
+    ∷ record {
+      source = calls (types2 ++ (plainEl ∷ markedEl ∷ plainEl ∷ impose 2 1 (1 ∷ []) ∷ impose 2 1 (0 ∷ []) ∷ close ∷ []));
+      output = tells (closes 1 1 1 2 ∷ []);
+      claims = link 1 is el 0 ∷ facts 2 is fact-list (fact 2 1 (0 ∷ []) ∷ []) ∷ [];
+    }
+    -- a close that changes something with no merge and no new fact: a law inserts an application. There are four before it and four after it, since the first
+    -- close merged 1 with 0 in its impositions, and `functionality` makes one of two keys
+    ∷ record {
+      source = calls
+          (boxed102
+          ++ (plainEl ∷ markedEl ∷ app 3 (1 ∷ []) (0 ∷ 0 ∷ []) 0 ∷ app 0 (0 ∷ []) (0 ∷ []) 0 ∷ app 1 (0 ∷ []) [] 0 ∷ app 1 (1 ∷ []) [] 0
+          ∷ impose 0 2 (0 ∷ []) ∷ impose 0 2 (1 ∷ []) ∷ close ∷ close ∷ []));
+      output = tells (closes 1 1 2 2 ∷ closes 1 0 2 0 ∷ []);
+      claims = key 1 (0 ∷ []) (0 ∷ []) is result (some 0) ∷ key 1 (1 ∷ []) [] is result none ∷ [];
+    }
+    ∷ []
+
 -- The table.
 
 unfoldable pub table : List Row
 table =
     -- P1: "fresh, close"
-    record { source = calls (close ∷ []); output = tells (closes 0 0 1 ∷ []); claims = settled is flag true ∷ [] }
+    record { source = calls (close ∷ []); output = tells (closes 0 0 1 0 ∷ []); claims = settled is flag true ∷ [] }
     -- P1 as a sheet
-    ∷ record { source = sheet (entry 0 13 0 0 [] []); output = prints (lines ("close 0 0 1" ∷ "end 1" ∷ [])); claims = [] }
+    ∷ record { source = sheet (entry 0 13 0 0 [] []); output = prints (lines ("close 0 0 1 0" ∷ "end 1" ∷ [])); claims = [] }
     -- P2: "whole, chained 0 to 11": two types, the function, four elements, two applications, the equality, close, conflicts
     ∷ record {
       source = sheet
@@ -524,7 +560,7 @@ table =
           ++ entry 10 7 2 3 [] []
           ++ entry 11 13 0 0 [] []
           ++ entry 0 14 0 0 [] []);
-      output = prints (lines ("close 1 1 2" ∷ "conflict 2 1 0 / 1 1" ∷ "conflicts 1" ∷ "end 12" ∷ []));
+      output = prints (lines ("close 1 1 2 2" ∷ "conflict 2 1 0 / 1 1" ∷ "conflicts 1" ∷ "end 12" ∷ []));
       claims = link 3 is el 2 ∷ facts 2 is fact-list (fact 2 1 (0 ∷ []) ∷ fact 2 1 (1 ∷ []) ∷ []) ∷ [];
     }
     -- P2 as calls
@@ -533,7 +569,7 @@ table =
           (signature2
           ++ (plainEl ∷ plainEl ∷ plainEl ∷ plainEl
           ∷ app 0 (0 ∷ []) [] 2 ∷ app 0 (1 ∷ []) [] 3 ∷ equate-els 2 3 ∷ close ∷ type-conflicts ∷ []));
-      output = tells (closes 1 1 2 ∷ conflicts (conflict 2 (fact 2 1 (0 ∷ [])) (fact 2 1 (1 ∷ [])) ∷ []) 1 ∷ []);
+      output = tells (closes 1 1 2 2 ∷ conflicts (conflict 2 (fact 2 1 (0 ∷ [])) (fact 2 1 (1 ∷ [])) ∷ []) 1 ∷ []);
       claims = [];
     }
     -- P3: "one-argument function, 0 to 2, 1 to 3, equality 0, 1"; its domain and codomain are one Plain type
@@ -541,31 +577,31 @@ table =
       source = calls
           (typ plain [] ∷ func [] (0 ∷ []) 0 ∷ plainEl ∷ plainEl ∷ plainEl ∷ plainEl
           ∷ app 0 [] (0 ∷ []) 2 ∷ app 0 [] (1 ∷ []) 3 ∷ equate-els 0 1 ∷ close ∷ []);
-      output = tells (closes 1 2 3 ∷ []);
+      output = tells (closes 1 2 3 2 ∷ []);
       claims = link 1 is el 0 ∷ link 3 is el 2 ∷ key 0 [] (0 ∷ []) is result (some 2) ∷ key 0 [] (1 ∷ []) is result none ∷ [];
     }
     -- P4: "Close `1 0 1`."
     ∷ record {
       source = calls (imposed4 ++ (close ∷ []));
-      output = tells (closes 1 0 1 ∷ []);
+      output = tells (closes 1 0 1 1 ∷ []);
       claims = facts 2 is fact-list (fact 2 1 (1 ∷ []) ∷ []) ∷ settled is flag false ∷ [];
     }
     -- P4: "Equality 0, 1: close `1 1 2`"; "2 has one fact"
     ∷ record {
       source = calls (imposed4 ++ (close ∷ equate-els 0 1 ∷ close ∷ []));
-      output = tells (closes 1 0 1 ∷ closes 1 1 2 ∷ []);
+      output = tells (closes 1 0 1 1 ∷ closes 1 1 2 1 ∷ []);
       claims = facts 2 is fact-list (fact 2 1 (0 ∷ []) ∷ []) ∷ settled is flag false ∷ [];
     }
     -- P4: "then `0 0 1`; 2 has one fact"
     ∷ record {
       source = calls (imposed4 ++ (close ∷ equate-els 0 1 ∷ close ∷ close ∷ []));
-      output = tells (closes 1 0 1 ∷ closes 1 1 2 ∷ closes 0 0 1 ∷ []);
+      output = tells (closes 1 0 1 1 ∷ closes 1 1 2 1 ∷ closes 0 0 1 0 ∷ []);
       claims = facts 2 is fact-list (fact 2 1 (0 ∷ []) ∷ []) ∷ settled is flag true ∷ [];
     }
     -- P5: "`1 1 2`, parent 1 stale in a key"
     ∷ record {
       source = calls (imposed5 ++ (close ∷ []));
-      output = tells (closes 1 1 2 ∷ []);
+      output = tells (closes 1 1 2 3 ∷ []);
       claims =
           link 1 is el 0 ∷ key 0 (0 ∷ []) [] is result (some 2) ∷ key 0 (1 ∷ []) [] is result (some 3)
           ∷ facts 4 is fact-list (fact 4 1 (0 ∷ []) ∷ []) ∷ [];
@@ -573,13 +609,13 @@ table =
     -- P5: "then `1 1 3`": no key has parent 1 any more
     ∷ record {
       source = calls (imposed5 ++ (close ∷ close ∷ []));
-      output = tells (closes 1 1 2 ∷ closes 1 1 3 ∷ []);
+      output = tells (closes 1 1 2 3 ∷ closes 1 1 3 0 ∷ []);
       claims = link 3 is el 2 ∷ key 0 (0 ∷ []) [] is result (some 2) ∷ key 0 (1 ∷ []) [] is result none ∷ [];
     }
     -- P5: "then `0 0 1`"
     ∷ record {
       source = calls (imposed5 ++ (close ∷ close ∷ close ∷ []));
-      output = tells (closes 1 1 2 ∷ closes 1 1 3 ∷ closes 0 0 1 ∷ []);
+      output = tells (closes 1 1 2 3 ∷ closes 1 1 3 0 ∷ closes 0 0 1 0 ∷ []);
       claims = settled is flag true ∷ [];
     }
     -- P1 as a settle: "repeats close until one reports no change", and with no element that is the first
@@ -624,7 +660,7 @@ table =
     -- P7: "one type imposed on one element with parents 1 and with 1, 2"; the type has two parents. M-105: "case P7 becomes a refusal"
     ∷ record {
       source = calls (declared105 ++ (impose 0 2 (1 ∷ []) ∷ impose 0 2 (1 ∷ 2 ∷ []) ∷ close ∷ type-conflicts ∷ []));
-      output = tells (refuses 15 ∷ closes 1 0 1 ∷ conflicts [] 0 ∷ []);
+      output = tells (refuses 15 ∷ closes 1 0 1 1 ∷ conflicts [] 0 ∷ []);
       claims = facts 0 is fact-list (fact 0 2 (1 ∷ 2 ∷ []) ∷ []) ∷ [];
     }
     -- P7 as a sheet, which stops there
@@ -646,32 +682,32 @@ table =
     -- P8: "equalities (1, 2), (0, 2): 1 and 2 link to 0"
     ∷ record {
       source = calls (plainEl ∷ plainEl ∷ plainEl ∷ equate-els 1 2 ∷ equate-els 0 2 ∷ close ∷ []);
-      output = tells (closes 1 2 2 ∷ []);
+      output = tells (closes 1 2 2 0 ∷ []);
       claims = link 1 is el 0 ∷ link 2 is el 0 ∷ [];
     }
     -- P9: "both marked, merged: marked"
     ∷ record {
       source = calls (markedEl ∷ markedEl ∷ equate-els 0 1 ∷ close ∷ []);
-      output = tells (closes 1 1 2 ∷ []);
+      output = tells (closes 1 1 2 0 ∷ []);
       claims = link 1 is el 0 ∷ mark 0 is flag true ∷ mark 1 is flag false ∷ [];
     }
     -- P9: "One marked: unmarked", of the root that stays
     ∷ record {
       source = calls (markedEl ∷ plainEl ∷ equate-els 0 1 ∷ close ∷ []);
-      output = tells (closes 1 1 2 ∷ []);
+      output = tells (closes 1 1 2 0 ∷ []);
       claims = link 1 is el 0 ∷ mark 0 is flag false ∷ mark 1 is flag false ∷ [];
     }
     -- P9: "One marked: unmarked", of the root that is linked
     ∷ record {
       source = calls (plainEl ∷ markedEl ∷ equate-els 0 1 ∷ close ∷ []);
-      output = tells (closes 1 1 2 ∷ []);
+      output = tells (closes 1 1 2 0 ∷ []);
       claims = link 1 is el 0 ∷ mark 0 is flag false ∷ mark 1 is flag false ∷ [];
     }
     -- P10: "equality 0, 0: `close 0 0 1`"
-    ∷ record { source = calls (plainEl ∷ equate-els 0 0 ∷ close ∷ []); output = tells (closes 0 0 1 ∷ []); claims = link 0 is el 0 ∷ [] }
+    ∷ record { source = calls (plainEl ∷ equate-els 0 0 ∷ close ∷ []); output = tells (closes 0 0 1 0 ∷ []); claims = link 0 is el 0 ∷ [] }
     -- "a structure counts as settled when its latest accepted close reported no change; a fresh one does not"
     ∷ record { source = calls []; output = tells []; claims = settled is flag false ∷ [] }
-    ∷ record { source = calls (close ∷ plainEl ∷ []); output = tells (closes 0 0 1 ∷ []); claims = settled is flag true ∷ [] }
+    ∷ record { source = calls (close ∷ plainEl ∷ []); output = tells (closes 0 0 1 0 ∷ []); claims = settled is flag true ∷ [] }
     -- M-101: ".. and no equality, imposition or application accepted since was answered with yes"; each of these is
     ∷ record {
       source = calls settled101;
@@ -685,7 +721,7 @@ table =
     ++ record {
       source = calls (settled101 ++ (predicate 0 [] (2 ∷ []) ∷ []));
       output = tells (settles 2 1 ∷ []);
-      claims = settled is flag false ∷ answer close is said (closed (report false 0 1)) ∷ [];
+      claims = settled is flag false ∷ answer close is said (closed (report false 0 1 0)) ∷ [];
     }
     -- after a yes nothing but a close gives it back
     ∷ record {
@@ -694,7 +730,7 @@ table =
           ++ (equate-els 0 1 ∷ equate-els 1 2 ∷ impose 2 0 [] ∷ plainEl ∷ var 0 2 ∷ type-conflicts ∷ steps.root 2 ∷ lookup-type 0 []
           ∷ ambient-parents [] ∷ equate-els 0 9 ∷ []));
       output = tells (settles 2 1 ∷ conflicts [] 0 ∷ types (some (concrete-type 0 [])) ∷ refuses 5 ∷ []);
-      claims = settled is flag false ∷ answer close is said (closed (report true 1 2)) ∷ [];
+      claims = settled is flag false ∷ answer close is said (closed (report true 1 2 0)) ∷ [];
     }
     -- calls answered with no, calls that are none of these, and refused ones: settled stays, and the next close and settle find nothing to do
     ∷ record {
@@ -704,12 +740,12 @@ table =
           ∷ type-conflicts ∷ steps.root 2 ∷ steps.root-const 2 ∷ lookup-type 0 [] ∷ ambient-parents (1 ∷ []) ∷ equate-els 0 9 ∷ typ plain [] ∷ []));
       output = tells (settles 2 1 ∷ conflicts [] 0 ∷ types (some (concrete-type 0 [])) ∷ refuses 5 ∷ refuses 4 ∷ []);
       claims =
-          settled is flag true ∷ answer close is said (closed (report false 0 1)) ∷ answer settle is said (steps.summed (totals 1 0)) ∷ [];
+          settled is flag true ∷ answer close is said (closed (report false 0 1 0)) ∷ answer settle is said (steps.summed (totals 1 0)) ∷ [];
     }
     -- "Impositions stay queued", with parents as roots, and the same one is not queued again
     ∷ record {
       source = calls (imposed4 ++ (equate-els 0 1 ∷ close ∷ []));
-      output = tells (closes 1 1 2 ∷ []);
+      output = tells (closes 1 1 2 1 ∷ []);
       claims = impositions is fact-list (fact 2 1 (0 ∷ []) ∷ []) ∷ answer (impose 2 1 (1 ∷ [])) is said (says false) ∷ [];
     }
     -- "`canonicalise_refs` rewrites predicate applications, .. ; .. ambient elements it leaves untouched"
@@ -717,7 +753,7 @@ table =
       source = calls
           (typ model [] ∷ pred [] (0 ∷ []) ∷ plainEl ∷ plainEl
           ∷ predicate 0 [] (1 ∷ []) ∷ ambientEl 0 1 ∷ equate-els 0 1 ∷ close ∷ []);
-      output = tells (closes 1 1 2 ∷ []);
+      output = tells (closes 1 1 2 1 ∷ []);
       claims =
           answer (predicate 0 [] (0 ∷ [])) is said (says false) ∷ answer (predicate 0 [] (1 ∷ [])) is said (says true)
           ∷ answer (ambient-parents (0 ∷ [])) is said (els (1 ∷ [])) ∷ [];
@@ -729,17 +765,17 @@ table =
           ++ (typ plain [] ∷ plainEl ∷ plainEl ∷ plainEl ∷ impose 0 1 (0 ∷ []) ∷ impose 0 1 (1 ∷ []) ∷ impose 0 1 (2 ∷ [])
           ∷ impose 1 0 [] ∷ impose 1 2 [] ∷ close ∷ type-conflicts ∷ []));
       output = tells
-          (closes 1 0 1
+          (closes 1 0 1 5
           ∷ conflicts (conflict 0 (fact 0 1 (0 ∷ [])) (fact 0 1 (1 ∷ [])) ∷ conflict 1 (fact 1 0 []) (fact 1 2 []) ∷ []) 1
           ∷ []);
       claims = [];
     }
     -- M-103: no class with two stored facts, no find
-    ∷ record { source = calls (reported (fact 0 2 (0 ∷ []) ∷ fact 1 3 (0 ∷ 1 ∷ 2 ∷ 0 ∷ []) ∷ [])); output = tells (closes 1 0 1 ∷ conflicts [] 0 ∷ []); claims = [] }
+    ∷ record { source = calls (reported (fact 0 2 (0 ∷ []) ∷ fact 1 3 (0 ∷ 1 ∷ 2 ∷ 0 ∷ []) ∷ [])); output = tells (closes 1 0 1 2 ∷ conflicts [] 0 ∷ []); claims = [] }
     -- M-103: a class with three facts: the parent of the first one, whichever facts come after it
     ∷ record {
       source = calls (reported (fact 0 2 (2 ∷ []) ∷ fact 0 2 (1 ∷ []) ∷ fact 0 3 (0 ∷ 1 ∷ 2 ∷ 0 ∷ []) ∷ []));
-      output = tells (closes 1 0 1 ∷ conflicts (conflict 0 (fact 0 2 (1 ∷ [])) (fact 0 2 (2 ∷ [])) ∷ []) 1 ∷ []);
+      output = tells (closes 1 0 1 3 ∷ conflicts (conflict 0 (fact 0 2 (1 ∷ [])) (fact 0 2 (2 ∷ [])) ∷ []) 1 ∷ []);
       claims = [];
     }
     -- M-103: three classes: a first fact with four parents, also where none is compared, one without, and one whose parent was found before
@@ -748,7 +784,7 @@ table =
           (reported
           (fact 0 3 (0 ∷ 1 ∷ 2 ∷ 0 ∷ []) ∷ fact 0 4 [] ∷ fact 1 1 [] ∷ fact 1 2 (0 ∷ []) ∷ fact 2 2 (0 ∷ []) ∷ fact 2 4 [] ∷ []));
       output = tells
-          (closes 1 0 1
+          (closes 1 0 1 6
           ∷ conflicts
           (conflict 0 (fact 0 3 (0 ∷ 1 ∷ 2 ∷ 0 ∷ [])) (fact 0 4 []) ∷ conflict 1 (fact 1 1 []) (fact 1 2 (0 ∷ []))
           ∷ conflict 2 (fact 2 2 (0 ∷ [])) (fact 2 4 []) ∷ []) 5
@@ -775,7 +811,7 @@ table =
           (signature2
           ++ (func (0 ∷ []) [] 1 ∷ plainEl ∷ markedEl ∷ plainEl ∷ plainEl
           ∷ app 0 (1 ∷ []) [] 3 ∷ app 1 (0 ∷ []) [] 2 ∷ app 1 (1 ∷ []) [] 2 ∷ close ∷ []));
-      output = tells (closes 1 1 3 ∷ []);
+      output = tells (closes 1 1 3 3 ∷ []);
       claims = link 1 is el 0 ∷ facts 3 is fact-list (fact 3 1 (0 ∷ []) ∷ []) ∷ [];
     }
     -- "`typing` does function arguments, predicate arguments, ..": element 3 has type 1 with parent 2 as an argument of a function, then with
@@ -785,7 +821,7 @@ table =
           (types2
           ++ (func (0 ∷ []) (1 ∷ []) 0 ∷ pred (0 ∷ []) (1 ∷ []) ∷ markedEl ∷ plainEl ∷ plainEl ∷ plainEl ∷ plainEl
           ∷ app 0 (2 ∷ []) (3 ∷ []) 4 ∷ predicate 0 (0 ∷ []) (3 ∷ []) ∷ predicate 0 (1 ∷ []) (3 ∷ []) ∷ close ∷ []));
-      output = tells (closes 1 1 2 ∷ []);
+      output = tells (closes 1 1 2 4 ∷ []);
       claims = link 1 is el 1 ∷ link 2 is el 0 ∷ [];
     }
     -- ".. predicate arguments, function results": element 3 has type 1 with parent 2 as an argument of a predicate, then with the marked 0 and
@@ -795,7 +831,7 @@ table =
           (signature2
           ++ (pred (0 ∷ []) (1 ∷ []) ∷ markedEl ∷ plainEl ∷ plainEl ∷ plainEl
           ∷ predicate 0 (2 ∷ []) (3 ∷ []) ∷ app 0 (0 ∷ []) [] 3 ∷ app 0 (1 ∷ []) [] 3 ∷ close ∷ []));
-      output = tells (closes 1 1 2 ∷ []);
+      output = tells (closes 1 1 2 3 ∷ []);
       claims = link 1 is el 1 ∷ link 2 is el 0 ∷ [];
     }
     -- number 4, "kinds 1 to 5 after any accepted of 6 to 14", and a refused call leaves the machine as it was
@@ -807,7 +843,7 @@ table =
     -- a structure that no call makes, with an imposition on an element that is not there: the bound ends the settle before it is settled
     ∷ record {
       source = callsFrom impositionOnNone (settle ∷ close ∷ settle ∷ []);
-      output = tells (settles 1 0 ∷ closes 0 0 1 ∷ settles 1 0 ∷ []);
+      output = tells (settles 1 0 ∷ closes 0 0 1 0 ∷ settles 1 0 ∷ []);
       claims = [];
     }
     ∷ record { source = callsFrom impositionOnNone (settle ∷ []); output = tells (settles 1 0 ∷ []); claims = settled is flag false ∷ [] }
@@ -827,13 +863,13 @@ table =
     -- "Record 0 comes first; next index 0 ends the chain": records 0, 2, 1, and record 3 is not visited
     ∷ record {
       source = sheet (entry 2 6 0 0 [] [] ++ entry 0 14 0 0 [] [] ++ entry 1 13 0 0 [] [] ++ entry 0 16 0 0 [] []);
-      output = prints (lines ("close 0 0 1" ∷ "conflicts 0" ∷ "end 3" ∷ []));
+      output = prints (lines ("close 0 0 1 0" ∷ "conflicts 0" ∷ "end 3" ∷ []));
       claims = [];
     }
     -- "A refusal prints `refused N at I` (record index, ..) and stops"
     ∷ record {
       source = sheet (entry 1 13 0 0 [] [] ++ entry 2 7 0 0 [] [] ++ entry 0 13 0 0 [] []);
-      output = prints (lines ("close 0 0 1" ∷ "refused 5 at 1" ∷ []));
+      output = prints (lines ("close 0 0 1 0" ∷ "refused 5 at 1" ∷ []));
       claims = machine is whole (afterCalls (close ∷ []) start) ∷ [];
     }
     -- number 1: "sheet empty, not a multiple of 32 bytes"
@@ -954,12 +990,12 @@ table =
     -- there is no other one; the rows on a settle that meets 11 in its second close are in RefusedSettle
     ∷ record {
       source = callsFrom (holding (maxFacts - 1)) (impose maxTypes 0 [] ∷ close ∷ []);
-      output = tells (closes 1 0 1 ∷ []);
+      output = tells (closes 1 0 1 1 ∷ []);
       claims = [];
     }
     ∷ record {
       source = callsFrom (holding maxFacts) (impose 0 0 [] ∷ close ∷ []);
-      output = tells (closes 0 0 1 ∷ []);
+      output = tells (closes 0 0 1 0 ∷ []);
       claims = [];
     }
     ∷ record {
@@ -968,7 +1004,7 @@ table =
       claims = [];
     }
     -- number 3: ".. or an unused word outside the above": of a settle these are all but the first two
-    ∷ map settleWith (2 ∷ 3 ∷ 4 ∷ 5 ∷ 6 ∷ 7 ∷ 8 ∷ 9 ∷ 10 ∷ 11 ∷ 12 ∷ 13 ∷ 14 ∷ 15 ∷ []) ++ (mapRows ++ parentCountRows)
+    ∷ map settleWith (2 ∷ 3 ∷ 4 ∷ 5 ∷ 6 ∷ 7 ∷ 8 ∷ 9 ∷ 10 ∷ 11 ∷ 12 ∷ 13 ∷ 14 ∷ 15 ∷ []) ++ (mapRows ++ (parentCountRows ++ addedRows))
 
 -- The theorem.
 

@@ -4,7 +4,7 @@
 -- histories that `replay` runs.
 use mathlib.Core.Path.{_≡_, refl, sym, ap, subst, _∙_}
 use mathlib.Core.Bool.{Bool, true, false, _&&_}
-use mathlib.Core.List.{List, [], _∷_, _++_, map, append-nil, append-assoc, List·Memᴰ, List·Memᴰ·head, List·Memᴰ·tail, List·Memᴰ·append-cases}
+use mathlib.Core.List.{List, [], _∷_, _++_, map, append-nil, List·Memᴰ, List·Memᴰ·head, List·Memᴰ·tail, List·Memᴰ·append-cases}
 use mathlib.Core.Logic.{inl, inr}
 use mathlib.Core.Option.{some}
 use Prim.Native.Nat.{ℕ, zero, suc, _+_, _-_, _*_}
@@ -14,7 +14,7 @@ use Rattle.ids.specs.declared.Ordering.{Ordering}
 use Rattle.ids.specs.declared.Ordering.the-variants.{Less, Equal, Greater}
 use Rattle.ids.specs.Answers.{Outcome, outcome, firstOf, decided, accepting, refusing, tooManyFacts}
 use Rattle.ids.specs.Table.{placed, rewriteInto}
-use Rattle.ids.proofs.Sorted.{All, Sorted, all-map, placed-last, no-test}
+use Rattle.ids.proofs.Sorted.{Sorted, all-map, rewrite-same, no-test}
 use Rattle.unification.specs.Roots.{rootOf}
 use Rattle.signature.specs.Model.{Sig, plain, maxTypes}
 use Rattle.semantics.specs.Structure.{Fact, fact, Structure, empty, compareFact, canonicalFact, factAt, maxFacts}
@@ -35,7 +35,7 @@ use Rattle.semantics.proofs.ProvedCases.{typ, plainEl, markedEl, types2
 use Rattle.semantics.proofs.ProvedCases.{link, settled, machine, el, flag, whole, _is_, stated, answersOf, outputOf, machineOf, look, shownBy}
 use Rattle.semantics.proofs.ProvedCases.{statedBy, Row, Holds, table, computedRowHolds}
 
--- A sorted table whose entries a rewriting leaves as they are.
+-- A table that computes as ascending is sorted, so that a rewriting leaves its entries as they are (`rewrite-same`).
 
 isLess : Ordering → Bool
 isLess Less = true
@@ -70,25 +70,6 @@ ascending-sorted : (l : List Fact) → ascending l ≡ true → Sorted compareFa
 unfolding ascending
 ascending-sorted [] e = tt
 ascending-sorted (f ∷ l) e = ascends-sorted f l e
-
-sorted-before : (f : Fact) (k l : List Fact) → Sorted compareFact (k ++ (f ∷ l)) → All (λ g. compareFact g f ≡ Less) k
-sorted-before f [] l s = tt
-sorted-before f (g ∷ k) l s = (first k (s .0), sorted-before f k l (s .1))
-  where
-    first : (k : List Fact) → All (λ h. compareFact g h ≡ Less) (k ++ (f ∷ l)) → compareFact g f ≡ Less
-    first [] a = a .0
-    first (h ∷ k) a = first k (a .1)
-
-rewrite-same : (φ : Fact → Fact) (l k : List Fact) → map φ l ≡ l → Sorted compareFact (k ++ l) → rewriteInto compareFact φ l k ≡ k ++ l
-unfolding rewriteInto
-rewrite-same φ [] k e s = sym (append-nil k)
-rewrite-same φ (f ∷ l) k e s =
-    let head : φ f ≡ f = cc in
-    let tail : map φ l ≡ l = cc in
-    let end : placed compareFact (φ f) k ≡ k ++ (f ∷ []) = rw head (placed-last compareFact f k (sorted-before f k l s)) in
-    ap (rewriteInto compareFact φ l) end
-    ∙ rewrite-same φ l (k ++ (f ∷ [])) tail (subst (Sorted compareFact) (sym (append-assoc k (f ∷ []) l)) s)
-    ∙ append-assoc k (f ∷ []) l
 
 factsAt-append : (e : ℕ) (k l : List Fact) → factsAt e (k ++ l) ≡ factsAt e k ++ factsAt e l
 unfolding factsAt
@@ -197,7 +178,7 @@ between F = given links1 marks1 (facts1 ++ F) (one ∷ two1 ∷ three ∷ []) fa
 
 -- what the first close answers
 abbrev answer : Closed
-answer = report true 1 1
+answer = report true 1 1 0
 
 module _ (F : List Fact) (h : Others F) where
   -- an imposition on an element that has none of them: what it refines, and then inserts
@@ -318,7 +299,7 @@ unfoldable pub crowded : Machine
 crowded = let m = setFacts (facts0 ++ others) base in steps.machine (m .sig) (with-flags true true (m .structure))
 
 kept : (φ : Fact → Fact) (k : List Fact) → map φ others ≡ others → ascending (k ++ others) ≡ true → rewriteInto compareFact φ others k ≡ k ++ others
-kept φ k e a = rewrite-same φ others k e (ascending-sorted (k ++ others) a)
+kept φ k e a = rewrite-same compareFact φ others k e (ascending-sorted (k ++ others) a)
 
 others-are : Others others
 others-are = record {
@@ -363,7 +344,7 @@ settle-step =
 pub second-refused : Row
 second-refused = record {
   source = callsFrom crowded (close ∷ close ∷ []);
-  output = tells (closes 1 1 1 ∷ refuses 11 ∷ []);
+  output = tells (closes 1 1 1 0 ∷ refuses 11 ∷ []);
   claims = link 1 is el 0 ∷ settled is flag false ∷ [];
 }
 
@@ -375,7 +356,7 @@ second-holds =
       seen = look (step close (x .after) .after) (link 1) ∷ look (step close (x .after) .after) settled ∷ [];
     }) first-step
     ∙ ap (λ (x : Step). record {
-      output = tells (closes 1 1 1 ∷ stated (x .answer) []);
+      output = tells (closes 1 1 1 0 ∷ stated (x .answer) []);
       seen = look (x .after) (link 1) ∷ look (x .after) settled ∷ [];
     }) second-step
 

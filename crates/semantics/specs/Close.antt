@@ -1,5 +1,5 @@
 -- The close (01, "The close line").
-use Prim.Native.Nat.{ℕ, zero, suc, _+_, _*_}
+use Prim.Native.Nat.{ℕ, zero, suc, _+_, _-_, _*_}
 use mathlib.Core.Bool.{Bool, true, false, _&&_, _||_}
 use mathlib.Core.List.{List, [], _∷_, _++_, map}
 use mathlib.Core.Option.{Option, none, some}
@@ -208,16 +208,41 @@ fuel = 2 * ((maxFacts + maxFuncApps + 2) * (maxEls + 1))
 unfoldable pub rounds : Sig → List PredApp → List FuncApp → Core → Rounds
 rounds g preds apps w = roundsFrom fuel g preds (round g preds apps w)
 
+-- How many applications the laws of maps inserted in these rounds. No other pass makes the table longer, and theirs never makes it shorter (`up-most`,
+-- `laws-lengthen`, history/proofs/NoChange), so that in one round its length tells. From the first round to the last it does not: `functionality` makes one of
+-- two entries whose keys come to be the same.
+
+-- a round up to the laws
+unfoldable pub upToLaws : Sig → List PredApp → List FuncApp → Core → Turn
+upToLaws g preds apps w = runPasses (drainPass ∷ functionalityPass ∷ typingPass ∷ []) g preds (turn w apps false)
+
+unfoldable pub insertedIn : Sig → List PredApp → List FuncApp → Core → ℕ
+insertedIn g preds apps w = length (round g preds apps w .apps) - length (upToLaws g preds apps w .apps)
+
+-- in the rounds that follow one that left t, at most so many
+unfoldable pub insertedFrom : ℕ → Sig → List PredApp → Turn → ℕ
+insertedFrom zero g preds t = 0
+insertedFrom (suc k) g preds t =
+    elim (goesOn t) [
+      | true ↦ insertedIn g preds (t .apps) (t .core) + insertedFrom k g preds (round g preds (t .apps) (t .core))
+      | false ↦ 0
+    ]
+
+unfoldable pub inserted : Sig → List PredApp → List FuncApp → Core → ℕ
+inserted g preds apps w = insertedIn g preds apps w + insertedFrom fuel g preds (round g preds apps w)
+
 -- The close.
 
--- "The answer is changed (the Rust's), merges (queued pairs whose roots differed when drained) and rounds"
+-- "The answer is changed (the Rust's), merges (queued pairs whose roots differed when drained) and rounds", and facts added: "F counts the insertions so
+-- made, and no others, that enlarged a set" (02, M-106)
 pub record Closed : Type 0 where
   pub changed : Bool
   pub merges : ℕ
   pub rounds : ℕ
+  pub added : ℕ
 
-abbrev pub report : Bool → ℕ → ℕ → Closed
-report changed merges rounds = record { changed = changed; merges = merges; rounds = rounds }
+abbrev pub report : Bool → ℕ → ℕ → ℕ → Closed
+report changed merges rounds added = record { changed = changed; merges = merges; rounds = rounds; added = added }
 
 unfoldable pub coreAtStart : Structure → Core
 coreAtStart s = core (s .links) (s .marks) (s .facts) (s .pairs) 0 0 none
@@ -233,6 +258,10 @@ canonicaliseRefs ls s =
 -- the structure with what the close worked on
 unfoldable pub withCore : Core → List FuncApp → Structure → Structure
 withCore w apps s = with-links (w .links) (with-marks (w .marks) (with-facts (w .facts) (with-pairs (w .pairs) (with-func-apps apps s))))
+
+-- how many applications the laws inserted in a close
+unfoldable pub insertedApps : Sig → Structure → ℕ
+insertedApps g s = inserted g (s .pred-apps) (s .func-apps) (coreAtStart s)
 
 -- what a close comes to: its rounds, and the core that the impositions leave
 pub record CloseRun : Type 0 where
@@ -251,7 +280,7 @@ closeRun g s = imposedAfter (rounds g (s .pred-apps) (s .func-apps) (coreAtStart
 
 -- "changed (the Rust's)": a round before the last worked, or an imposition did
 unfoldable pub reportOf : CloseRun → Closed
-reportOf c = report (ltb 1 (c .rounds .count) || grew (c .rounds .core) (c .core)) (c .core .merges) (c .rounds .count)
+reportOf c = report (ltb 1 (c .rounds .count) || grew (c .rounds .core) (c .core)) (c .core .merges) (c .rounds .count) (c .core .added)
 
 -- "then `canonicalise_refs`. Impositions stay queued."
 unfoldable pub afterClose : CloseRun → Structure → Structure

@@ -317,9 +317,9 @@ end-word = 101 ∷ 110 ∷ 100 ∷ []
 abbrev pub slash : ℕ
 slash = 47
 
--- "Record 13 prints `close C M R` (changed 1 or 0, merges, rounds)."
+-- "Record 13 prints `close C M R` (changed 1 or 0, merges, rounds)."; "The close line becomes `close C M R F`" (02, M-106), F the facts added
 unfoldable pub closeLine : Closed → List ℕ
-closeLine c = close-word ++ (spaced (bit (c .changed) ∷ c .merges ∷ c .rounds ∷ []) ++ (newline ∷ []))
+closeLine c = close-word ++ (spaced (bit (c .changed) ∷ c .merges ∷ c .rounds ∷ c .added ∷ []) ++ (newline ∷ []))
 
 -- "`conflict E T p.. / U q..` per conflict (element, two facts)"
 unfoldable pub conflictLine : Conflict → List ℕ

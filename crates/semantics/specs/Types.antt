@@ -1,5 +1,5 @@
 -- Merges, and facts imposed (01, "Element types").
-use Prim.Native.Nat.{ℕ, suc, _+_, min, max}
+use Prim.Native.Nat.{ℕ, suc, _+_, _-_, min, max}
 use mathlib.Core.Bool.{Bool, true, false, not, _&&_, _||_}
 use mathlib.Core.List.{List, [], _∷_}
 use mathlib.Core.Option.{Option, none, some}
@@ -18,7 +18,7 @@ pub record Core : Type 0 where
   pub pairs : List Pair
   -- "merges (queued pairs whose roots differed when drained)"
   pub merges : ℕ
-  -- the insertions that enlarged a set
+  -- "facts added" (02, M-106): the insertions made by imposing that enlarged a set
   pub added : ℕ
   -- the number first met, which refuses the close
   pub met : Option ℕ
@@ -140,7 +140,19 @@ insertCanonical f w = insertFact (canonicalFact (w .links) f) w
 unfoldable pub impose : Fact → Core → Core
 impose f w = insertCanonical f (refineAll (concreteTypesOf (w .links) (w .facts) (f .el)) f w)
 
--- "The answer is yes if a merge happened or the set grew."
+-- "Imposing a fact answers two counts, merges made and facts added, in place of yes or no." (02, M-106) A core counts both on, so that the answer of
+-- what was imposed between two cores is by how much they grew.
+pub record Growth : Type 0 where
+  pub merges : ℕ
+  pub added : ℕ
+
+abbrev pub grown : ℕ → ℕ → Growth
+grown merges added = record { merges = merges; added = added }
+
+unfoldable pub growth : Core → Core → Growth
+growth before after = grown (after .merges - before .merges) (after .added - before .added)
+
+-- the Rust's yes, "if a merge happened or the set grew": one of the two is not zero (`grew-growth`, history/proofs/Imposing)
 unfoldable pub grew : Core → Core → Bool
 grew before after = ltb (before .merges + before .added) (after .merges + after .added)
 

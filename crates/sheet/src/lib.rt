@@ -173,7 +173,7 @@ fn after_record(carried: Carried, count: u16, index: u16, next: u16, done: u16) 
     match answer {
         Answer::Refused(number) => refuse(machine, number, index),
         Answer::Closed(c) => {
-            let line = lines::close_line(c.changed, c.merges, c.rounds);
+            let line = lines::close_line(c.changed, c.merges, c.rounds, c.added);
             let progress = follow(machine, count, next, done);
             Piece { line, progress }
         }

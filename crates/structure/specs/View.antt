@@ -56,7 +56,7 @@ machineOf m = machine (sigOf (m .signature)) (structureOf (m .structure))
 -- What a call answers.
 
 abbrev pub closedOf : Closed → closing.Closed
-closedOf c = report (c .changed) (c .merges) (c .rounds)
+closedOf c = report (c .changed) (c .merges) (c .rounds) (c .added)
 
 abbrev pub totalsOf : Totals → calls.Totals
 totalsOf t = totals (t .closes) (t .merges)

@@ -73,6 +73,8 @@ pub struct Closed {
     pub changed: bool,
     pub merges: u64,
     pub rounds: u64,
+    // The facts that imposing added (02, M-106).
+    pub added: u64,
 }
 
 // What a settle reports: the closes run and the merges summed.

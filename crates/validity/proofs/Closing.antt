@@ -118,7 +118,7 @@ module _ (g : Sig) (s : Structure) (v : Valid g s) where
 
   -- The rounds.
 
-  begins : Begins g c (coreAtStart s) (s .func-apps)
+  pub begins : Begins g c (coreAtStart s) (s .func-apps)
   begins = record {
     valid = core-valid c s vs;
     most = (unfold coreAtStart in vs .pairs .most);

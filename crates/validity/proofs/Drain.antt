@@ -118,6 +118,12 @@ met-advances c n listed w h = record {
 
 -- A merge.
 
+-- it makes no fact more
+pub moved-few : (keep drop : ℕ) (fs : List Fact) → length (movedFacts keep drop fs) ≤ length fs
+unfolding movedFacts
+moved-few keep drop fs =
+    omega (arith, rewrite-length compareFact (λ (f : Fact). elim (eqb (f .el) drop) [ true ↦ factAt keep f | false ↦ f ]) fs [])
+
 module _ (c : Counts) (keep drop : ℕ) (w : Core) (h : ValidCore c w) (low : keep < drop) (at : drop < c .els)
     (rk : rootOf (w .links) keep ≡ keep) (rd : rootOf (w .links) drop ≡ drop) where
   inside : drop < length (w .links)
@@ -173,7 +179,7 @@ module _ (c : Counts) (keep drop : ℕ) (w : Core) (h : ValidCore c w) (low : ke
       long = rw (merged-less (w .links) keep drop low) (length-set (w .links) drop keep)
 
       fewer : length (movedFacts keep drop (w .facts)) ≤ length (w .facts)
-      fewer = omega (arith, rewrite-length compareFact moved (w .facts) [])
+      fewer = moved-few keep drop (w .facts)
 
 -- A pair drained.
 

@@ -32,7 +32,7 @@ crowdedWith n =
 
 -- an identity's law needs two entries: there is room for both
 pub room-for-both : Row
-room-for-both = record { source = callsFrom (applying (maxFuncApps - 3)) (identity 0 1 ∷ close ∷ []); output = tells (closes 1 0 2 ∷ []); claims = [] }
+room-for-both = record { source = callsFrom (applying (maxFuncApps - 3)) (identity 0 1 ∷ close ∷ []); output = tells (closes 1 0 2 2 ∷ []); claims = [] }
 
 room-for-both-holds : Holds room-for-both
 unfolding everything stated answersOf outputOf machineOf look shownBy statedBy downFrom factsBefore appsBefore room-for-both
@@ -54,7 +54,7 @@ room-for-one-holds = refl
 pub identities-that-fit : Row
 identities-that-fit = record {
   source = calls (signature102 ++ (downFrom 130 (λ n. plainEl) ++ (downFrom 129 (λ n. identity n 129) ++ (close ∷ []))));
-  output = tells (closes 1 128 3 ∷ []);
+  output = tells (closes 1 128 3 130 ∷ []);
   claims = [];
 }
 

@@ -12,6 +12,7 @@ pub mod Signatures
 pub mod Replacing
 pub mod Calls
 pub mod Settling
+pub mod Added
 pub mod Parents
 pub mod Reserved
 pub mod Limit

@@ -100,31 +100,31 @@ differ n c p q e =
 
 pub one-fact-less : closeWithin (maxFacts - 1) maxFuncApps maxPairs noTypes (manyFacts (maxFacts - 1)) ≡ closeOrNumber fuel noTypes (manyFacts (maxFacts - 1)) → ⊥
 unfolding all
-one-fact-less = differ tooManyFacts (report true 0 1) refl refl
+one-fact-less = differ tooManyFacts (report true 0 1 1) refl refl
 
 pub one-fact-more : closeWithin (maxFacts + 1) maxFuncApps maxPairs noTypes (manyFacts maxFacts) ≡ closeOrNumber fuel noTypes (manyFacts maxFacts) → ⊥
 unfolding all
-one-fact-more e = differ tooManyFacts (report true 0 1) refl refl (sym e)
+one-fact-more e = differ tooManyFacts (report true 0 1 1) refl refl (sym e)
 
 -- Applications: number 256 is inserted, and 257 is not.
 
 pub one-app-less : closeWithin maxFacts (maxFuncApps - 1) maxPairs oneModel (manyApps (maxFuncApps - 1)) ≡ closeOrNumber fuel oneModel (manyApps (maxFuncApps - 1)) → ⊥
 unfolding all
-one-app-less = differ noRoom (report true 0 2) refl refl
+one-app-less = differ noRoom (report true 0 2 1) refl refl
 
 pub one-app-more : closeWithin maxFacts (maxFuncApps + 1) maxPairs oneModel (manyApps maxFuncApps) ≡ closeOrNumber fuel oneModel (manyApps maxFuncApps) → ⊥
 unfolding all
-one-app-more e = differ noRoom (report true 0 2) refl refl (sym e)
+one-app-more e = differ noRoom (report true 0 2 1) refl refl (sym e)
 
 -- Pairs: number 256 is queued, and 257 is not.
 
 pub one-pair-less : closeWithin maxFacts maxFuncApps (maxPairs - 1) oneModel (manyPairs (maxPairs - 1)) ≡ closeOrNumber fuel oneModel (manyPairs (maxPairs - 1)) → ⊥
 unfolding all
-one-pair-less = differ noRoom (report true 1 3) refl refl
+one-pair-less = differ noRoom (report true 1 3 2) refl refl
 
 pub one-pair-more : closeWithin maxFacts maxFuncApps (maxPairs + 1) oneModel (manyPairs maxPairs) ≡ closeOrNumber fuel oneModel (manyPairs maxPairs) → ⊥
 unfolding all
-one-pair-more e = differ noRoom (report true 1 3) refl refl (sym e)
+one-pair-more e = differ noRoom (report true 1 3 2) refl refl (sym e)
 
 -- "Of 9 and 11 in one close, the one met first is given": neither the lower nor the last.
 

@@ -4,11 +4,11 @@ use mathlib.Core.List.{List}
 use Prim.Native.Nat.{ℕ}
 use lib.ListN.{length}
 use mathlib.Core.Bool.{Bool}
-use Rattle.ids.proofs.Sorted.{all-map}
+use Rattle.ids.proofs.Sorted.{All, all-map}
 use Rattle.unification.specs.Roots.{rootOf, Formed}
-use Rattle.semantics.specs.Structure.{Fact, FuncApp, PredApp, Pair, Var, Ambient, Structure, maxPairs, maxImpositions, maxFuncApps}
-use Rattle.semantics.specs.Structure.{maxPredApps, maxVars, compareFuncApp, comparePredApp, compareVar, compareAmbient, with-links}
-use Rattle.semantics.specs.Structure.{with-func-apps, with-pred-apps, with-vars, with-ambients, with-pairs, with-impositions, with-flags}
+use Rattle.semantics.specs.Structure.{Fact, FuncApp, PredApp, Pair, Var, Ambient, Structure, maxPairs, maxImpositions, maxFuncApps, maxFacts}
+use Rattle.semantics.specs.Structure.{maxPredApps, maxVars, compareFact, compareFuncApp, comparePredApp, compareVar, compareAmbient, with-links}
+use Rattle.semantics.specs.Structure.{with-facts, with-func-apps, with-pred-apps, with-vars, with-ambients, with-pairs, with-impositions, with-flags}
 use Rattle.semantics.specs.Calls.{Answer, leaves}
 use Rattle.semantics.specs.Valid.{Counts, PairValid, FactValid, FuncAppValid, PredAppValid, VarValid, AmbientValid, OnRoot, Queue, Table}
 use Rattle.semantics.specs.Valid.{ValidStructure}
@@ -51,6 +51,23 @@ module _ (c : Counts) (s : Structure) (v : ValidStructure c s) where
     marks = v .marks;
     facts = v .facts;
     facts-rooted = all-map (λ (x : Fact) (k : OnRoot (s .links) x). same (x .el) ∙ k) (s .facts) (v .facts-rooted);
+    func-apps = v .func-apps;
+    pred-apps = v .pred-apps;
+    vars = v .vars;
+    ambients = v .ambients;
+    pairs = v .pairs;
+    impositions = v .impositions;
+  }
+
+  -- other facts, which stand at roots
+  pub facts-valid : (fs : List Fact) → Table (FactValid c) compareFact maxFacts fs → All (OnRoot (s .links)) fs → ValidStructure c (with-facts fs s)
+  facts-valid fs t rooted = record {
+    els = v .els;
+    els-most = v .els-most;
+    links = v .links;
+    marks = v .marks;
+    facts = t;
+    facts-rooted = rooted;
     func-apps = v .func-apps;
     pred-apps = v .pred-apps;
     vars = v .vars;

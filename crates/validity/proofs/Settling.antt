@@ -2,10 +2,12 @@
 -- merge.
 use mathlib.Core.Path.{_≡_, refl, sym, ap, subst, _∙_}
 use mathlib.Core.Logic.{_⊎_, inl, inr}
+use mathlib.Core.Bool.{true}
 use mathlib.Core.List.{List, [], _∷_, List·Memᴰ}
 use Prim.Native.Nat.{ℕ, _+_}
 use native.Mathlib.Omega.{arith}
 use lib.ListN.{length}
+use Rattle.semantics.specs.Structure.{Structure}
 use Rattle.semantics.specs.Close.{Closed, closeRun, reportOf, afterClose}
 use Rattle.semantics.specs.Calls.{close, settle, Totals, closed, summed, refuse, isAccepted, Machine, Step, refusal, leaves, closeRule, rule, acceptance, step}
 use Rattle.semantics.specs.Calls.{settleRun, mergesIn, sumsOf}
@@ -30,25 +32,33 @@ pub record Reaches (m : Machine) (cs : List Closed) (z : Machine) : Type 0 where
   pub els : elementCount z ≡ elementCount m
   pub sum : rootsOf z + mergesIn cs ≡ rootsOf m
 
-module _ (m : Machine) (v : ValidMachine m) (c : Closed) (q : step close m .answer ≡ closed c) where
-  -- an accepted close leaves its effect
+-- an accepted close answers what its run reports, and leaves its effect
+module _ (m : Machine) (c : Closed) (q : step close m .answer ≡ closed c) where
   accepted-effect : step close m ≡ acceptance (rule close m)
   unfolding isAccepted
   accepted-effect = accepted-leaves close m (ap isAccepted q) .1
 
-  links : step close m .after .structure .links ≡ afterClose (closeRun (m .sig) (m .structure)) (m .structure) .links
-  unfolding rule closeRule acceptance leaves
-  links = ap (λ (s : Step). s .after .structure .links) accepted-effect
-
-  merges : c .merges ≡ reportOf (closeRun (m .sig) (m .structure)) .merges
+  pub close-reports : c ≡ reportOf (closeRun (m .sig) (m .structure))
   unfolding rule closeRule acceptance
-  merges = let e = sym q ∙ ap (λ (s : Step). s .answer) accepted-effect in cc
+  close-reports = let e = sym q ∙ ap (λ (s : Step). s .answer) accepted-effect in cc
 
-  pub close-step-els : elementCount (step close m .after) ≡ elementCount m
-  close-step-els = ap length links ∙ after-els (m .sig) (m .structure) v
+  -- with the flags that the call leaves
+  pub close-leaves : step close m .after .structure ≡ leaves true (closed c) (afterClose (closeRun (m .sig) (m .structure)) (m .structure))
+  unfolding rule closeRule acceptance
+  close-leaves =
+      ap (λ (s : Step). s .after .structure) accepted-effect
+      ∙ ap (λ (x : Closed). leaves true (closed x) (afterClose (closeRun (m .sig) (m .structure)) (m .structure))) (sym close-reports)
 
-  pub close-step-roots : rootsOf (step close m .after) + c .merges ≡ rootsOf m
-  close-step-roots = omega (arith, ap roots links, merges, close-roots (m .sig) (m .structure) v)
+  links : step close m .after .structure .links ≡ afterClose (closeRun (m .sig) (m .structure)) (m .structure) .links
+  unfolding leaves
+  links = ap (λ (s : Structure). s .links) close-leaves
+
+  module _ (v : ValidMachine m) where
+    pub close-step-els : elementCount (step close m .after) ≡ elementCount m
+    close-step-els = ap length links ∙ after-els (m .sig) (m .structure) v
+
+    pub close-step-roots : rootsOf (step close m .after) + c .merges ≡ rootsOf m
+    close-step-roots = omega (arith, ap roots links, ap (λ (x : Closed). x .merges) close-reports, close-roots (m .sig) (m .structure) v)
 
 pub closes-reach : (cs : List Closed) (m z : Machine) → ValidMachine m → Closes m cs z → Reaches m cs z
 unfolding mergesIn
@@ -58,8 +68,8 @@ closes-reach (c ∷ cs) m z v h =
     let r = closes-reach cs n z (step-valid close m v) (h .1) in
     record {
       valid = r .valid;
-      els = r .els ∙ close-step-els m v c (h .0);
-      sum = omega (arith, r .sum, close-step-roots m v c (h .0));
+      els = r .els ∙ close-step-els m c (h .0) v;
+      sum = omega (arith, r .sum, close-step-roots m c (h .0) v);
     }
 
 module _ (m : Machine) (v : ValidMachine m) where

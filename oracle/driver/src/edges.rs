@@ -1,12 +1,12 @@
 //! Fixed histories: P1 to P10, every refusal number for every kind that can
 //! meet it, and the edges of document 01, of settle, of maps, of conflict reports, of
-//! files and of the parents of impositions.
+//! files, of the parents of impositions and of the facts that a close adds.
 
 use oracle::record::{AMBIENT_LOOKUP, TYPE_LOOKUP};
 use oracle::stream::{Entry, SHEET, SHEET_WITH_DUMPS};
 
 use crate::history::{bytes, chained, record, History, Words};
-use crate::{counts, files, finds, maps, proved, settled, settles};
+use crate::{added, counts, files, finds, maps, proved, settled, settles};
 
 /// All fixed histories in order. Small ones with dumps.
 pub fn all() -> Vec<Entry> {
@@ -67,6 +67,13 @@ fn without_files() -> Vec<Entry> {
         entries.push(history.with_settles().list_with_dumps());
     }
     entries.extend(counts::small().iter().map(History::list_with_dumps));
+    for (history, _) in added::small() {
+        entries.push(history.list_with_dumps());
+        entries.push(history.sheet_with_dumps());
+        entries.push(history.with_settles().list_with_dumps());
+    }
+    let (most, _) = added::most();
+    entries.extend([most.list(), most.sheet()]);
     entries.extend(finds::refused().map(|(history, _)| history.list_with_flags()));
     let (most, _) = finds::most();
     entries.extend([most.list(), most.with_settles().sheet()]);

@@ -1,5 +1,6 @@
 //! The commands around the oracle; README.md lists them.
 
+mod added;
 mod compare;
 mod counts;
 mod damage;

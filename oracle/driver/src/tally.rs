@@ -14,6 +14,7 @@ pub struct Tally {
     closes: usize,
     settles: usize,
     merges: usize,
+    added: FactsAdded,
     conflicts: usize,
     /// Those that lists print.
     finds: usize,
@@ -39,8 +40,10 @@ impl Tally {
             match word {
                 "close" => {
                     self.closes += 1;
-                    let _changed = number();
-                    self.merges += number().unwrap_or_default();
+                    let [changed, merges, _rounds, added] =
+                        [(); 4].map(|()| number().unwrap_or_default());
+                    self.merges += merges;
+                    self.added.add(changed == 1, merges, added);
                 }
                 "settle" => {
                     self.settles += 1;
@@ -107,9 +110,33 @@ impl fmt::Display for Tally {
             .try_for_each(|(number, count)| write!(f, " {number}:{count}"))?;
         let [loaded, refused] = self.loads;
         write!(f, "; {} stores, {loaded} loads, {refused} refused", self.stores)?;
+        let FactsAdded { facts, none, alone, beside } = self.added;
+        write!(f, "; {facts} facts added by closes: none with a change in {none} of them, ")?;
+        write!(f, "some without a merge in {alone}, some with merges in {beside}")?;
         let FoundSettled { calls, no, yes, refused } = self.settled;
         write!(f, "; {calls} calls of lists found it settled, of kinds 7 to 10 ")?;
         write!(f, "{no} answered with no, {yes} with yes, {refused} refused")
+    }
+}
+
+/// The facts that closes added; the closes that changed something and added none, added some
+/// and merged nothing, and did both. Those of settles print no number of facts.
+#[derive(Default)]
+struct FactsAdded {
+    facts: usize,
+    none: usize,
+    alone: usize,
+    beside: usize,
+}
+
+impl FactsAdded {
+    fn add(&mut self, changed: bool, merges: usize, added: usize) {
+        self.facts += added;
+        match (added, merges) {
+            (0, _) => self.none += usize::from(changed),
+            (_, 0) => self.alone += 1,
+            _ => self.beside += 1,
+        }
     }
 }
 

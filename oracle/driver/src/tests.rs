@@ -13,7 +13,8 @@ use crate::history::History;
 use crate::rng::Rng;
 use crate::settled::{self, Calls};
 use crate::{
-    counts, damage, edges, files, finds, histories, maps, proved, random, sample, settles, shrink,
+    added, counts, damage, edges, files, finds, histories, maps, proved, random, sample, settles,
+    shrink,
 };
 
 /// What an entry prints, without the line that begins it.
@@ -49,33 +50,33 @@ fn tagged(lines: &[String], tag: &str) -> Vec<String> {
 
 #[test]
 fn p1_fresh() {
-    assert_eq!(sheet(&proved::p1()), ["close 0 0 1", "end 1"]);
+    assert_eq!(sheet(&proved::p1()), ["close 0 0 1 0", "end 1"]);
 }
 
 #[test]
 fn p2_one_conflict() {
-    let lines = ["close 1 1 2", "conflict 2 1 0 / 1 1", "conflicts 1", "end 12"];
+    let lines = ["close 1 1 2 2", "conflict 2 1 0 / 1 1", "conflicts 1", "end 12"];
     assert_eq!(sheet(&proved::p2()), lines);
-    let lines = ["close 1 1 2", "conflict 2 1 0 / 1 1", "conflicts 1 1"];
+    let lines = ["close 1 1 2 2", "conflict 2 1 0 / 1 1", "conflicts 1 1"];
     assert_eq!(list(&proved::p2())[10..], lines);
 }
 
 #[test]
 fn p3_results_of_one_key() {
-    assert_eq!(sheet(&proved::p3()), ["close 1 2 3", "end 10"]);
+    assert_eq!(sheet(&proved::p3()), ["close 1 2 3 2", "end 10"]);
 }
 
 #[test]
 fn p4_stale_parent_of_a_fact() {
     let p = proved::p4();
-    assert_eq!(sheet(&p), ["close 1 0 1", "close 1 1 2", "close 0 0 1", "end 10"]);
+    assert_eq!(sheet(&p), ["close 1 0 1 1", "close 1 1 2 1", "close 0 0 1 0", "end 10"]);
     assert_eq!(tagged(&structure(&p), "f "), ["f 2 1 0"]);
 }
 
 #[test]
 fn p5_stale_key() {
     let p = proved::p5();
-    assert_eq!(sheet(&p), ["close 1 1 2", "close 1 1 3", "close 0 0 1", "end 15"]);
+    assert_eq!(sheet(&p), ["close 1 1 2 3", "close 1 1 3 0", "close 0 0 1 0", "end 15"]);
     assert_eq!(tagged(&structure_after(&p, 13), "a "), ["a 0 0 / = 2", "a 0 1 / = 3"]);
     assert_eq!(tagged(&structure_after(&p, 14), "a "), ["a 0 0 / = 2"]);
     assert_eq!(tagged(&structure(&p), "i "), ["i 4 1 0", "i 4 1 0"]);
@@ -90,7 +91,7 @@ fn p6_leading_parents() {
 fn p7_one_parent_of_two() {
     let p = proved::p7();
     assert_eq!(sheet(&p), ["refused 15 at 6"]);
-    assert_eq!(list(&p)[6..], ["refused 15", "answer 1", "close 1 0 1", "conflicts 0 0"]);
+    assert_eq!(list(&p)[6..], ["refused 15", "answer 1", "close 1 0 1 1", "conflicts 0 0"]);
     assert_eq!(tagged(&structure(&p), "f "), ["f 0 2 1 2"]);
     assert_eq!(structure_after(&p, 6), structure_after(&p, 7));
 }
@@ -98,7 +99,7 @@ fn p7_one_parent_of_two() {
 #[test]
 fn p8_last_pair_first() {
     let p = proved::p8();
-    assert_eq!(sheet(&p), ["close 1 2 2", "end 6"]);
+    assert_eq!(sheet(&p), ["close 1 2 2 0", "end 6"]);
     assert_eq!(tagged(&structure(&p), "e "), ["e 0 0 0", "e 1 0 0", "e 2 0 0"]);
 }
 
@@ -112,7 +113,7 @@ fn p9_marks() {
 
 #[test]
 fn p10_equal_to_itself() {
-    assert_eq!(sheet(&proved::p10()), ["close 0 0 1", "end 3"]);
+    assert_eq!(sheet(&proved::p10()), ["close 0 0 1 0", "end 3"]);
 }
 
 #[test]
@@ -143,8 +144,8 @@ fn settles_of_the_most_closes() {
         }
         let closes = &list(&h)[before..];
         let (last, others) = closes.split_last().expect("it has closes");
-        assert_eq!(last, "close 0 0 1");
-        assert!(others.iter().all(|line| line == "close 1 1 1"));
+        assert_eq!(last, "close 0 0 1 0");
+        assert!(others.iter().all(|line| line.starts_with("close 1 1 1 ")));
     }
 }
 
@@ -170,7 +171,7 @@ fn a_refused_settle_leaves_everything() {
         let closes = &lines[lines.len() - usize::from(levels) - 2..lines.len() - 1];
         let (last, others) = closes.split_last().expect("it has closes");
         assert_eq!(last, "refused 11");
-        assert!(others.iter().all(|line| line == "close 1 1 1"));
+        assert!(others.iter().all(|line| line.starts_with("close 1 1 1 ")));
     }
 }
 
@@ -196,7 +197,7 @@ fn asked_after_start(calls: Calls) -> (Vec<(String, bool)>, (String, bool)) {
 
 #[test]
 fn the_builder_is_told_no() {
-    let lines = ["settle 1 0", "answer 1", "close 1 1 2", "close 0 0 1"];
+    let lines = ["settle 1 0", "answer 1", "close 1 1 2 0", "close 0 0 1 0"];
     let flags = [true, false, false, true];
     let expected: Vec<_> = lines.map(str::to_string).into_iter().zip(flags).collect();
     assert_eq!(asked(&settled::builder())[2..], expected);
@@ -211,7 +212,7 @@ fn a_yes_takes_settled_away() {
     {
         let (after, (line, is_settled)) = asked_after_start(calls);
         assert!(after.iter().all(|asked| *asked == ("answer 1".to_string(), false)));
-        assert_eq!(line != "close 0 0 1", changes);
+        assert_eq!(line != "close 0 0 1 0", changes);
         assert_eq!(is_settled, !changes);
     }
 }
@@ -221,14 +222,14 @@ fn settled_comes_back_with_the_last_of_three_closes() {
     let mut h = settled::start();
     settled::YES_WITH_WORK[5](&mut h);
     let asked = asked(h.close().close().close());
-    let lines = ["close 1 1 2", "close 1 1 3", "close 0 0 1"].map(str::to_string);
+    let lines = ["close 1 1 2 1", "close 1 1 3 0", "close 0 0 1 0"].map(str::to_string);
     let expected: Vec<_> = lines.into_iter().zip([false, false, true]).collect();
     assert_eq!(asked[asked.len() - 3..], expected);
 }
 
 #[test]
 fn other_calls_leave_settled() {
-    let quiet = ("close 0 0 1".to_string(), true);
+    let quiet = ("close 0 0 1 0".to_string(), true);
     for calls in settled::NO {
         let (after, closed) = asked_after_start(calls);
         assert_eq!((after, closed), (vec![("answer 0".to_string(), true)], quiet.clone()));
@@ -244,7 +245,7 @@ fn other_calls_leave_settled() {
 #[test]
 fn p1_to_p10_asked_after_every_call() {
     for p in proved::all() {
-        let quiet = |(line, is_settled): &(String, bool)| *is_settled == (line == "close 0 0 1");
+        let quiet = |(line, is_settled): &(String, bool)| *is_settled == (line == "close 0 0 1 0");
         assert!(asked(&p).iter().all(quiet));
         let settling = asked(&p.with_settles());
         let quiet = |(line, is_settled): &(String, bool)| {
@@ -291,7 +292,7 @@ fn each_law_alone() {
 #[test]
 fn laws_beside_equalities() {
     let h = maps::beside_the_book();
-    assert_eq!(list(&h)[h.records.len() - 2..], ["close 1 2 3", "close 0 0 1"]);
+    assert_eq!(list(&h)[h.records.len() - 2..], ["close 1 2 3 5", "close 0 0 1 0"]);
     assert_eq!(tagged(&structure(&h), "e ")[3..], ["e 3 0 0", "e 4 4 0", "e 5 4 0"]);
 }
 
@@ -308,7 +309,7 @@ fn laws_reach_past_the_elements_given() {
 
 #[test]
 fn identities_with_one_result() {
-    assert_eq!(list(maps::identities(129).close()).last(), Some(&"close 1 128 3".to_string()));
+    assert_eq!(list(maps::identities(129).close()).last(), Some(&"close 1 128 3 130".to_string()));
     let mut h = maps::identities(130);
     let before = structure(&h);
     assert_eq!(list(h.close()).last(), Some(&"refused 9".to_string()));
@@ -320,18 +321,18 @@ fn identities_with_one_result() {
 fn chains_of_composites() {
     for count in [2, 6, 127] {
         let lines = list(&maps::reversed_chain(count));
-        assert!(lines.contains(&format!("close 1 0 {}", count + 1)));
-        assert!(list(&maps::forward_chain(count)).contains(&"close 1 0 2".to_string()));
+        assert!(lines.contains(&format!("close 1 0 {} {}", count + 1, count + 3)));
+        assert!(list(&maps::forward_chain(count)).contains(&format!("close 1 0 2 {}", count + 3)));
     }
     let h = maps::chains_in_boxes(4, 30);
-    assert!(list(&h).contains(&"close 1 3 129".to_string()));
+    assert!(list(&h).iter().any(|line| line.starts_with("close 1 3 129 ")));
     assert_eq!(tagged(&structure(&h), "e ").len(), 48);
 }
 
 #[test]
 fn nine_and_eleven_in_one_close() {
     let last_line = |mut h: History| list(h.close()).pop().expect("it closes");
-    assert_eq!(last_line(maps::nine_and_eleven(false, false)), "close 1 0 3");
+    assert_eq!(last_line(maps::nine_and_eleven(false, false)), "close 1 0 3 1024");
     assert_eq!(last_line(maps::nine_and_eleven(true, false)), "refused 9");
     assert_eq!(last_line(maps::nine_and_eleven(false, true)), "refused 11");
     assert_eq!(last_line(maps::nine_and_eleven(true, true)), "refused 9");
@@ -345,7 +346,7 @@ fn a_settle_meets_nine_after_an_accepted_close() {
     assert!(list(&accepted).contains(&"settle 3 1".to_string()));
     let refused = maps::nine_in_a_second_close(true);
     let settle = refused.records.iter().position(|words| words[1] == 15).expect("it settles");
-    let closes = ["refused 9", "root 17 0", "close 1 1 2", "refused 9", "refused 9"];
+    let closes = ["refused 9", "root 17 0", "close 1 1 2 5", "refused 9", "refused 9"];
     assert_eq!(list(&refused)[settle..], closes);
     assert_eq!(structure_after(&refused, settle), structure_after(&refused, settle + 1));
 }
@@ -397,7 +398,7 @@ fn impositions_give_the_parents_of_their_types() {
             assert_eq!(lines[first + 5 * typ + given], expected, "{given} of {typ} parents");
         }
     }
-    assert_eq!(lines[first + 25..], ["close 1 0 1", "conflicts 0 0"]);
+    assert_eq!(lines[first + 25..], ["close 1 0 1 5", "conflicts 0 0"]);
 }
 
 /// A refused one leaves the structure, with its links and flags.
@@ -430,6 +431,17 @@ fn files_have_the_parents_of_their_types() {
     assert_eq!(loads(changed)[18..], ["answer 1"; 3]);
     assert_eq!(loads(elsewhere)[..2], ["answer 1"; 2]);
     assert_eq!(loads(elsewhere)[2..], ["refused 14"; 5]);
+}
+
+/// The lines of closes are the same in lists and in sheets.
+#[test]
+fn closes_have_the_facts_that_they_added() {
+    for (history, closes) in added::small().into_iter().chain([added::most()]) {
+        let line = |[c, m, r, f]: &[usize; 4]| format!("close {c} {m} {r} {f}");
+        let lines: Vec<String> = closes.iter().map(line).collect();
+        assert_eq!(tagged(&list(&history), "close "), lines);
+        assert_eq!(tagged(&sheet(&history), "close "), lines);
+    }
 }
 
 /// A history that may grow by `limit` records of one kind and no more.
@@ -467,9 +479,9 @@ fn facts_1024_and_1025() {
         h.holds(0, &[], &[el, el, el, el]);
     }
     h.close();
-    assert_eq!(sheet(&h), ["close 1 0 2", "end 519"]);
+    assert_eq!(sheet(&h), ["close 1 0 2 1024", "end 519"]);
     h.impose(0, 4, &[]).close();
-    assert_eq!(sheet(&h), ["close 1 0 2", "refused 11 at 520"]);
+    assert_eq!(sheet(&h), ["close 1 0 2 1024", "refused 11 at 520"]);
 }
 
 #[test]
@@ -487,7 +499,7 @@ fn sheets_of_1024_records_and_one_more() {
 #[test]
 fn next_index_on_the_last_record() {
     let mut entry = proved::p10().sheet();
-    assert_eq!(answers(&entry), ["close 0 0 1", "end 3"]);
+    assert_eq!(answers(&entry), ["close 0 0 1 0", "end 3"]);
     entry.bytes[64] = 1;
     assert_eq!(answers(&entry), ["refused 2 at 2"]);
     entry.bytes[64] = 3;

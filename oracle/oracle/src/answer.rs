@@ -29,6 +29,8 @@ pub struct Closed {
     pub changed: bool,
     pub merges: usize,
     pub rounds: usize,
+    /// The insertions made by imposing that enlarged a set of facts.
+    pub added: usize,
 }
 
 pub struct Conflicts {
@@ -75,8 +77,8 @@ impl fmt::Display for Answer {
             Answer::Refused(number) => writeln!(f, "refused {number}"),
             Answer::Number(number) => writeln!(f, "number {number}"),
             Answer::Said(yes) => writeln!(f, "answer {}", u8::from(*yes)),
-            Answer::Closed(Closed { changed, merges, rounds }) => {
-                writeln!(f, "close {} {merges} {rounds}", u8::from(*changed))
+            Answer::Closed(Closed { changed, merges, rounds, added }) => {
+                writeln!(f, "close {} {merges} {rounds} {added}", u8::from(*changed))
             }
             Answer::Settled { closes, merges } => writeln!(f, "settle {closes} {merges}"),
             Answer::Conflicts(conflicts) => writeln!(f, "{conflicts} {}", conflicts.finds),

@@ -165,6 +165,34 @@ fn a_merge_without_a_fact_is_work() {
     assert_eq!(structure.els[&ElId(0)].len(), 1);
 }
 
+/// The Rust's imposing says yes for a fact, for a merge and for both, so that a fact that is
+/// added beside a merge has to be told from the sets. Of a fact whose stored copy is stale
+/// one more is stored, until the end of the close.
+#[test]
+fn an_imposing_says_yes_for_a_fact_a_merge_or_both() {
+    let mut structure = applied(6, 0, NONE);
+    structure.inferred_parent_els.extend([ElId(3), ElId(4), ElId(5)]);
+    let mut oracle = Oracle { structure, ..Oracle::default() };
+    let mut impose = |parents: &[u16]| {
+        let mut added = Added::default();
+        let ct = ConcreteType { typ: TypeId::new(0), parents: el_ids(parents) };
+        let classes = oracle.structure.els.len();
+        let said = oracle.impose(ElId(0), ct, &mut added);
+        let merges = classes - oracle.structure.els.len();
+        (said.unwrap_or_else(|_| panic!("it is accepted")), merges, added.facts, oracle.facts())
+    };
+    assert_eq!(impose(&[5, 2]), (true, 0, 1, 1));
+    assert_eq!(impose(&[5, 2]), (false, 0, 0, 1));
+    // 5 joins 1, and the stored fact is stale.
+    assert_eq!(impose(&[1, 2]), (true, 1, 1, 2));
+    // 4 joins 1, and the fact is there.
+    assert_eq!(impose(&[4, 2]), (true, 1, 0, 2));
+    // 3 joins 1, and the other parent is not 2.
+    assert_eq!(impose(&[3, 0]), (true, 1, 1, 3));
+    oracle.structure.canonicalise_refs();
+    assert_eq!(oracle.facts(), 2);
+}
+
 /// The comment of `impose_type` says that an entry is queued once. A close can
 /// make two entries equal; both stay.
 #[test]

@@ -7,6 +7,8 @@
 mod findings;
 pub mod parking;
 
+use std::collections::BTreeSet;
+
 use super::{
     concrete_type_at, func_codomain_type_at, func_domain_type_at, ConcreteType, ElId, FuncApp,
     PredApp, Structure, TypeConflict,
@@ -41,6 +43,15 @@ pub struct Oracle {
     settled: bool,
     /// What the calls said, to hold the structure against.
     book: Book,
+}
+
+/// What a close added.
+#[derive(Default)]
+struct Added {
+    /// Insertions made by imposing that enlarged a set.
+    facts: usize,
+    /// Applications that the laws inserted.
+    apps: usize,
 }
 
 /// The number that a close met.
@@ -376,15 +387,15 @@ impl Oracle {
         })
     }
 
-    /// The Rust's close pass by pass, so that merges and rounds can be counted and
-    /// facts, applications and pairs watched. The real close must do the same.
+    /// The Rust's close pass by pass, so that merges, rounds and facts added can be
+    /// counted and facts, applications and pairs watched. The real close must do the same.
     fn close(&mut self) -> Result<Closed, Met> {
         let mut real = self.structure.clone();
         let classes = self.structure.els.len();
+        let (facts, had_stale) = (self.facts(), self.has_stale_facts());
         let mut changed = false;
         let mut rounds = 0;
-        // Facts and applications that the close added.
-        let mut added = 0;
+        let mut added = Added::default();
         loop {
             rounds += 1;
             let drained = self.structure.drain_equalities();
@@ -405,13 +416,19 @@ impl Oracle {
         self.structure.canonicalise_refs();
         // A merge takes one class away, and nothing else does.
         let merges = classes - self.structure.els.len();
-        assert!(rounds - 1 <= 2 * merges + added, "rounds end");
+        assert!(rounds - 1 <= 2 * merges + added.apps + added.facts, "rounds end");
+        let most = facts + added.facts;
+        assert!(self.facts() <= most, "there are no more facts than were added");
+        let none_lost = merges == 0 && !had_stale;
+        assert!(self.facts() == most || !none_lost, "facts added are there");
+        let worked = merges > 0 || added.apps > 0 || added.facts > 0;
+        assert_eq!(changed, worked, "merges, applications and facts are the change");
 
         let real_changed = real.close(&self.signature);
         assert_eq!(real_changed, changed, "the real close answers otherwise");
         assert!(is_same(&real, &self.structure), "the real close differs");
         self.settled = !changed;
-        Ok(Closed { changed, merges, rounds })
+        Ok(Closed { changed, merges, rounds, added: added.facts })
     }
 
     /// Closes until one reports no change. Each close is a call of its own on a
@@ -443,7 +460,7 @@ impl Oracle {
     }
 
     /// The Rust's `typing`, one imposing at a time.
-    fn type_apps(&mut self, added: &mut usize) -> Result<bool, Met> {
+    fn type_apps(&mut self, added: &mut Added) -> Result<bool, Met> {
         let mut changed = false;
         let func_apps = self.structure.func_apps.clone();
         for app in func_apps.keys() {
@@ -469,23 +486,59 @@ impl Oracle {
         Ok(changed)
     }
 
-    /// One imposing. Facts grow only here, by one, after any merges. One that comes
-    /// with a merge is not counted as added.
-    fn impose(&mut self, el: ElId, ct: ConcreteType, added: &mut usize) -> Result<bool, Met> {
+    /// One imposing. Facts grow only here, by one, after any merges.
+    fn impose(&mut self, el: ElId, ct: ConcreteType, added: &mut Added) -> Result<bool, Met> {
+        let before = self.may_merge(el, &ct).then(|| self.without_apps());
         let classes = self.structure.els.len();
-        let changed = self.structure.impose_concrete_type(el, ct);
+        let changed = self.structure.impose_concrete_type(el, ct.clone());
         if changed && self.facts() > MAX_FACTS {
             return Err(TOO_MANY_FACTS);
         }
-        *added += usize::from(changed && self.structure.els.len() == classes);
+        added.facts += usize::from(if self.structure.els.len() == classes {
+            changed
+        } else {
+            self.has_grown(before.expect("it may merge"), el, ct)
+        });
         Ok(changed)
+    }
+
+    /// Whether there are marks and the class has the type with other parents. Else an
+    /// imposing merges nothing.
+    fn may_merge(&self, el: ElId, ct: &ConcreteType) -> bool {
+        if self.structure.inferred_parent_els.is_empty() {
+            return false;
+        }
+        let new = self.structure.canonical_type(ct.clone());
+        let held = self.structure.concrete_types_of(el);
+        held.iter().any(|held| held.typ == new.typ && *held != new)
+    }
+
+    /// Elements and facts as they are now.
+    fn without_apps(&self) -> Structure {
+        let (els, unification) = (self.structure.els.clone(), self.structure.unification.clone());
+        Structure { els, unification, ..Structure::default() }
+    }
+
+    /// Whether an imposing that merged enlarged a set too. The Rust's own drain makes of
+    /// the facts before it those that its merges left; the one to be inserted is among
+    /// them or not.
+    fn has_grown(&self, before: Structure, el: ElId, ct: ConcreteType) -> bool {
+        let mut merged = before;
+        let els = (0..merged.unification.len()).map(ElId);
+        merged.pending_equalities = els.map(|el| (el, self.structure.root(el))).collect();
+        merged.drain_equalities();
+        let root = merged.root(el);
+        let ct = merged.canonical_type(ct);
+        let grew = merged.els.entry(root).or_default().insert(ct);
+        assert!(merged.els == self.structure.els, "an imposing merges and then inserts");
+        grew
     }
 
     /// The Rust's own `morphism_operation_constraints`. It adds no fact, and while it
     /// runs applications and pairs only grow in number: so an entry was needed and its
     /// table at its limit exactly when the table is over its limit afterwards, and 11
     /// is not met in between.
-    fn obey_operations(&mut self, added: &mut usize) -> Result<bool, Met> {
+    fn obey_operations(&mut self, added: &mut Added) -> Result<bool, Met> {
         let (facts, apps) = (self.facts(), self.structure.func_apps.len());
         let changed = self.structure.morphism_operation_constraints(&self.signature);
         assert_eq!(self.facts(), facts, "the laws add no fact");
@@ -494,12 +547,22 @@ impl Oracle {
         {
             return Err(NO_ROOM);
         }
-        *added += self.structure.func_apps.len() - apps;
+        added.apps += self.structure.func_apps.len() - apps;
         Ok(changed)
     }
 
     fn facts(&self) -> usize {
         self.structure.els.values().map(|cts| cts.len()).sum()
+    }
+
+    /// Whether a stored fact has an element or a parent that is no root.
+    fn has_stale_facts(&self) -> bool {
+        let is_root = |el: &ElId| self.structure.unification.link(*el) == *el;
+        let is_stale = |(el, cts): (&ElId, &BTreeSet<ConcreteType>)| {
+            let mut parents = cts.iter().flat_map(|ct| &ct.parents);
+            !cts.is_empty() && (!is_root(el) || !parents.all(is_root))
+        };
+        self.structure.els.iter().any(is_stale)
     }
 
     fn conflicts(&self) -> Conflicts {
@@ -563,7 +626,10 @@ impl Oracle {
         }
         let mut closed = self.clone();
         let answer = closed.answer(&Record::of_kind(13));
-        let quiet = matches!(answer, Answer::Closed(Closed { changed: false, merges: 0, rounds: 1 }));
+        let quiet = matches!(
+            answer,
+            Answer::Closed(Closed { changed: false, merges: 0, rounds: 1, added: 0 })
+        );
         assert!(quiet, "a close of a settled structure answers {answer}");
         let mut expected = self.structure.clone();
         expected.pending_equalities.clear();

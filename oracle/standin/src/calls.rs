@@ -186,6 +186,7 @@ impl State {
                 let links = mem::take(&mut self.links);
                 *self = State { links, ..before };
             }
+            Some(Fault::RefusedAdded) => *self = State { added: self.added, ..before },
             _ => *self = before,
         }
     }
@@ -647,10 +648,11 @@ impl State {
     fn queue_imposition(&mut self, w: &Words) -> bool {
         let entry = self.imposition(w);
         let new = !self.impositions.contains(&entry);
+        let is_held = self.types_of(entry.0).contains(&entry.1);
         if new {
             self.impositions.push(entry);
         }
-        new
+        new && !(is_held && self.is(Fault::ImpositionSaysNew))
     }
 
     /// Queues the pair as given; says whether the roots differ.

@@ -2,6 +2,7 @@
 
 use std::mem;
 
+use crate::added::Part;
 use crate::faults::Fault;
 use crate::state::{App, Fact, State};
 
@@ -9,6 +10,8 @@ pub struct Closed {
     pub changed: bool,
     pub merges: u16,
     pub rounds: u16,
+    /// The facts that imposing put into a set that did not have them.
+    pub added: usize,
 }
 
 /// The number that a close met.
@@ -32,11 +35,13 @@ pub struct Work<'a> {
 
 /// Closes; one that meets a number is handed back as far as it got.
 pub fn close(state: &mut State) -> Result<Closed, Met> {
+    let before = state.begin_adding();
     let mut work = Work { state, merges: 0, lacked_room: false, equated: 0 };
     let mut changed = false;
     let mut rounds = 0;
     loop {
         rounds += 1;
+        let added = work.state.added;
         let drained = work.drain();
         let mut obeyed = work.is(Fault::LawsBeforeFunctionality) && work.laws()?;
         let equated = work.functionality();
@@ -48,6 +53,7 @@ pub fn close(state: &mut State) -> Result<Closed, Met> {
         if !others && !obeyed && !imposed {
             break;
         }
+        work.state.end_part(Part::Round(rounds), added);
         changed |= others || !work.is(Fault::LawsUnreported);
         if work.ends_early(rounds) {
             break;
@@ -56,8 +62,11 @@ pub fn close(state: &mut State) -> Result<Closed, Met> {
     if work.is(Fault::LawsAfterRounds) {
         changed |= work.laws()?;
     }
+    let added = work.state.added;
     let imposed = !work.is(Fault::ImposesInRounds) && work.impositions()?;
+    work.state.end_part(Part::Impositions, added);
     changed |= imposed && !work.is(Fault::ImpositionsUnreported);
+    let unrewritten = work.facts();
     work.canonicalise();
     let merges = work.merges;
     if work.is(Fault::FactsCountedAtEnd) && work.facts() > 1024 {
@@ -66,17 +75,21 @@ pub fn close(state: &mut State) -> Result<Closed, Met> {
     if work.lacked_room {
         return Err(NO_ROOM);
     }
+    let added = state.end_adding(merges, unrewritten, &before);
     if state.is(Fault::IdleRoundUncounted) {
         rounds -= 1;
     }
     if state.is(Fault::OnlyMergesReported) {
         changed = merges > 0;
     }
+    if state.is(Fault::OnlyFactsReported) {
+        changed = added > 0;
+    }
     state.was_taken &= !changed;
     state.has_reported = false;
     let stays_taken = state.was_taken && state.is(Fault::QuietCloseLeavesTaken);
     state.settled = (!changed && !stays_taken) || state.is(Fault::CloseSettles);
-    Ok(Closed { changed, merges, rounds })
+    Ok(Closed { changed, merges, rounds, added })
 }
 
 /// The closes that a settle ran, and their merges.
@@ -240,7 +253,8 @@ impl Work<'_> {
         let moved = mem::take(&mut self.state.facts[usize::from(gone)]);
         let mut facts = mem::take(&mut self.state.facts[usize::from(keep)]);
         for fact in moved {
-            self.state.insert_fact(&mut facts, fact);
+            let grew = self.state.insert_fact(&mut facts, fact);
+            self.state.added += usize::from(grew && self.is(Fault::MovedAdded));
         }
         self.state.facts[usize::from(keep)] = facts;
         true
@@ -296,10 +310,12 @@ impl Work<'_> {
         if self.is(Fault::PredicatesFirst) {
             worked |= self.type_predicates()?;
         }
+        let added = self.state.added;
         for (app, _) in &apps {
             let domain = self.state.funcs[usize::from(app.head)].domain.clone();
             worked |= self.type_arguments(app, &domain)?;
         }
+        self.state.end_part(Part::Arguments, added);
         if self.is(Fault::ResultsBeforePredicates) {
             worked |= self.type_results(&apps)?;
         }
@@ -334,15 +350,18 @@ impl Work<'_> {
     }
 
     fn type_predicates(&mut self) -> Result<bool, Met> {
+        let added = self.state.added;
         let mut worked = false;
         for app in self.state.pred_apps.clone() {
             let arity = self.state.preds[usize::from(app.head)].domain.clone();
             worked |= self.type_arguments(&app, &arity)?;
         }
+        self.state.end_part(Part::Predicates, added);
         Ok(worked)
     }
 
     fn type_results(&mut self, apps: &[(App, u16)]) -> Result<bool, Met> {
+        let added = self.state.added;
         let mut worked = false;
         for (app, result) in apps {
             let codomain = self.state.funcs[usize::from(app.head)].codomain;
@@ -350,6 +369,7 @@ impl Work<'_> {
                 worked |= self.impose(*result, &fact)?;
             }
         }
+        self.state.end_part(Part::Results, added);
         Ok(worked)
     }
 
@@ -369,12 +389,11 @@ impl Work<'_> {
     }
 
     fn impose(&mut self, el: u16, fact: &Fact) -> Result<bool, Met> {
-        if self.is(Fault::FullBeforeMerges) && self.facts() == 1024 {
-            let new = self.state.fact_as_roots(fact);
-            let root = self.state.root(el);
-            if !self.state.facts[usize::from(root)].contains(&new) {
-                return Err(TOO_MANY_FACTS);
-            }
+        // Whether it is new before the merges; only wrong versions look at it.
+        let held = &self.state.facts[usize::from(self.state.root(el))];
+        let was_new = !held.contains(&self.state.fact_as_roots(fact));
+        if was_new && self.is(Fault::FullBeforeMerges) && self.facts() == 1024 {
+            return Err(TOO_MANY_FACTS);
         }
         let merged = self.join_parents(el, fact);
         let at = if self.is(Fault::FactAtElement) { el } else { self.state.root(el) };
@@ -388,11 +407,19 @@ impl Work<'_> {
         if facts.is_empty() {
             self.state.oldest[at] = new.parents.len();
         }
+        let left_out = self.state.leaves_out(&facts, &new, merged);
         let grew = self.state.insert_fact(&mut facts, new);
         self.state.facts[at] = facts;
         if grew && self.is_full() {
             return Err(TOO_MANY_FACTS);
         }
+        self.state.added += usize::from(match self.state.fault {
+            Some(Fault::KnownAdded) => true,
+            Some(Fault::YesAdded) => grew || merged,
+            Some(Fault::JudgedBeforeMerges) => was_new,
+            _ => grew && !left_out,
+        });
+        let grew = grew && !self.is(Fault::GrownSaysNo);
         Ok(grew || (merged && !self.is(Fault::MergeSaysNo)))
     }
 
@@ -462,9 +489,11 @@ impl Work<'_> {
     fn rewrite_facts(&mut self) {
         for el in 0..self.state.facts.len() {
             let mut facts = Vec::new();
-            for fact in mem::take(&mut self.state.facts[el]) {
-                let fact = self.state.fact_as_roots(&fact);
+            for old in mem::take(&mut self.state.facts[el]) {
+                let fact = self.state.fact_as_roots(&old);
+                let moves = fact != old;
                 self.state.insert_fact(&mut facts, fact);
+                self.state.added += usize::from(moves && self.is(Fault::RewrittenAdded));
             }
             self.state.facts[el] = facts;
         }

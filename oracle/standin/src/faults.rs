@@ -1,4 +1,4 @@
-//! The wrong versions, by name. Each departs from document 01, or from M-100 to M-105 of
+//! The wrong versions, by name. Each departs from document 01, or from M-100 to M-106 of
 //! document 02, in one place.
 
 macro_rules! faults {
@@ -251,6 +251,38 @@ faults! {
     FindsPrintedFirst: "the finds are printed before the number of conflicts",
     FindsUnprinted: "a list prints no finds",
     FindsInSheets: "a sheet prints the finds",
+
+    // The facts that a close adds.
+    MovedAdded: "added counts the facts that a merge moves too",
+    RewrittenAdded: "added counts the facts that the end of a close rewrites too",
+    KnownAdded: "added counts the insertions of facts that are there too",
+    YesAdded: "added counts each imposing that says yes, also for a merge alone",
+    MergesAdded: "added counts the merges too",
+    LawsAdded: "added counts the applications that the laws insert too",
+    ArgumentsUnadded: "added leaves out the arguments of functions",
+    PredicatesUnadded: "added leaves out the arguments of predicates",
+    ResultsUnadded: "added leaves out the results",
+    AddedInRounds: "added leaves out the impositions",
+    AddedByImpositions: "added leaves out the rounds",
+    AddedInFirstRound: "of the rounds added counts the first only",
+    AddedInLastRound: "of the rounds added counts the last one that works only",
+    CopyUnadded: "a fact is not added where a stale copy of it is stored",
+    MergingUnadded: "a fact is not added where its imposing merges",
+    MergingCloseUnadded: "added is 0 where the close merges",
+    JudgedBeforeMerges: "a fact is added where it is not there before its imposing merges",
+    KnownTypeUnadded: "a fact is not added where its class has one of its type",
+    AddedIsGrowth: "added is by how many there are more facts after a close than before",
+    AddedIsGrowthUnrewritten: "added is the same before a close rewrites its facts",
+    NewAtEndAdded: "added counts the facts after a close that were not there before it",
+    AddedUpTo1024: "added is at most 1,024",
+    AddedAddUp: "added counts those of the earlier closes too",
+    RefusedAdded: "added counts those of the closes refused just before too",
+    AddedBeforeRounds: "a close prints added before its rounds",
+    AddedNotInSheets: "a sheet prints no added",
+    SettlePrintsAdded: "a settle prints what its closes added",
+    OnlyFactsReported: "changed says whether a fact was added",
+    GrownSaysNo: "imposing says yes only if it merged",
+    ImpositionSaysNew: "an imposition says no where its element has the fact",
 
     // Refusals.
     FourBeforeThree: "number 4 comes before 3",

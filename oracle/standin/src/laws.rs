@@ -166,6 +166,7 @@ impl Work<'_> {
                 _ => Err(NO_ROOM),
             };
         }
+        self.state.added += usize::from(stored.is_none() && self.is(LawsAdded));
         let links = self.state.links.clone();
         let worked = match stored {
             Some(stored) if stored != value && self.is(LawValueAsStored) => {

@@ -4,6 +4,7 @@
 //! With a fault it is one of the wrong versions that the streams must tell
 //! apart; `is` marks the one place where each departs.
 
+mod added;
 mod calls;
 mod close;
 mod conflicts;

@@ -6,6 +6,7 @@ use crate::faults::Fault;
 use crate::state::{App, Fact, State};
 
 /// Where an answer is printed.
+#[derive(Copy, Clone)]
 pub enum Place {
     List,
     Sheet,
@@ -32,11 +33,11 @@ impl State {
             Answer::Refused(number) => *out += &format!("refused {number}"),
             Answer::Number(number) => *out += &format!("number {number}"),
             Answer::Said(yes) => *out += &format!("answer {}", u16::from(*yes)),
-            Answer::Closed(closed) => put_closed(out, closed),
+            Answer::Closed(closed) => self.put_closed(out, closed, place),
             Answer::Settled(settled) => {
                 if self.is(Fault::SettlePrintsCloses) {
                     for closed in &settled.each {
-                        put_closed(out, closed);
+                        self.put_closed(out, closed, place);
                         out.push('\n');
                     }
                 }
@@ -46,6 +47,10 @@ impl State {
                     numbers.reverse();
                 }
                 put(out, &numbers);
+                if self.is(Fault::SettlePrintsAdded) {
+                    let added: usize = settled.each.iter().map(|closed| closed.added).sum();
+                    *out += &format!(" {added}");
+                }
             }
             Answer::Conflicts(report) => {
                 for (el, a, b) in &report.conflicts {
@@ -81,6 +86,19 @@ impl State {
             }
         }
         out.push('\n');
+    }
+
+    fn put_closed(&self, out: &mut String, closed: &Closed, place: Place) {
+        let Closed { changed, merges, rounds, added } = *closed;
+        let changed = u16::from(changed);
+        let leaves_out = matches!(place, Place::Sheet) && self.is(Fault::AddedNotInSheets);
+        *out += &if leaves_out {
+            format!("close {changed} {merges} {rounds}")
+        } else if self.is(Fault::AddedBeforeRounds) {
+            format!("close {changed} {merges} {added} {rounds}")
+        } else {
+            format!("close {changed} {merges} {rounds} {added}")
+        };
     }
 
     pub fn put_dump(&self, out: &mut String) {
@@ -135,11 +153,6 @@ pub fn put_bytes(out: &mut String, file: &[u8]) {
         }
         out.push('\n');
     }
-}
-
-fn put_closed(out: &mut String, closed: &Closed) {
-    *out += "close";
-    put(out, &[closed.changed.into(), closed.merges, closed.rounds]);
 }
 
 fn put_app(out: &mut String, tag: &str, app: &App) {

@@ -81,6 +81,9 @@ pub struct State {
     pub found: usize,
     pub has_reported: bool,
     pub oldest: Vec<usize>,
+    /// The facts that the close at work has added; between two calls only wrong versions
+    /// look at it.
+    pub added: usize,
 }
 
 /// A find's answer.
@@ -113,6 +116,7 @@ impl State {
             found: 0,
             has_reported: false,
             oldest: Vec::new(),
+            added: 0,
         }
     }
 

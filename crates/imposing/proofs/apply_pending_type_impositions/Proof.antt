@@ -43,7 +43,7 @@ loop-again c =
     let l = test .before .loop in
     let t = sized .before .args .t5 in
     let at : l .i < length (impositionsOf t) = omega (arith, sized .size .ensures .is, test .loop-test .taken) in
-    (omega (arith, test .loop-test .taken), turn oneImposed (l .i) (l .inv .1) (made .impose-concrete-type .ensures) (impositions-next t (l .i) _ at))
+    (omega (arith, test .loop-test .taken), turn oneImposed (l .i) (l .inv .1) (made .impose-concrete-type .ensures .0) (impositions-next t (l .i) _ at))
 
 same-length : tie.Need-same-length Inv-loop μ-loop
 same-length c =

@@ -1,9 +1,11 @@
 -- `impose_concrete_type` meets its contract: the types are refined, then the fact is inserted as roots.
+use mathlib.Core.Path.{ap}
 use native.Mathlib.Omega.{arith}
-use Rattle.semantics.specs.Types.{insertCanonical}
+use Rattle.semantics.specs.Types.{insertCanonical, impose, growth}
 use Rattle.facts.specs.View.{factOf}
 use Rattle.merging.specs.View.{lent, coreOf}
 use Rattle.merging.proofs.Laws.{room-left, does, follows}
+use Rattle.imposing.specs.Bounds.{oneImposed}
 use Rattle.imposing.proofs.Laws.{inserted-canonical, imposed}
 use borrow.Author.Needs.{needs}
 use Rattle.imposing.proofs.impose_concrete_type.Statement.{statement}
@@ -25,6 +27,7 @@ insert-fact-requires c κs =
     (made .refine-types .ensures .holds .facts-held, room-left (made .refine-types .ensures) 1 (made .before .before .before .pre .1) (omega arith))
 
 returns : tie.Need-returns
+unfolding growth
 returns c =
     let put = c .before in
     let entry = put .before .before in
@@ -36,7 +39,9 @@ returns c =
     let insertion =
     does {limit = 1} {f = insertCanonical f} (put .insert-fact .ensures _ _ (h .els-held) (h .pairs-held)) (omega arith)
     (inserted-canonical f (coreOf now) (entry .canonical-fact .ensures)) in
-    does (follows (made .refine-types .ensures) insertion) (omega arith) (imposed f _)
+    let before = lent (s .args .els .now) (s .args .facts .now) (s .args .pairs .now) (s .args .counts) in
+    let passes = does {limit = oneImposed} {f = impose f} (follows (made .refine-types .ensures) insertion) (omega arith) (imposed f (coreOf before)) in
+    (passes, ap (growth (coreOf before)) (passes .is))
 
 pub impose-concrete-type-spec : {M : Type 1} → statement M
 impose-concrete-type-spec =

@@ -10,7 +10,8 @@ use Rattle.lines.proofs.close_line.Tie as tie
 
 returns : tie.Need-returns
 returns c =
-    let r = c .before in
+    let a = c .before in
+    let r = a .before in
     let m = r .before in
     let b = m .before in
     let w = b .before .before in
@@ -19,11 +20,14 @@ returns c =
     (with
     (with-numbers
     (with-numbers
-    (with-numbers (with (begun (n .new .ensures)) close-word (w .put-word .ensures)) _ (b .put-spaced .ensures))
+    (with-numbers
+    (with-numbers (with (begun (n .new .ensures)) close-word (w .put-word .ensures)) _ (b .put-number .ensures))
     _
-    (m .put-spaced2 .ensures))
+    (m .put-spaced .ensures))
     _
-    (r .put-spaced3 .ensures))
+    (r .put-spaced2 .ensures))
+    _
+    (a .put-spaced3 .ensures))
     (newline ∷ [])
     (c .put .ensures))
     (omega arith)
@@ -35,6 +39,7 @@ close-line-spec =
     (tie.spec
     (λ c κs. search needs)
     (λ c. search needs)
+    (λ c κs. search needs)
     (λ c κs. search needs)
     (λ c κs. search needs)
     (λ c κs. search needs)

@@ -87,7 +87,7 @@ loop-again-3 c =
       imposes-one oneImposed (l .i) (l .inv .1) _ _
           (type-at _ (d .expected) (elsOf (d .parents)) (d .els) (l .i) (record { 0 = 0 }) (record { 0 = 0 }) ht hx (looked .concrete-type-at .ensures)
           (sized .size3 .ensures .is) (known .typ .given .1) (led .leading .ensures))
-          (made .impose-concrete-type .ensures),
+          (made .impose-concrete-type .ensures .0),
     )
 
 same-length : tie.Need-same-length Inv-loop μ-loop
