@@ -1,4 +1,6 @@
 // The numbers of elements, types, predicates and functions, and lists of at most four of them.
+#![tactic(auto)]
+
 ghost use Rattle.std.specs.Prelude.{◌≡◌, ◌&&◌, ◌||◌, []};
 ghost use Rattle.ids.specs.Answers.{◌if◌};
 ghost use Rattle.ids.specs.Judge.{verdict_of, or_if};
@@ -8,23 +10,23 @@ ghost use Rattle.ids.specs.Order.{order_of, lex_of};
 ghost use Rattle.ids.specs.Ids.{els_of, types_of, given_els, given_types, handed_els, whole, too_long, all_below};
 
 #[repr(C)]
-#[derive(Drop)]
+#[derive(Clone, Copy)]
 pub struct ElId(pub u16);
 
 #[repr(C)]
-#[derive(Drop)]
+#[derive(Clone, Copy)]
 pub struct TypeId(pub u16);
 
 #[repr(C)]
-#[derive(Drop)]
+#[derive(Clone, Copy)]
 pub struct PredId(pub u16);
 
 #[repr(C)]
-#[derive(Drop)]
+#[derive(Clone, Copy)]
 pub struct FuncId(pub u16);
 
 // The numbers of the table of refusals.
-#[derive(Drop)]
+#[derive(Clone, Copy)]
 pub struct Refusal(pub u16);
 
 impl Refusal {
@@ -60,7 +62,7 @@ impl Refusal {
 }
 
 // Whether a call is refused, and with which number.
-#[derive(Drop)]
+#[derive(Clone, Copy)]
 pub enum Verdict {
     Accepted,
     Refused(u16),
@@ -68,7 +70,7 @@ pub enum Verdict {
 
 // A list of elements: the first `len` of its ids.
 #[repr(C)]
-#[derive(Drop)]
+#[derive(Clone, Copy)]
 pub struct ElIds {
     pub ids: [ElId; ElIds::MAX_LEN],
     pub len: u16,
@@ -76,13 +78,13 @@ pub struct ElIds {
 
 // A list of types: the first `len` of its ids.
 #[repr(C)]
-#[derive(Drop)]
+#[derive(Clone, Copy)]
 pub struct TypeIds {
     pub ids: [TypeId; TypeIds::MAX_LEN],
     pub len: u16,
 }
 
-#[derive(Drop)]
+#[derive(Clone, Copy)]
 pub enum Ordering {
     Less,
     Equal,
@@ -90,7 +92,7 @@ pub enum Ordering {
 }
 
 // Where an entry stands in an ordered table, or before which one it goes.
-#[derive(Drop)]
+#[derive(Clone, Copy)]
 pub enum Place {
     Before(usize),
     At(usize),

@@ -6,20 +6,16 @@ use Rattle.ids.specs.Limits.{max_list}
 use Rattle.ids.specs.Ids.{el_of}
 use Rattle.ids.proofs.Views.{length_view, long}
 use borrow.Author.Rules.{rules}
-use Rattle.ids.proofs.ElIds.size.Statement.{statement}
-use Rattle.ids.proofs.ElIds.size.Tie as tie
+use Rattle.ids.proofs.ElIds.size.Goals as goal
 
-returns : tie.Need-returns
-returns c =
-    let l = c.before.before.args.self in
+pub returns-then-n-lt-MAX_LEN : goal.returns-then-n-lt-MAX_LEN
+returns-then-n-lt-MAX_LEN c =
+    let l = c.args.self in
     let long : length l.ids ≡ max_list = search (rules, long) in
     record { is = omega (arith, length_view el_of l.len l.ids); most = omega arith }
 
-returns-2 : tie.Need-returns-2
-returns-2 c =
-    let l = c.before.before.args.self in
+pub returns-else-n-lt-MAX_LEN : goal.returns-else-n-lt-MAX_LEN
+returns-else-n-lt-MAX_LEN c =
+    let l = c.args.self in
     let long : length l.ids ≡ max_list = search (rules, long) in
     record { is = omega (arith, length_view el_of l.len l.ids); most = omega arith }
-
-pub size-spec : {M : Type 1} → statement M
-size-spec = tie.close (tie.spec (λ c. search rules) returns returns-2)
