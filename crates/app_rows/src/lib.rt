@@ -1,5 +1,7 @@
 // A table of applications as rows of numbers. A predicate application has the row of a function application whose result is 0; the order
 // reads the key alone, so that one table serves both.
+#![tactic(auto)]
+
 ghost use Rattle.std.specs.Prelude.{◌≡◌, ◌≤◌, ◌<◌, length};
 ghost use Rattle.ids.specs.Table.{position_from};
 ghost use Rattle.ids.specs.Sorted.{Sorted};

@@ -1,5 +1,7 @@
 // A function application, or the equality of its result with the one that is stored.
 // It works on links, pairs and applications alone; the causes of the call are judged in `inserting`.
+#![tactic(auto)]
+
 ghost use Rattle.std.specs.Prelude.{◌≡◌};
 ghost use Rattle.unification.specs.Roots.{links_of};
 ghost use Rattle.apps.specs.View.{func_app_of, func_apps_of};
@@ -10,7 +12,7 @@ use apps::{FuncApp, FuncApps, Stored};
 use equalities::Pairs;
 use unification::Unification;
 
-#[derive(Drop)]
+#[derive(Clone, Copy)]
 pub struct Applied {
     pub unification: Unification,
     pub pairs: Pairs,

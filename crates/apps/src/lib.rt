@@ -1,4 +1,6 @@
 // Applications of functions and of predicates, in ordered tables of fixed size with a count.
+#![tactic(auto)]
+
 ghost use Rattle.std.specs.Prelude.{◌≡◌, ◌++◌, [], ◌∷◌, ◌+◌, ◌≤◌, ◌<◌, take, drop};
 ghost use Rattle.ids.specs.Table.{Sized, position_from, insert_of, lookup_of, len_of};
 ghost use Rattle.semantics.specs.Structure.{max_func_apps, max_pred_apps, compare_func_app, compare_pred_app, result_of};
@@ -8,7 +10,7 @@ use ids::{ElId, ElIds, FuncId, Ordering, Place, PredId};
 
 // A function application with its result. Its key is the function, the parents and the arguments.
 #[repr(C)]
-#[derive(Drop)]
+#[derive(Clone, Copy)]
 pub struct FuncApp {
     pub func: FuncId,
     pub parents: ElIds,
@@ -17,7 +19,7 @@ pub struct FuncApp {
 }
 
 #[repr(C)]
-#[derive(Drop)]
+#[derive(Clone, Copy)]
 pub struct PredApp {
     pub pred: PredId,
     pub parents: ElIds,
@@ -26,7 +28,7 @@ pub struct PredApp {
 
 // By function, then parents, then arguments, each key once.
 #[repr(C)]
-#[derive(Drop)]
+#[derive(Clone, Copy)]
 pub struct FuncApps {
     pub items: [FuncApp; FuncApps::MAX_LEN],
     pub len: u16,
@@ -34,21 +36,21 @@ pub struct FuncApps {
 
 // By predicate, then parents, then arguments, each application once.
 #[repr(C)]
-#[derive(Drop)]
+#[derive(Clone, Copy)]
 pub struct PredApps {
     pub items: [PredApp; PredApps::MAX_LEN],
     pub len: u16,
 }
 
 // Whether the table grew, whether it had no room, and the table.
-#[derive(Drop)]
+#[derive(Clone, Copy)]
 pub struct InsertedFuncApp {
     pub grew: bool,
     pub full: bool,
     pub func_apps: FuncApps,
 }
 
-#[derive(Drop)]
+#[derive(Clone, Copy)]
 pub struct InsertedPredApp {
     pub grew: bool,
     pub full: bool,
@@ -56,7 +58,7 @@ pub struct InsertedPredApp {
 }
 
 // What stands in the table under a key: the result.
-#[derive(Drop)]
+#[derive(Clone, Copy)]
 pub enum Stored {
     Result(ElId),
     Nothing,

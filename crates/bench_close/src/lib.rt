@@ -1,5 +1,7 @@
 // A sheet built up to its first close, settle or conflicts, and that one run many times, or a list of calls, and what it leaves stored or loaded
 // many times, for bench/ to time. It is no part of the port.
+#![tactic(auto)]
+
 use conflicts::{Conflicting, TypeConflicts};
 use facts::Fact;
 use file_rows::File;

@@ -1,4 +1,6 @@
 // Variables by key and ambient model elements by type.
+#![tactic(auto)]
+
 ghost use Rattle.std.specs.Prelude.{◌≡◌, []};
 ghost use Rattle.ids.specs.Table.{present};
 ghost use Rattle.signature.specs.Model.{max_types};
@@ -11,19 +13,19 @@ use signature::Signature;
 
 // An element, where one is given.
 #[repr(C)]
-#[derive(Drop)]
+#[derive(Clone, Copy)]
 pub struct Slot {
     pub given: bool,
     pub el: ElId,
 }
 
-#[derive(Drop)]
+#[derive(Clone, Copy)]
 pub struct VarEl {
     pub key: u16,
     pub el: ElId,
 }
 
-#[derive(Drop)]
+#[derive(Clone, Copy)]
 pub struct AmbientEl {
     pub typ: TypeId,
     pub el: ElId,
@@ -31,20 +33,20 @@ pub struct AmbientEl {
 
 // A slot for each key.
 #[repr(C)]
-#[derive(Drop)]
+#[derive(Clone, Copy)]
 pub struct VarEls {
     pub slots: [Slot; VarEls::MAX_LEN],
 }
 
 // A slot for each type.
 #[repr(C)]
-#[derive(Drop)]
+#[derive(Clone, Copy)]
 pub struct AmbientEls {
     pub slots: [Slot; Signature::MAX_TYPES],
 }
 
 // The element of a key.
-#[derive(Drop)]
+#[derive(Clone, Copy)]
 pub enum Bound {
     El(ElId),
     Nothing,

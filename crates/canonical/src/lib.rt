@@ -1,4 +1,6 @@
 // Entries with what they name as roots.
+#![tactic(auto)]
+
 ghost use Rattle.std.specs.Prelude.{◌≡◌};
 ghost use Rattle.unification.specs.Roots.{links_of};
 ghost use Rattle.semantics.specs.Structure.{canonical_fact, canonical_func_app};

@@ -1,4 +1,6 @@
 // One record carried out: the call that it makes, and what that answers.
+#![tactic(auto)]
+
 ghost use Rattle.std.specs.Prelude.{◌≡◌, [], ◌≤◌, min, take};
 ghost use Rattle.ids.specs.Ids.{given_els, given_types};
 ghost use Rattle.ids.specs.Limits.{max_list};
@@ -24,7 +26,7 @@ use signature::{
 use structure::{Answer, Machine, Stepped};
 
 // What a record's call answers; conflicts stand beside it, and none beside another answer.
-#[derive(Drop)]
+#[derive(Clone, Copy)]
 pub struct Carried {
     pub answer: Answer,
     pub conflicts: TypeConflicts,

@@ -1,5 +1,7 @@
 // The close (structure.rs, `Structure::close`): rounds until an idle one, the impositions, and references rewritten to roots.
 // A table of structs goes by value, so that each call copies it. The tables are read into rows of numbers, which are lent, and written back.
+#![tactic(auto)]
+
 ghost use Rattle.std.specs.Prelude.{◌≡◌, [], ◌≤◌};
 ghost use Rattle.signature.specs.Model.{sig_of};
 ghost use Rattle.semantics.specs.Calls as calls;

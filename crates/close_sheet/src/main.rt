@@ -1,4 +1,6 @@
 // Reads a sheet from standard input, carries out its records and prints their lines.
+#![tactic(auto)]
+
 use libc::STDIN_FILENO;
 use pages::Page;
 use reading::Input;

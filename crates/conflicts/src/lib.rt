@@ -1,4 +1,6 @@
 // Classes whose facts disagree (structure.rs, `type_conflicts`).
+#![tactic(auto)]
+
 ghost use Rattle.std.specs.Prelude.{◌≡◌, [], ◌≤◌, length};
 ghost use Rattle.ids.specs.Table.{Sized, push_of};
 ghost use Rattle.ids.specs.Ids.{els_of, whole};
@@ -21,7 +23,7 @@ use structure::{Answer, Structure};
 
 // An element, and two facts of its class that disagree.
 #[repr(C)]
-#[derive(Drop)]
+#[derive(Clone, Copy)]
 pub struct TypeConflict {
     pub el: ElId,
     pub a: Fact,
@@ -30,13 +32,13 @@ pub struct TypeConflict {
 
 // In root order, at most one for each class.
 #[repr(C)]
-#[derive(Drop)]
+#[derive(Clone, Copy)]
 pub struct TypeConflicts {
     pub items: [TypeConflict; Structure::MAX_ELS],
     pub len: u16,
 }
 
-#[derive(Drop)]
+#[derive(Clone, Copy)]
 pub struct Conflicting {
     pub conflicts: TypeConflicts,
     // How many finds the roots of first facts' parents took (02, M-103).
@@ -44,14 +46,14 @@ pub struct Conflicting {
     pub structure: Structure,
 }
 
-#[derive(Drop)]
+#[derive(Clone, Copy)]
 struct Searched {
     conflicts: TypeConflicts,
     finds: u16,
 }
 
 // The roots of a fact's parents, in their order, and how many finds that took.
-#[derive(Drop)]
+#[derive(Clone, Copy)]
 struct ParentRoots {
     roots: ElIds,
     finds: u16,

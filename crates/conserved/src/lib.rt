@@ -1,1 +1,2 @@
 // The conservation rule for the values of the code's own calls. There is no code here.
+#![tactic(auto)]

@@ -1,4 +1,6 @@
 // The calls of kinds 1 to 5, with the structure's flag for number 4 beside the signature.
+#![tactic(auto)]
+
 ghost use Rattle.std.specs.Prelude.{◌≡◌};
 ghost use Rattle.signature.specs.Model.{kind_of, model_of, mor_app_of, sig_of, given_type, given_pred, given_func};
 ghost use Rattle.signature.specs.Calls.{model_declared, model_is_model, functions, model_ids_declared, function_given, repeats, any_given};

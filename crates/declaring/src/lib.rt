@@ -1,4 +1,6 @@
 // The calls of kinds 1 to 5 with the structure beside the signature: its flag decides number 4.
+#![tactic(auto)]
+
 ghost use Rattle.std.specs.Prelude.{◌≡◌};
 ghost use Rattle.signature.specs.Model.{sig_of, given_type, given_pred, given_func, model_of, mor_app_of};
 ghost use Rattle.semantics.specs.Calls.{push_type, push_pred, push_func, push_model, push_mor_app, machine, step};

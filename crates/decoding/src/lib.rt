@@ -1,4 +1,6 @@
 // Reading a file (02, M-104; docs/FILE.md): its counts, and the structure that its bytes say. Nothing is judged here.
+#![tactic(auto)]
+
 ghost use Rattle.std.specs.Prelude.{◌≡◌, true, [], ◌∷◌, map, reverse, ◌+◌, ◌*◌, ◌≤◌, ◌<◌, length, take, drop};
 ghost use Rattle.ids.specs.Ids.{els_of};
 ghost use Rattle.ids.specs.Sorted.{All};
@@ -28,7 +30,7 @@ use structure::Structure;
 use unification::Unification;
 
 // The counts of a file.
-#[derive(Drop)]
+#[derive(Clone, Copy)]
 pub struct Head {
     pub els: u16,
     pub facts: u16,
@@ -41,7 +43,7 @@ pub struct Head {
 }
 
 // Where each part of a file begins, and where the last ends.
-#[derive(Drop)]
+#[derive(Clone, Copy)]
 pub struct Places {
     pub links: usize,
     pub facts: usize,

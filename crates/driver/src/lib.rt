@@ -1,4 +1,6 @@
 // A list of calls carried out one after the other, refused ones included.
+#![tactic(auto)]
+
 ghost use Rattle.std.specs.Prelude.{◌≡◌, [], take};
 ghost use Rattle.ids.specs.Ids.{given_of, given_els, given_types, whole};
 ghost use Rattle.signature.specs.Calls.{typed_of};
@@ -19,7 +21,7 @@ use structure::{Answer, Looked, Machine};
 use unification::{Find, Finding};
 
 // The kinds of the calls that no record of a sheet makes.
-#[derive(Drop)]
+#[derive(Clone, Copy)]
 pub struct Kind(pub u16);
 
 impl Kind {
@@ -33,7 +35,7 @@ impl Kind {
 }
 
 // What a call of a list answers; its lists stand beside it, and none beside another answer.
-#[derive(Drop)]
+#[derive(Clone, Copy)]
 pub enum Response {
     // What a record of a sheet answers.
     Answered(Answer),
@@ -44,7 +46,7 @@ pub enum Response {
     Els,
 }
 
-#[derive(Drop)]
+#[derive(Clone, Copy)]
 pub struct Responded {
     pub response: Response,
     pub els: ElIds,

@@ -1,4 +1,6 @@
 // The links and marks of the elements as rows of numbers, entries with what they name as roots, and the types of an element.
+#![tactic(auto)]
+
 ghost use Rattle.std.specs.Prelude.{◌≡◌, ◌&&◌, ◌||◌, map, ◌≤◌, ◌<◌, length, take, drop};
 ghost use Rattle.ids.specs.Ids.{els_of};
 ghost use Rattle.unification.specs.Roots.{max_els, root_of};

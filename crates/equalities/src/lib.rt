@@ -1,4 +1,6 @@
 // Equalities that are declared or derived and not yet drained, in a queue of fixed size with a count.
+#![tactic(auto)]
+
 ghost use Rattle.std.specs.Prelude.{◌≡◌, []};
 ghost use Rattle.ids.specs.Table.{Sized, len_of};
 ghost use Rattle.unification.specs.Roots.{links_of};
@@ -9,7 +11,7 @@ use ids::ElId;
 use unification::Unification;
 
 #[repr(C)]
-#[derive(Drop)]
+#[derive(Clone, Copy)]
 pub struct Pair {
     pub lhs: ElId,
     pub rhs: ElId,
@@ -17,14 +19,14 @@ pub struct Pair {
 
 // In the order in which they were queued.
 #[repr(C)]
-#[derive(Drop)]
+#[derive(Clone, Copy)]
 pub struct Pairs {
     pub items: [Pair; Pairs::MAX_LEN],
     pub len: u16,
 }
 
 // Whether two roots differ, with the links and the pairs afterwards.
-#[derive(Drop)]
+#[derive(Clone, Copy)]
 pub struct Equated {
     pub unification: Unification,
     pub pairs: Pairs,

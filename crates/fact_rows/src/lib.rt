@@ -1,4 +1,6 @@
 // A table of facts as rows of numbers: a table of structs goes by value, one of rows can be lent.
+#![tactic(auto)]
+
 ghost use Rattle.std.specs.Prelude.{◌≡◌, true, ◌≤◌, ◌<◌, length};
 ghost use Rattle.ids.specs.Table.{position_from};
 ghost use Rattle.ids.specs.Sorted.{Sorted};

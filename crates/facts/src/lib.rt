@@ -1,4 +1,6 @@
 // Facts: an element's types with their parents, in an ordered table, and impositions in a queue, both of fixed size with a count.
+#![tactic(auto)]
+
 ghost use Rattle.std.specs.Prelude.{◌≡◌, []};
 ghost use Rattle.ids.specs.Table.{Sized, push_of, len_of};
 ghost use Rattle.semantics.specs.Structure.{max_facts, max_impositions, compare_fact};
@@ -8,14 +10,14 @@ ghost use Rattle.facts.specs.View.{new_fact, fact_of, facts_of, impositions_of};
 use ids::{ElId, ElIds, Ordering, TypeId};
 
 #[repr(C)]
-#[derive(Drop)]
+#[derive(Clone, Copy)]
 pub struct ConcreteType {
     pub typ: TypeId,
     pub parents: ElIds,
 }
 
 #[repr(C)]
-#[derive(Drop)]
+#[derive(Clone, Copy)]
 pub struct Fact {
     pub el: ElId,
     pub ct: ConcreteType,
@@ -23,7 +25,7 @@ pub struct Fact {
 
 // By element, then type, then parents, each fact once.
 #[repr(C)]
-#[derive(Drop)]
+#[derive(Clone, Copy)]
 pub struct Facts {
     pub items: [Fact; Facts::MAX_LEN],
     pub len: u16,
@@ -31,7 +33,7 @@ pub struct Facts {
 
 // The facts that are to be imposed, in queue order.
 #[repr(C)]
-#[derive(Drop)]
+#[derive(Clone, Copy)]
 pub struct Impositions {
     pub items: [Fact; Impositions::MAX_LEN],
     pub len: u16,

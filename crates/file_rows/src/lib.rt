@@ -1,4 +1,6 @@
 // The rows and columns of a file (02, M-104; docs/FILE.md).
+#![tactic(auto)]
+
 use signature::Signature;
 use structure::Structure;
 
@@ -9,7 +11,7 @@ pub const WIDTH: usize = 12;
 pub type Row = [u16; WIDTH];
 
 // How many columns of bytes each table has, and the counts of the head.
-#[derive(Drop)]
+#[derive(Clone, Copy)]
 pub struct File(pub u16);
 
 impl File {

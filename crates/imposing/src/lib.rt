@@ -1,4 +1,6 @@
 // Facts imposed on elements (structure.rs, `impose_concrete_type` and `apply_pending_type_impositions`), on the tables that a close lends.
+#![tactic(auto)]
+
 ghost use Rattle.std.specs.Prelude.{◌≡◌, ◌&&◌, ◌≤◌, length, eqb};
 ghost use Rattle.ids.specs.Ids.{els_of};
 ghost use Rattle.semantics.specs.Types.{refine, refine_parents, impose, impose_all};

@@ -1,4 +1,6 @@
 // The calls of kinds 8, 9 and 10: an imposition, a function application and a predicate application.
+#![tactic(auto)]
+
 ghost use Rattle.std.specs.Prelude.{◌≡◌};
 ghost use Rattle.signature.specs.Model.{sig_of, model_of, view_types, view_models};
 ghost use Rattle.semantics.specs.Calls.{has_its_parents, is_id_or_comp, is_reserved, misapplies, is_misapplied, impose_type, apply_func, apply_pred, machine, step};

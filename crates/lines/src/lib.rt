@@ -1,4 +1,6 @@
 // The printed lines of the sheet program, as bytes.
+#![tactic(auto)]
+
 ghost use Rattle.std.specs.Prelude.{◌≡◌, [], ◌∷◌, ◌+◌, ◌<◌};
 ghost use Rattle.ids.specs.Ids.{els_of};
 ghost use Rattle.ids.specs.Table.{Sized};
@@ -13,7 +15,7 @@ use ids::{ElId, ElIds};
 
 // A line as it is written: the first `len` of its bytes.
 #[repr(C)]
-#[derive(Drop)]
+#[derive(Clone, Copy)]
 pub struct Line {
     pub bytes: [u8; Line::MAX_LEN],
     pub len: u16,

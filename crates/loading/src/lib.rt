@@ -1,5 +1,7 @@
 // Loading a structure from a file (02, M-104; docs/FILE.md). What the bytes say is judged, stored again and compared: a file that is loaded
 // is the one that its structure is stored as.
+#![tactic(auto)]
+
 ghost use Rattle.std.specs.Prelude.{◌≡◌, ◌≤◌, ◌<◌, length};
 ghost use Rattle.ids.specs.Answers.{refused};
 ghost use Rattle.signature.specs.Model.{sig_of};
@@ -12,14 +14,14 @@ use signature::Signature;
 use structure::Structure;
 
 // What loading answers; the structure stands beside it.
-#[derive(Drop)]
+#[derive(Clone, Copy)]
 pub enum Loaded {
     Done,
     Refused(u16),
 }
 
 // An answer, and the structure that is loaded: the empty one beside a refusal.
-#[derive(Drop)]
+#[derive(Clone, Copy)]
 pub struct Loading {
     pub answer: Loaded,
     pub structure: Structure,

@@ -1,4 +1,6 @@
 // Merges, and the drain (structure.rs, `drain_equalities`), on the tables that a close lends.
+#![tactic(auto)]
+
 ghost use Rattle.std.specs.Prelude.{◌≡◌, ◌≤◌, ◌<◌, length};
 ghost use Rattle.rows.specs.Table.{InPlaceRewritten};
 ghost use Rattle.semantics.specs.Structure.{pair, compare_fact, max_pairs};
@@ -22,7 +24,7 @@ pub type PairRow = [u16; PAIR_WIDTH];
 
 // How many rows of the tables are in use, what is known of them, what was counted, and the number first met that refuses the close; 0
 // stands for none.
-#[derive(Drop)]
+#[derive(Clone, Copy)]
 pub struct Tally {
     pub els: u16,
     pub facts: u16,

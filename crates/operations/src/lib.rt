@@ -1,4 +1,6 @@
 // The laws of identities and composites (structure.rs, `morphism_operation_constraints`), on the tables that a close lends.
+#![tactic(auto)]
+
 ghost use Rattle.std.specs.Prelude.{◌≡◌, [], ◌∷◌, ◌≤◌, ◌<◌, length};
 ghost use Rattle.ids.specs.Ids.{els_of};
 ghost use Rattle.signature.specs.Model.{model_of, view_models, sig_of};
@@ -20,21 +22,21 @@ use merging::{PairRow, Tally};
 use signature::{ModelIds, Models, Signature};
 
 // The counts so far, and whether a pass of the round reported work.
-#[derive(Drop)]
+#[derive(Clone, Copy)]
 pub struct Turn {
     pub counts: Tally,
     pub worked: bool,
 }
 
 // A side of an equation: a function, applied to one element.
-#[derive(Drop)]
+#[derive(Clone, Copy)]
 pub struct Side {
     pub func: FuncId,
     pub el: ElId,
 }
 
 // Over the parents two sides are equal.
-#[derive(Drop)]
+#[derive(Clone, Copy)]
 pub struct Equation {
     pub parents: ElIds,
     pub left: Side,

@@ -1,4 +1,6 @@
 // A sheet's pieces gathered into pages, to be written a page at a time.
+#![tactic(auto)]
+
 ghost use Rattle.std.specs.Prelude.{◌+◌, ◌≤◌, length};
 ghost use Rattle.lines.specs.View.{max_line, line_of};
 ghost use Rattle.sheet.specs.View.{progress_of};
@@ -9,7 +11,7 @@ use records::Record;
 use sheet::Progress;
 
 // A page: the first `len` bytes of a text, and what comes after it.
-#[derive(Drop)]
+#[derive(Clone, Copy)]
 pub struct Page {
     pub len: usize,
     pub progress: Progress,

@@ -1,5 +1,7 @@
 // Reads a sheet from standard input, carries out its records, from the structure that is parked in the file of the argument where there is
 // one, and writes the file in which the structure at the end is parked.
+#![tactic(auto)]
+
 use file_rows::File;
 use libc::{STDERR_FILENO, STDIN_FILENO, STDOUT_FILENO};
 use lines::Line;

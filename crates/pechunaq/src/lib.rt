@@ -1,5 +1,7 @@
 // The calls of the C library (lib/): a session, which the caller keeps between two calls. No enum can be handed over to C, so a session holds
 // numbers and bools alone: the kind of a type and the stage of a sheet are numbers.
+#![tactic(auto)]
+
 ghost use Rattle.std.specs.Prelude.{◌≡◌};
 ghost use Rattle.ids.specs.Table.{Sized};
 ghost use Rattle.signature.specs.Model.{max_types, type_of, view_types, sig_of};
@@ -26,7 +28,7 @@ use structure::{Answer, Machine, Structure};
 
 // A type whose kind is two numbers, as in a record of kind 1: the kind, and the model of a Mor.
 #[repr(C)]
-#[derive(Drop)]
+#[derive(Clone, Copy)]
 pub struct TypeRow {
     pub kind: u16,
     pub model: u16,
@@ -34,7 +36,7 @@ pub struct TypeRow {
 }
 
 #[repr(C)]
-#[derive(Drop)]
+#[derive(Clone, Copy)]
 pub struct TypeRows {
     pub items: [TypeRow; Signature::MAX_TYPES],
     pub len: u16,
@@ -42,7 +44,7 @@ pub struct TypeRows {
 
 // A machine, and how the sheet stands that is run on it: `Progress`, and a line that is still to be taken.
 #[repr(C)]
-#[derive(Drop)]
+#[derive(Clone, Copy)]
 pub struct Session {
     pub types: TypeRows,
     pub preds: Preds,
@@ -61,14 +63,14 @@ pub struct Session {
 
 // What a record was answered: which answer it is, and its numbers.
 #[repr(C)]
-#[derive(Drop)]
+#[derive(Clone, Copy)]
 pub struct Reply {
     pub kind: u16,
     pub numbers: [u64; 4],
 }
 
 #[repr(C)]
-#[derive(Drop)]
+#[derive(Clone, Copy)]
 pub struct HandedIn {
     pub answer: Reply,
     pub session: Session,
@@ -76,7 +78,7 @@ pub struct HandedIn {
 
 // A line, which is empty where no more comes.
 #[repr(C)]
-#[derive(Drop)]
+#[derive(Clone, Copy)]
 pub struct Taken {
     pub line: Line,
     pub session: Session,
@@ -84,7 +86,7 @@ pub struct Taken {
 
 // How many bytes a file has, and 0; or 0, and the number of the refusal.
 #[repr(C)]
-#[derive(Drop)]
+#[derive(Clone, Copy)]
 pub struct Parked {
     pub size: usize,
     pub refused: u16,
@@ -92,7 +94,7 @@ pub struct Parked {
 
 // 0, or the number of the refusal.
 #[repr(C)]
-#[derive(Drop)]
+#[derive(Clone, Copy)]
 pub struct Resumed {
     pub refused: u16,
     pub session: Session,

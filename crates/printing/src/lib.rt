@@ -1,4 +1,6 @@
 // Writes the first of some bytes, a line, and what a sheet is still to print, a page at a time.
+#![tactic(auto)]
+
 use libc::STDOUT_FILENO;
 use lines::Line;
 use pages::Page;

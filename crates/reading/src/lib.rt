@@ -1,11 +1,13 @@
 // Reads all that an input has into an array, and tells where it has more, or where a read failed.
+#![tactic(auto)]
+
 ghost use Rattle.std.specs.Prelude.{◌≡◌, length, take};
 ghost use Rattle.io.specs.Counts.{clamp_len};
 ghost use Rattle.reading.specs.Reading.{is_negative, after_read, Gave, Reads, reading_of};
 
 // What a read came to: so many bytes are there, and there may be more; the input has ended with so many; it has more than
 // there is room for; or the read failed.
-#[derive(Drop)]
+#[derive(Clone, Copy)]
 pub enum Reading {
     On(usize),
     Whole(usize),
@@ -14,7 +16,7 @@ pub enum Reading {
 }
 
 // What was read: so many bytes; more than there is room for; or a read failed.
-#[derive(Drop)]
+#[derive(Clone, Copy)]
 pub enum Input {
     Bytes(usize),
     Longer,

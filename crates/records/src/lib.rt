@@ -1,4 +1,6 @@
 // Records of a sheet: 16 words each, and what the words of each kind may hold.
+#![tactic(auto)]
+
 ghost use Rattle.std.specs.Prelude.{◌≡◌, ◌<◌, drop, get_or};
 ghost use Rattle.semantics.specs.Sheet as sheet;
 ghost use Rattle.semantics.specs.Sheet.{all_zero, words};
@@ -6,7 +8,7 @@ ghost use Rattle.records.specs.View.{record_view, blank, record_in, record_withi
 
 use ids::ElIds;
 
-#[derive(Drop)]
+#[derive(Clone, Copy)]
 pub struct Record {
     pub next: u16,
     pub kind: u16,

@@ -1,4 +1,6 @@
 // Runs a stream of histories (oracle/FORMAT.md) and prints the answers, and the structure where the stream asks for it.
+#![tactic(auto)]
+
 use apps::{FuncApp, FuncApps, PredApp, PredApps};
 use bindings::{AmbientEls, VarEls};
 use conflicts::TypeConflicts;
@@ -141,7 +143,7 @@ fn flags_line(started: bool, settled: bool) -> Line {
 }
 
 // Where the text ends, and the first fact that is not printed yet.
-#[derive(Drop)]
+#[derive(Clone, Copy)]
 pub struct Dumped {
     pub n: usize,
     pub fact: usize,
@@ -292,7 +294,7 @@ fn type_line(typ: TypeId, parents: ElIds) -> Line {
 // ---- lists
 
 // Where the text ends, the machine, and the length of the file in the slot.
-#[derive(Drop)]
+#[derive(Clone, Copy)]
 pub struct Printed {
     pub n: usize,
     pub machine: Machine,

@@ -1,5 +1,7 @@
 // Reads a sheet from standard input, carries out its records from the structure that is parked in the file of the argument, and prints
 // their lines.
+#![tactic(auto)]
+
 use file_rows::File;
 use libc::{STDIN_FILENO, STDOUT_FILENO};
 use pages::Page;

@@ -1,5 +1,7 @@
 // A sheet that goes on from a parked structure (02, M-104): its first records declare the signature, under which the file is loaded. And
 // a sheet carried out up to its last line, before which its structure is parked.
+#![tactic(auto)]
+
 ghost use Rattle.std.specs.Prelude.{◌≡◌, take};
 ghost use Rattle.sheet.specs.Pieces.{start_of};
 ghost use Rattle.sheet.specs.View.{progress_of, piece_of};

@@ -1,5 +1,7 @@
 // What a close rewrites, in the tables that it lends: function applications in its rounds (structure.rs, `functionality`), the
 // others at its end (`canonicalise_refs`).
+#![tactic(auto)]
+
 ghost use Rattle.std.specs.Prelude.{◌≡◌, map, ◌≤◌, length};
 ghost use Rattle.rows.specs.Table.{InPlaceRewritten};
 ghost use Rattle.semantics.specs.Structure.{compare_fact, compare_pred_app, canonical_fact, canonical_pred_app, canonical_var, max_func_apps, max_pairs};

@@ -1,4 +1,6 @@
 // The rounds of a close (structure.rs, `Structure::close`), until one that is idle or meets a number, on the tables that a close lends.
+#![tactic(auto)]
+
 ghost use Rattle.std.specs.Prelude.{◌≡◌, ◌&&◌, ◌+◌, ltb};
 ghost use Rattle.signature.specs.Model.{sig_of};
 ghost use Rattle.semantics.specs.Structure.{max_func_apps, max_pred_apps};
@@ -19,7 +21,7 @@ use signature::Signature;
 use unification::Unification;
 
 // The counts after the rounds, and how many ran.
-#[derive(Drop)]
+#[derive(Clone, Copy)]
 pub struct RoundsMade {
     pub counts: Tally,
     pub rounds: u64,

@@ -1,4 +1,6 @@
 // Closes until one reports no change (02, M-100).
+#![tactic(auto)]
+
 ghost use Rattle.std.specs.Prelude.{◌≡◌, ◌+◌, ◌^◌, ◌<◌};
 ghost use Rattle.ids.specs.Judge.{verdict_of};
 ghost use Rattle.signature.specs.Model.{sig_of};
@@ -12,7 +14,7 @@ use signature::Signature;
 use structure::{Answer, Closed, Stepped, Structure, Totals};
 
 // What a settle comes to: whether one of its closes was refused, what they reported together, and what they left.
-#[derive(Drop)]
+#[derive(Clone, Copy)]
 struct SettleRun {
     verdict: Verdict,
     totals: Totals,

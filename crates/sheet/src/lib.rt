@@ -1,4 +1,6 @@
 // A sheet's records along their chain, and what they print, piece by piece.
+#![tactic(auto)]
+
 ghost use Rattle.std.specs.Prelude.{◌≡◌, [], ◌-◌, ◌<◌, drop, eqb};
 ghost use Rattle.semantics.specs.Sheet.{end_line, chain_broken};
 ghost use Rattle.records.specs.View.{record_view};
@@ -19,7 +21,7 @@ use structure::{Answer, Machine, Structure};
 
 // What the next piece is of: the refusal of a sheet whose length is bad, a record, a line of conflicts, the last line,
 // nothing any more.
-#[derive(Drop)]
+#[derive(Clone, Copy)]
 pub enum Stage {
     Refusing,
     Visiting,
@@ -42,7 +44,7 @@ impl Stage {
     }
 }
 
-#[derive(Drop)]
+#[derive(Clone, Copy)]
 pub struct Progress {
     pub stage: Stage,
     pub machine: Machine,
@@ -58,7 +60,7 @@ pub struct Progress {
 }
 
 // A piece of what is printed, a line or nothing, and what comes after it.
-#[derive(Drop)]
+#[derive(Clone, Copy)]
 pub struct Piece {
     pub line: Line,
     pub progress: Progress,

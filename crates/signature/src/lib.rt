@@ -1,4 +1,6 @@
 // Types, predicates, functions, models and morphism application functions (signature.rs), and the type lookup.
+#![tactic(auto)]
+
 ghost use Rattle.std.specs.Prelude.{◌≡◌, [], get_or};
 ghost use Rattle.ids.specs.Ids.{types_of, given_els};
 ghost use Rattle.ids.specs.Table.{Sized, push_of, len_of};
@@ -11,7 +13,7 @@ ghost use Rattle.signature.specs.Calls.{in_mor_apps, pair_given, parent_count, c
 use ids::{ElIds, FuncId, PredId, Refusal, TypeId, TypeIds, Verdict};
 
 // Mor is the kind of a model's morphisms, with the model's type.
-#[derive(Drop)]
+#[derive(Clone, Copy)]
 pub enum TypeKind {
     Plain,
     Model,
@@ -20,21 +22,21 @@ pub enum TypeKind {
 }
 
 // The parents are the enclosing model types, outermost first.
-#[derive(Drop)]
+#[derive(Clone, Copy)]
 pub struct Type {
     pub kind: TypeKind,
     pub parents: TypeIds,
 }
 
 #[repr(C)]
-#[derive(Drop)]
+#[derive(Clone, Copy)]
 pub struct Pred {
     pub parents: TypeIds,
     pub arity: TypeIds,
 }
 
 #[repr(C)]
-#[derive(Drop)]
+#[derive(Clone, Copy)]
 pub struct Func {
     pub parents: TypeIds,
     pub domain: TypeIds,
@@ -42,7 +44,7 @@ pub struct Func {
 }
 
 #[repr(C)]
-#[derive(Drop)]
+#[derive(Clone, Copy)]
 pub struct ModelIds {
     pub type_: TypeId,
     pub mor: TypeId,
@@ -53,82 +55,82 @@ pub struct ModelIds {
 }
 
 #[repr(C)]
-#[derive(Drop)]
+#[derive(Clone, Copy)]
 pub struct MorphismMemberTypes {
     pub morphism_type: TypeId,
     pub member_type: TypeId,
 }
 
 #[repr(C)]
-#[derive(Drop)]
+#[derive(Clone, Copy)]
 pub struct MorAppFunc {
     pub func: FuncId,
     pub types: MorphismMemberTypes,
 }
 
 // The answer of a declaring call: the number of what was declared.
-#[derive(Drop)]
+#[derive(Clone, Copy)]
 pub enum Declared {
     Number(u16),
     Refused(u16),
 }
 
 // The answer of a declaring call, and the signature that it leaves.
-#[derive(Drop)]
+#[derive(Clone, Copy)]
 pub struct Declaring {
     pub answer: Declared,
     pub signature: Signature,
 }
 
 // A type with the number of its parents that are given beside it.
-#[derive(Drop)]
+#[derive(Clone, Copy)]
 pub enum Typed {
     At(TypeId, u16),
     Absent,
 }
 
 // The answer of the public type lookup.
-#[derive(Drop)]
+#[derive(Clone, Copy)]
 pub enum TypeLookup {
     Looked(Typed),
     Refused(u16),
 }
 
-#[derive(Drop)]
+#[derive(Clone, Copy)]
 pub struct Types {
     pub items: [Type; Signature::MAX_TYPES],
     pub len: u16,
 }
 
 #[repr(C)]
-#[derive(Drop)]
+#[derive(Clone, Copy)]
 pub struct Preds {
     pub items: [Pred; Signature::MAX_PREDS],
     pub len: u16,
 }
 
 #[repr(C)]
-#[derive(Drop)]
+#[derive(Clone, Copy)]
 pub struct Funcs {
     pub items: [Func; Signature::MAX_FUNCS],
     pub len: u16,
 }
 
 #[repr(C)]
-#[derive(Drop)]
+#[derive(Clone, Copy)]
 pub struct Models {
     pub items: [ModelIds; Signature::MAX_MODELS],
     pub len: u16,
 }
 
 #[repr(C)]
-#[derive(Drop)]
+#[derive(Clone, Copy)]
 pub struct MorAppFuncs {
     pub items: [MorAppFunc; Signature::MAX_MOR_APPS],
     pub len: u16,
 }
 
-#[derive(Drop)]
+#[derive(Clone, Copy)]
 pub struct Signature {
     pub types: Types,
     pub preds: Preds,

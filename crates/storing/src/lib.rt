@@ -1,4 +1,6 @@
 // Storing a structure (02, M-104; docs/FILE.md): its tables as rows of numbers, and the rows by columns into a buffer.
+#![tactic(auto)]
+
 ghost use Rattle.std.specs.Prelude.{◌≡◌, [], map, reverse, ◌+◌, ◌*◌, ◌≤◌, ◌<◌, length, take, get_or};
 ghost use Rattle.ids.specs.Ids.{els_of};
 ghost use Rattle.unification.specs.Roots.{max_els};
@@ -28,7 +30,7 @@ use signature::Signature;
 use structure::Structure;
 
 // What storing answers: so many bytes were written, or a number.
-#[derive(Drop)]
+#[derive(Clone, Copy)]
 pub enum Stored {
     Bytes(usize),
     Refused(u16),

@@ -1,5 +1,7 @@
 // The structure (structure.rs): its tables, and the calls of kinds 6, 7, 11 and 12 with the finds and the ambient lookup.
 // Kinds 8, 9 and 10 stand in crate inserting.
+#![tactic(auto)]
+
 ghost use Rattle.std.specs.Prelude.{◌≡◌, true, []};
 ghost use Rattle.ids.specs.Ids.{els_of, types_of, given_els, given_types};
 ghost use Rattle.signature.specs.Model.{Sig, sig_of};
@@ -18,7 +20,7 @@ use signature::Signature;
 use unification::{Finding, Unification};
 
 // How many entries each table has at most.
-#[derive(Drop)]
+#[derive(Clone, Copy)]
 pub struct Limits {
     pub els: usize,
     pub facts: usize,
@@ -30,7 +32,7 @@ pub struct Limits {
 }
 
 #[repr(C)]
-#[derive(Drop)]
+#[derive(Clone, Copy)]
 pub struct Structure {
     pub els: Facts,
     pub pred_apps: PredApps,
@@ -48,7 +50,7 @@ pub struct Structure {
 }
 
 // What a call answers, with the number of a refusal; the lists of an answer stand beside it.
-#[derive(Drop)]
+#[derive(Clone, Copy)]
 pub enum Answer {
     Number(u16),
     Says(bool),
@@ -61,7 +63,7 @@ pub enum Answer {
 }
 
 // What a close reports.
-#[derive(Drop)]
+#[derive(Clone, Copy)]
 pub struct Closed {
     pub changed: bool,
     pub merges: u64,
@@ -71,47 +73,47 @@ pub struct Closed {
 }
 
 // What a settle reports: the closes run and the merges summed.
-#[derive(Drop)]
+#[derive(Clone, Copy)]
 pub struct Totals {
     pub closes: u64,
     pub merges: u64,
 }
 
 // What a call of kinds 6 to 13 or 15 answers, and the structure that it leaves.
-#[derive(Drop)]
+#[derive(Clone, Copy)]
 pub struct Stepped {
     pub answer: Answer,
     pub structure: Structure,
 }
 
 // The two values that the calls are made on.
-#[derive(Drop)]
+#[derive(Clone, Copy)]
 pub struct Machine {
     pub signature: Signature,
     pub structure: Structure,
 }
 
 // The answer of the ambient lookup; the elements stand beside it.
-#[derive(Drop)]
+#[derive(Clone, Copy)]
 pub enum Looked {
     Found,
     Refused(u16),
 }
 
-#[derive(Drop)]
+#[derive(Clone, Copy)]
 pub struct AmbientParents {
     pub answer: Looked,
     pub els: ElIds,
 }
 
 // The ambient elements of some types, and whether each type has one.
-#[derive(Drop)]
+#[derive(Clone, Copy)]
 struct FoundEls {
     all: bool,
     els: ElIds,
 }
 
-#[derive(Drop)]
+#[derive(Clone, Copy)]
 pub struct Rooting {
     pub find: Finding,
     pub structure: Structure,

@@ -1,4 +1,6 @@
 // The facts that the signature demands of the arguments and results of applications (structure.rs, `typing`), on the tables that a close lends.
+#![tactic(auto)]
+
 ghost use Rattle.std.specs.Prelude.{◌≡◌, ◌*◌, take};
 ghost use Rattle.ids.specs.Ids.{els_of};
 ghost use Rattle.signature.specs.Model.{sig_of, view_funcs, view_preds};
@@ -21,7 +23,7 @@ use merging::{PairRow, Tally};
 use signature::{Funcs, Preds, Signature, Typed, Types};
 
 // What one application is asked: the types that elements are to have, with the parents that are given.
-#[derive(Drop)]
+#[derive(Clone, Copy)]
 pub struct Demand {
     pub expected: TypeIds,
     pub parents: ElIds,
@@ -131,7 +133,7 @@ fn impose_demand(
 }
 
 // The applications that are asked, and of which elements: arguments of functions, arguments of predicates, results of functions.
-#[derive(Drop)]
+#[derive(Clone, Copy)]
 pub enum DemandKind {
     FuncArgs,
     PredArgs,

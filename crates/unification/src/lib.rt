@@ -1,5 +1,7 @@
 // The link table of the elements (unification.rs): roots, and the classes that merges make.
 // `Unification::root_const` and `Unification::root` are the public finds; the other functions serve our own crates.
+#![tactic(auto)]
+
 ghost use Rattle.std.specs.Prelude.{◌≡◌, map};
 ghost use Rattle.ids.specs.Ids.{els_of, handed_els, whole};
 ghost use Rattle.ids.specs.Table.{Sized};
@@ -11,35 +13,35 @@ use ids::{ElId, ElIds, Refusal, Verdict};
 
 // Element e links to links[e]; the first `len` are there.
 #[repr(C)]
-#[derive(Drop)]
+#[derive(Clone, Copy)]
 pub struct Unification {
     pub links: [u16; Unification::MAX_ELS],
     pub len: u16,
 }
 
 // A root, and the number of links followed to it.
-#[derive(Drop)]
+#[derive(Clone, Copy)]
 pub struct Find {
     pub root: ElId,
     pub count: u16,
 }
 
 // The answer of a public find.
-#[derive(Drop)]
+#[derive(Clone, Copy)]
 pub enum Finding {
     Found(Find),
     Refused(u16),
 }
 
 // A find, and the table that it leaves.
-#[derive(Drop)]
+#[derive(Clone, Copy)]
 pub struct Shortened {
     pub find: Find,
     pub unification: Unification,
 }
 
 // The answer of a public find, and the table that it leaves.
-#[derive(Drop)]
+#[derive(Clone, Copy)]
 pub struct Rooted {
     pub find: Finding,
     pub unification: Unification,

@@ -1,4 +1,6 @@
 // Whether a structure that a file says may be loaded (02, M-104): its entries by the causes of their calls, links, roots and orders.
+#![tactic(auto)]
+
 ghost use Rattle.std.specs.Prelude.{◌≡◌, not};
 ghost use Rattle.ids.specs.Table.{Sized};
 ghost use Rattle.unification.specs.Roots.{links_of};
