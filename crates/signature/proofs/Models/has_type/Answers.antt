@@ -1,0 +1,27 @@
+-- `Models::has_type` meets its contract.
+use mathlib.Core.Path.{refl}
+use borrow.Author.Tests.{eq-eqb, ne_eqb}
+use Rattle.signature.specs.Model.{model_of}
+use Rattle.ids.proofs.Counted.{found, passed, ended}
+use Rattle.signature.proofs.Laws.{by_type}
+use Rattle.signature.proofs.Models.has_type.Goals as goal
+
+pub loop-i-init : goal.loop-i-init
+loop-i-init c = refl
+
+pub returns-then-given-typ : goal.returns-then-given-typ
+returns-then-given-typ c =
+    let t = c.args.self in
+    let is = eq-eqb _ _ c.if-given-typ.true in
+    found (by_type _) model_of t.len t.items c.size-n.ensures _ c.loop-i.invariant _ c.loop-i-test.true is
+
+pub loop-i-preserved : goal.loop-i-preserved
+loop-i-preserved c =
+    let t = c.args.self in
+    let is = ne_eqb _ _ c.if-given-typ.false in
+    passed (by_type _) model_of t.len t.items c.size-n.ensures _ c.loop-i.invariant _ c.loop-i-test.true is
+
+pub returns : goal.returns
+returns c =
+    let t = c.args.self in
+    ended (by_type _) model_of t.len t.items c.size-n.ensures _ c.loop-i.invariant c.loop-i-test.false
