@@ -1,14 +1,14 @@
 -- The proved cases (01, "Proved sheets"): P1 to P10, rows for each number 1 to 12 and 15 and for single sentences of 01 and 02, as one table, and one theorem: every row holds (with those of RefusedSettle: `every_row_holds` there; rows on full tables are in validity/proofs/full_tables).
 -- A row is data: what it runs, what that answers or prints, and claims about the machine that it leaves. That a refused call leaves the machine as
 -- it was is a theorem over every call (`refused_leaves`, Judged); the rows on refusals state it where it computes in few steps.
-use mathlib.Core.Path.{◌≡◌, refl}
+use mathlib.Core.Path.{◌≡◌, refl, ap, ◌∙◌}
 use mathlib.Core.Bool.{Bool, true, false}
 use mathlib.Core.List.{List, [], ◌∷◌, ◌++◌, map, Memᴰ}
 use mathlib.Core.Option.{Option, none, some}
 use Prim.Native.Nat.{ℕ, zero, suc, ◌-◌, ◌/◌, ◌%◌}
 use Prim.Native.Char.{code}
 use Prim.Native.String.{String, [] as no_text, ◌∷◌ as ◌∷ᵗ◌}
-use lib.ListN.{length, take, get_or, set, replicate}
+use lib.ListN.{length, take, drop, get_or, set, replicate}
 use Rattle.ids.specs.Table.{lookup_of}
 use Rattle.unification.specs.Roots.{max_els}
 use Rattle.signature.specs.Model.{Kind, plain, model, mor, max_types, max_preds, max_funcs, type_entry, pred_entry, func_entry, model_entry}
@@ -22,7 +22,7 @@ use Rattle.semantics.specs.Calls.{Call, push_type, push_func, push_pred, push_el
 use Rattle.semantics.specs.Calls.{push_model, push_mor_app, bind_var, bind_ambient}
 use Rattle.semantics.specs.Calls.{close, type_conflicts, settle, lookup_type, ambient_parents, ConcreteType, concrete_type, after_calls}
 use Rattle.semantics.specs.Calls as steps
-use Rattle.semantics.specs.Calls.{totals, Answer, number, says, done, closed, conflicting, found, typed, els, refuse, Machine, start, step}
+use Rattle.semantics.specs.Calls.{totals, Answer, number, says, done, closed, conflicting, found, typed, els, refuse, Machine, Step, refusal, start, step}
 use Rattle.semantics.specs.Sheet.{bit, newline, run_sheet}
 use Rattle.semantics.proofs.Computes.{everything}
 
@@ -1008,13 +1008,196 @@ table =
 
 -- The theorem.
 
--- all rows at once, by computing
-rows_show : map shown_by table ≡ map stated_by table
+-- what two functions make of a list's first n entries, and of the others
+joined : {A B : Type 0} (f g : A → B) (n : ℕ) (l : List A) → map f (take n l) ≡ map g (take n l) → map f (drop n l) ≡ map g (drop n l) → map f l ≡ map g l
+joined f g zero l a b = b
+joined f g (suc n) [] a b = refl
+joined f g (suc n) (x ∷ xs) a b = cc (joined f g n xs (cc) b)
+
+-- the rows by computing, a few at a time
+
+rows_0 : map shown_by (take 8 (drop 0 table)) ≡ map stated_by (take 8 (drop 0 table))
 unfolding everything stated answers_of output_of machine_of look shown_by stated_by bytes_of lines little_endian entry down_from facts_before table
-rows_show = refl
+rows_0 = refl
+
+rows_1 : map shown_by (take 8 (drop 8 table)) ≡ map stated_by (take 8 (drop 8 table))
+unfolding everything stated answers_of output_of machine_of look shown_by stated_by bytes_of lines little_endian entry down_from facts_before table
+rows_1 = refl
+
+rows_2 : map shown_by (take 8 (drop 16 table)) ≡ map stated_by (take 8 (drop 16 table))
+unfolding everything stated answers_of output_of machine_of look shown_by stated_by bytes_of lines little_endian entry down_from facts_before table
+rows_2 = refl
+
+rows_3 : map shown_by (take 8 (drop 24 table)) ≡ map stated_by (take 8 (drop 24 table))
+unfolding everything stated answers_of output_of machine_of look shown_by stated_by bytes_of lines little_endian entry down_from facts_before table
+rows_3 = refl
+
+rows_4 : map shown_by (take 8 (drop 32 table)) ≡ map stated_by (take 8 (drop 32 table))
+unfolding everything stated answers_of output_of machine_of look shown_by stated_by bytes_of lines little_endian entry down_from facts_before table
+rows_4 = refl
+
+rows_5 : map shown_by (take 8 (drop 40 table)) ≡ map stated_by (take 8 (drop 40 table))
+unfolding everything stated answers_of output_of machine_of look shown_by stated_by bytes_of lines little_endian entry down_from facts_before table
+rows_5 = refl
+
+rows_6 : map shown_by (take 8 (drop 48 table)) ≡ map stated_by (take 8 (drop 48 table))
+unfolding everything stated answers_of output_of machine_of look shown_by stated_by bytes_of lines little_endian entry down_from facts_before table
+rows_6 = refl
+
+rows_7 : map shown_by (take 8 (drop 56 table)) ≡ map stated_by (take 8 (drop 56 table))
+unfolding everything stated answers_of output_of machine_of look shown_by stated_by bytes_of lines little_endian entry down_from facts_before table
+rows_7 = refl
+
+rows_8 : map shown_by (take 8 (drop 64 table)) ≡ map stated_by (take 8 (drop 64 table))
+unfolding everything stated answers_of output_of machine_of look shown_by stated_by bytes_of lines little_endian entry down_from facts_before table
+rows_8 = refl
+
+rows_9 : map shown_by (take 8 (drop 72 table)) ≡ map stated_by (take 8 (drop 72 table))
+unfolding everything stated answers_of output_of machine_of look shown_by stated_by bytes_of lines little_endian entry down_from facts_before table
+rows_9 = refl
+
+rows_10 : map shown_by (take 8 (drop 80 table)) ≡ map stated_by (take 8 (drop 80 table))
+unfolding everything stated answers_of output_of machine_of look shown_by stated_by bytes_of lines little_endian entry down_from facts_before table
+rows_10 = refl
+
+rows_11 : map shown_by (take 8 (drop 88 table)) ≡ map stated_by (take 8 (drop 88 table))
+unfolding everything stated answers_of output_of machine_of look shown_by stated_by bytes_of lines little_endian entry down_from facts_before table
+rows_11 = refl
+
+rows_12 : map shown_by (take 8 (drop 96 table)) ≡ map stated_by (take 8 (drop 96 table))
+unfolding everything stated answers_of output_of machine_of look shown_by stated_by bytes_of lines little_endian entry down_from facts_before table
+rows_12 = refl
+
+rows_13_104 : map shown_by (take 1 (drop 104 table)) ≡ map stated_by (take 1 (drop 104 table))
+unfolding everything stated answers_of output_of machine_of look shown_by stated_by bytes_of lines little_endian entry down_from facts_before table
+rows_13_104 = refl
+
+rows_13_105 : map shown_by (take 1 (drop 105 table)) ≡ map stated_by (take 1 (drop 105 table))
+unfolding everything stated answers_of output_of machine_of look shown_by stated_by bytes_of lines little_endian entry down_from facts_before table
+rows_13_105 = refl
+
+rows_13_106 : map shown_by (take 1 (drop 106 table)) ≡ map stated_by (take 1 (drop 106 table))
+unfolding everything stated answers_of output_of machine_of look shown_by stated_by bytes_of lines little_endian entry down_from facts_before table
+rows_13_106 = refl
+
+rows_13_107 : map shown_by (take 1 (drop 107 table)) ≡ map stated_by (take 1 (drop 107 table))
+unfolding everything stated answers_of output_of machine_of look shown_by stated_by bytes_of lines little_endian entry down_from facts_before table
+rows_13_107 = refl
+
+rows_13_108 : map shown_by (take 1 (drop 108 table)) ≡ map stated_by (take 1 (drop 108 table))
+unfolding everything stated answers_of output_of machine_of look shown_by stated_by bytes_of lines little_endian entry down_from facts_before table
+rows_13_108 = refl
+
+-- the row on applications that number 12 refuses, call by call: compared at once, the two machines take too much memory
+mapped : Machine
+mapped = after_calls (signature102 ++ (plain_el ∷ [])) start
+
+misapplied_0 : step (app 2 [] [] 0) mapped ≡ refusal mapped 12
+unfolding everything mapped
+misapplied_0 = refl
+
+misapplied_1 : step (app 2 [] (0 ∷ 0 ∷ []) 0) mapped ≡ refusal mapped 12
+unfolding everything mapped
+misapplied_1 = refl
+
+misapplied_2 : step (app 3 [] [] 0) mapped ≡ refusal mapped 12
+unfolding everything mapped
+misapplied_2 = refl
+
+misapplied_3 : step (app 3 [] (0 ∷ []) 0) mapped ≡ refusal mapped 12
+unfolding everything mapped
+misapplied_3 = refl
+
+misapplied_4 : step (app 3 [] (0 ∷ 0 ∷ 0 ∷ []) 0) mapped ≡ refusal mapped 12
+unfolding everything mapped
+misapplied_4 = refl
+
+misapplied : after_calls (app 2 [] [] 0 ∷ app 2 [] (0 ∷ 0 ∷ []) 0 ∷ app 3 [] [] 0 ∷ app 3 [] (0 ∷ []) 0 ∷ app 3 [] (0 ∷ 0 ∷ 0 ∷ []) 0 ∷ []) mapped ≡ mapped
+unfolding after_calls
+misapplied =
+    ap (λ (x : Step). after_calls (app 2 [] (0 ∷ 0 ∷ []) 0 ∷ app 3 [] [] 0 ∷ app 3 [] (0 ∷ []) 0 ∷ app 3 [] (0 ∷ 0 ∷ 0 ∷ []) 0 ∷ []) x.after) misapplied_0
+    ∙ ap (λ (x : Step). after_calls (app 3 [] [] 0 ∷ app 3 [] (0 ∷ []) 0 ∷ app 3 [] (0 ∷ 0 ∷ 0 ∷ []) 0 ∷ []) x.after) misapplied_1
+    ∙ ap (λ (x : Step). after_calls (app 3 [] (0 ∷ []) 0 ∷ app 3 [] (0 ∷ 0 ∷ 0 ∷ []) 0 ∷ []) x.after) misapplied_2
+    ∙ ap (λ (x : Step). after_calls (app 3 [] (0 ∷ 0 ∷ 0 ∷ []) 0 ∷ []) x.after) misapplied_3
+    ∙ ap (λ (x : Step). after_calls ([]) x.after) misapplied_4
+
+arg_count_row : Row
+arg_count_row = record {
+  source = calls (signature102 ++ (plain_el ∷ app 2 [] [] 0 ∷ app 2 [] (0 ∷ 0 ∷ []) 0 ∷ app 3 [] [] 0 ∷ app 3 [] (0 ∷ []) 0 ∷ app 3 [] (0 ∷ 0 ∷ 0 ∷ []) 0 ∷ []));
+  output = tells (refuses 12 ∷ refuses 12 ∷ refuses 12 ∷ refuses 12 ∷ refuses 12 ∷ []);
+  claims = machine is whole (after_calls (signature102 ++ (plain_el ∷ [])) start) ∷ [];
+}
+
+arg_count_output : output_of arg_count_row.source ≡ arg_count_row.output
+unfolding everything stated answers_of output_of arg_count_row
+arg_count_output = refl
+
+arg_count_machine : machine_of arg_count_row.source ≡ mapped
+unfolding machine_of after_calls arg_count_row mapped
+arg_count_machine = misapplied
+
+arg_count_shown : shown_by arg_count_row ≡ stated_by arg_count_row
+unfolding shown_by stated_by look arg_count_row mapped
+arg_count_shown =
+    ap (λ (x : Output). record { output = x; seen = whole (machine_of arg_count_row.source) ∷ [] }) arg_count_output
+    ∙ ap (λ (x : Machine). record { output = arg_count_row.output; seen = whole x ∷ [] }) arg_count_machine
+
+rows_13_109 : map shown_by (take 1 (drop 109 table)) ≡ map stated_by (take 1 (drop 109 table))
+unfolding table arg_count_row
+rows_13_109 = ap (λ (x : Shown). x ∷ []) arg_count_shown
+
+rows_13_110 : map shown_by (take 1 (drop 110 table)) ≡ map stated_by (take 1 (drop 110 table))
+unfolding everything stated answers_of output_of machine_of look shown_by stated_by bytes_of lines little_endian entry down_from facts_before table
+rows_13_110 = refl
+
+rows_13_111 : map shown_by (take 1 (drop 111 table)) ≡ map stated_by (take 1 (drop 111 table))
+unfolding everything stated answers_of output_of machine_of look shown_by stated_by bytes_of lines little_endian entry down_from facts_before table
+rows_13_111 = refl
+
+rows_14 : map shown_by (take 8 (drop 112 table)) ≡ map stated_by (take 8 (drop 112 table))
+unfolding everything stated answers_of output_of machine_of look shown_by stated_by bytes_of lines little_endian entry down_from facts_before table
+rows_14 = refl
+
+rows_15 : map shown_by (take 8 (drop 120 table)) ≡ map stated_by (take 8 (drop 120 table))
+unfolding everything stated answers_of output_of machine_of look shown_by stated_by bytes_of lines little_endian entry down_from facts_before table
+rows_15 = refl
+
+rows_16 : map shown_by (drop 128 table) ≡ map stated_by (drop 128 table)
+unfolding everything stated answers_of output_of machine_of look shown_by stated_by bytes_of lines little_endian entry down_from facts_before table
+rows_16 = refl
+
+-- all rows
+rows_show : map shown_by table ≡ map stated_by table
+unfolding table
+rows_show =
+    joined shown_by stated_by 8 (drop 0 table) rows_0 (
+    joined shown_by stated_by 8 (drop 8 table) rows_1 (
+    joined shown_by stated_by 8 (drop 16 table) rows_2 (
+    joined shown_by stated_by 8 (drop 24 table) rows_3 (
+    joined shown_by stated_by 8 (drop 32 table) rows_4 (
+    joined shown_by stated_by 8 (drop 40 table) rows_5 (
+    joined shown_by stated_by 8 (drop 48 table) rows_6 (
+    joined shown_by stated_by 8 (drop 56 table) rows_7 (
+    joined shown_by stated_by 8 (drop 64 table) rows_8 (
+    joined shown_by stated_by 8 (drop 72 table) rows_9 (
+    joined shown_by stated_by 8 (drop 80 table) rows_10 (
+    joined shown_by stated_by 8 (drop 88 table) rows_11 (
+    joined shown_by stated_by 8 (drop 96 table) rows_12 (
+    joined shown_by stated_by 1 (drop 104 table) rows_13_104 (
+    joined shown_by stated_by 1 (drop 105 table) rows_13_105 (
+    joined shown_by stated_by 1 (drop 106 table) rows_13_106 (
+    joined shown_by stated_by 1 (drop 107 table) rows_13_107 (
+    joined shown_by stated_by 1 (drop 108 table) rows_13_108 (
+    joined shown_by stated_by 1 (drop 109 table) rows_13_109 (
+    joined shown_by stated_by 1 (drop 110 table) rows_13_110 (
+    joined shown_by stated_by 1 (drop 111 table) rows_13_111 (
+    joined shown_by stated_by 8 (drop 112 table) rows_14 (
+    joined shown_by stated_by 8 (drop 120 table) rows_15 (
+    rows_16)))))))))))))))))))))))
 
 -- two functions that agree on a list agree at each of its entries
 pub agree : {A B : Type 0} (f g : A → B) (l : List A) → map f l ≡ map g l → (a : A) → Memᴰ a l → f a ≡ g a
+agree f g [] e a x = elim x [ ]
 agree f g (x ∷ xs) e a (Memᴰ.head p) = cc
 agree f g (x ∷ xs) e a (Memᴰ.tail m) = agree f g xs (cc) a m
 

@@ -381,3 +381,4 @@ every_row_holds r m = elim (Memᴰ.append_cases table m) [ inl c ↦ computed_ro
     go : Memᴰ r (second_refused ∷ settle_undone ∷ []) → Holds r
     go (Memᴰ.head e) = subst Holds (sym e) second_holds
     go (Memᴰ.tail (Memᴰ.head e)) = subst Holds (sym e) undone_holds
+    go (Memᴰ.tail (Memᴰ.tail x)) = elim x [ ]
