@@ -8,26 +8,11 @@ use Rattle.ids.specs.Ids.{el_of}
 use Rattle.ids.proofs.Views.{map_take}
 use Rattle.semantics.specs.Structure.{fact}
 use Rattle.fact_rows.specs.View.{fact_in}
-use borrow.Author.Rules.{rules}
-use Rattle.fact_rows.proofs.fact_of.Statement.{statement}
-use Rattle.fact_rows.proofs.fact_of.Tie as tie
+use Rattle.fact_rows.proofs.fact_of.Goals as goal
 
-returns : tie.Need-returns
+pub returns : goal.returns
 unfolding fact_in
 returns c =
-    let r = c.args.t1 in
+    let r = c.args.row in
     let e : ℕ → ElId = λ i. record { 0 = get_or r i 0 } in
     ap (fact _ _) (map_take el_of (get_or r 6 0) (e 2 ∷ e 3 ∷ e 4 ∷ e 5 ∷ []))
-
-pub fact-of-spec : {M : Type 1} → statement M
-fact-of-spec =
-    tie.close
-    (tie.spec
-    (λ c. search rules)
-    (λ c. search rules)
-    (λ c. search rules)
-    (λ c. search rules)
-    (λ c. search rules)
-    (λ c. search rules)
-    (λ c. search rules)
-    returns)
