@@ -8,32 +8,13 @@ use Rattle.ids.proofs.Views.{map_take}
 use Rattle.semantics.specs.Structure.{func_app}
 use Rattle.app_rows.specs.View.{func_app_in, list_in}
 use borrow.Author.Rules.{rules}
-use Rattle.app_rows.proofs.func_app_of.Statement.{statement}
-use Rattle.app_rows.proofs.func_app_of.Tie as tie
+use Rattle.app_rows.proofs.func_app_of.Goals as goal
 
-returns : tie.Need-returns
+pub returns : goal.returns
 unfolding func_app_in list_in
 returns c =
-    let r = c.args.t1 in
+    let r = c.args.row in
     let e : ℕ → ElId = λ i. record { 0 = get_or r i 0 } in
     let parents = map_take el_of (get_or r 5 0) (e 1 ∷ e 2 ∷ e 3 ∷ e 4 ∷ []) in
     let args = map_take el_of (get_or r 10 0) (e 6 ∷ e 7 ∷ e 8 ∷ e 9 ∷ []) in
     λ i. func_app (get_or r 0 0) (parents i) (args i) (get_or r 11 0)
-
-pub func-app-of-spec : {M : Type 1} → statement M
-func-app-of-spec =
-    tie.close
-    (tie.spec
-    (λ c. search rules)
-    (λ c. search rules)
-    (λ c. search rules)
-    (λ c. search rules)
-    (λ c. search rules)
-    (λ c. search rules)
-    (λ c. search rules)
-    (λ c. search rules)
-    (λ c. search rules)
-    (λ c. search rules)
-    (λ c. search rules)
-    (λ c. search rules)
-    returns)

@@ -1,0 +1,11 @@
+use mathlib.Core.List.{[]}
+use native.Mathlib.Omega.{arith}
+use Rattle.rows.proofs.Shifting.{Shifting, shifting_start, shifting_there, shifting_turn, shifting_done}
+use borrow.Author.Rules.{rules}
+use Rattle.app_rows.proofs.place.Given as goal
+
+abbrev pub invariant-loop-i : goal.invariant-loop-i
+invariant-loop-i l = Shifting l.initial.rows l.rows l.n l.at l.i
+
+abbrev pub decreases-loop-i : goal.decreases-loop-i
+decreases-loop-i l = l.i
