@@ -2,13 +2,9 @@
 use mathlib.Core.List.{[], ◌∷◌}
 use Rattle.ids.specs.Ids.{el_of}
 use Rattle.ids.proofs.Views.{map_take}
-use Rattle.decoding.proofs.list_of.Statement.{statement}
-use Rattle.decoding.proofs.list_of.Tie as tie
+use Rattle.decoding.proofs.list_of.Goals as goal
 
-returns : tie.Need-returns
+pub returns : goal.returns
 returns c =
     let a = c.args in
     map_take el_of a.len (record { 0 = a.a } ∷ record { 0 = a.b } ∷ record { 0 = a.c } ∷ record { 0 = a.d } ∷ [])
-
-pub list-of-spec : {M : Type 1} → statement M
-list-of-spec = tie.close (tie.spec returns)
