@@ -1,13 +1,9 @@
 -- `fill_func_apps` meets its contract.
 use mathlib.Core.Path.{sym, ◌∙◌}
-use Prim.Native.Nat.{◌-◌}
 use native.Mathlib.Omega.{arith}
 use Rattle.ids.proofs.Views.{length_view, view_clamped}
-use Rattle.semantics.specs.Structure.{max_func_apps}
 use Rattle.apps.specs.View.{func_app_of, no_func_app}
-use Rattle.app_rows.specs.View.{func_app_in}
-use Rattle.rows.proofs.Copying.{Copied, copied_none, copied_next, copied_all}
-use borrow.Author.Rules.{rules}
+use Rattle.rows.proofs.Copying.{copied_none, copied_next, copied_all}
 use Rattle.app_rows.proofs.fill_func_apps.Goals as goal
 
 pub loop-i-init : goal.loop-i-init

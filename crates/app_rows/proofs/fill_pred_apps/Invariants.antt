@@ -1,12 +1,8 @@
-use mathlib.Core.Path.{sym, ◌∙◌}
 use Prim.Native.Nat.{◌-◌}
-use native.Mathlib.Omega.{arith}
-use Rattle.ids.proofs.Views.{length_view, view_clamped}
 use Rattle.semantics.specs.Structure.{max_pred_apps}
-use Rattle.apps.specs.View.{pred_app_of, no_pred_app}
+use Rattle.apps.specs.View.{pred_app_of}
 use Rattle.app_rows.specs.View.{pred_app_in}
-use Rattle.rows.proofs.Copying.{Copied, copied_none, copied_next, copied_all}
-use borrow.Author.Rules.{rules}
+use Rattle.rows.proofs.Copying.{Copied}
 use Rattle.app_rows.proofs.fill_pred_apps.Given as goal
 
 abbrev pub invariant-loop-i : goal.invariant-loop-i

@@ -7,7 +7,6 @@ use Rattle.ids.specs.Ids.{el_of}
 use Rattle.ids.proofs.Views.{map_take}
 use Rattle.semantics.specs.Structure.{func_app}
 use Rattle.app_rows.specs.View.{func_app_in, list_in}
-use borrow.Author.Rules.{rules}
 use Rattle.app_rows.proofs.func_app_of.Goals as goal
 
 pub returns : goal.returns

@@ -3,7 +3,6 @@ use native.Mathlib.Omega.{arith}
 use Rattle.semantics.specs.Structure.{compare_func_app}
 use Rattle.rows.proofs.Shifting.{inserted_at, place_within, inserted_before}
 use Rattle.app_rows.specs.View.{func_app_in}
-use borrow.Author.Rules.{rules}
 use Rattle.app_rows.proofs.insert.Goals as goal
 
 pub position-found-requires : goal.position-found-requires
@@ -14,7 +13,7 @@ returns-in_default c =
     inserted_at compare_func_app func_app_in _ _ _ c.requires.0 c.position-found.ensures c.in_default.is
 
 pub place-requires : goal.place-requires
-place_requires c =
+place-requires c =
     let room = c.requires.0 in
     (place_within compare_func_app func_app_in _ _ _ room c.position-found.ensures c.in-Before.is, room)
 

@@ -1,7 +1,6 @@
 -- `is_less` meets its contract.
 use mathlib.Core.Path.{sym, ap, ◌∙◌}
 use Rattle.rows.specs.Table.{is_less}
-use borrow.Author.Rules.{rules}
 use Rattle.app_rows.proofs.is_less.Goals as goal
 
 pub returns-in-Less : goal.returns-in-Less

@@ -1,8 +1,7 @@
 -- `place` meets its contract.
 use mathlib.Core.List.{[]}
 use native.Mathlib.Omega.{arith}
-use Rattle.rows.proofs.Shifting.{Shifting, shifting_start, shifting_there, shifting_turn, shifting_done}
-use borrow.Author.Rules.{rules}
+use Rattle.rows.proofs.Shifting.{shifting_start, shifting_there, shifting_turn, shifting_done}
 use Rattle.app_rows.proofs.place.Goals as goal
 
 pub loop-i-init : goal.loop-i-init

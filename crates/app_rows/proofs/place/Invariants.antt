@@ -1,7 +1,4 @@
-use mathlib.Core.List.{[]}
-use native.Mathlib.Omega.{arith}
-use Rattle.rows.proofs.Shifting.{Shifting, shifting_start, shifting_there, shifting_turn, shifting_done}
-use borrow.Author.Rules.{rules}
+use Rattle.rows.proofs.Shifting.{Shifting}
 use Rattle.app_rows.proofs.place.Given as goal
 
 abbrev pub invariant-loop-i : goal.invariant-loop-i

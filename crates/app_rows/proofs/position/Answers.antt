@@ -1,13 +1,11 @@
 -- `position` meets its contract.
 use mathlib.Core.List.{[]}
-use Prim.Native.Nat.{◌-◌}
 use native.Mathlib.Omega.{arith}
 use Rattle.semantics.specs.Structure.{compare_func_app}
 use Rattle.semantics.proofs.Orders.{func_app_ordered}
 use Rattle.apps.specs.View.{func_app_of}
-use Rattle.rows.proofs.Halving.{HalvingSearch, Halving, halving_none, halving_last, halving_start, halving_low, halving_high, halving_before, halving_at}
+use Rattle.rows.proofs.Halving.{HalvingSearch, halving_none, halving_last, halving_start, halving_low, halving_high, halving_before, halving_at}
 use Rattle.app_rows.specs.View.{func_app_in}
-use borrow.Author.Rules.{rules}
 use Rattle.app_rows.proofs.position.Goals as goal
 use Rattle.app_rows.proofs.position.Goals.{Start}
 

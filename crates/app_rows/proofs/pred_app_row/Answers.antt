@@ -2,7 +2,6 @@
 use mathlib.Core.Path.{ap}
 use Rattle.semantics.specs.Structure.{FuncApp, pred_app}
 use Rattle.app_rows.specs.View.{func_app_in, pred_app_in}
-use borrow.Author.Rules.{rules}
 use Rattle.app_rows.proofs.pred_app_row.Goals as goal
 
 pub returns : goal.returns

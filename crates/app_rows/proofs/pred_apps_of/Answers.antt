@@ -1,12 +1,8 @@
 -- `pred_apps_of` meets its contract.
 use mathlib.Core.List.{[]}
-use Prim.Native.Nat.{◌-◌}
 use native.Mathlib.Omega.{arith}
 use Rattle.ids.proofs.Views.{long}
-use Rattle.semantics.specs.Structure.{max_pred_apps}
-use Rattle.apps.specs.View.{pred_app_of}
-use Rattle.app_rows.specs.View.{pred_app_in}
-use Rattle.rows.proofs.Copying.{Copied, copied_none, copied_next, copied_all}
+use Rattle.rows.proofs.Copying.{copied_none, copied_next, copied_all}
 use borrow.Author.Rules.{rules}
 use Rattle.app_rows.proofs.pred_apps_of.Goals as goal
 

@@ -1,12 +1,8 @@
-use mathlib.Core.List.{[]}
 use Prim.Native.Nat.{◌-◌}
-use native.Mathlib.Omega.{arith}
-use Rattle.ids.proofs.Views.{long}
 use Rattle.semantics.specs.Structure.{max_pred_apps}
 use Rattle.apps.specs.View.{pred_app_of}
 use Rattle.app_rows.specs.View.{pred_app_in}
-use Rattle.rows.proofs.Copying.{Copied, copied_none, copied_next, copied_all}
-use borrow.Author.Rules.{rules}
+use Rattle.rows.proofs.Copying.{Copied}
 use Rattle.app_rows.proofs.pred_apps_of.Given as goal
 
 abbrev pub invariant-loop-i : goal.invariant-loop-i
