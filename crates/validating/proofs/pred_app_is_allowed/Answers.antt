@@ -7,15 +7,11 @@ use Rattle.ids.proofs.Tests.{and_then}
 use Rattle.ids.proofs.Views.{long}
 use Rattle.validating.proofs.Entries.{held_short}
 use borrow.Author.Rules.{rules}
-use Rattle.validating.proofs.pred_app_is_allowed.Statement.{statement}
-use Rattle.validating.proofs.pred_app_is_allowed.Tie as tie
+use Rattle.validating.proofs.pred_app_is_allowed.Goals as goal
 
-returns : tie.Need-returns
+pub returns : goal.returns
 returns c =
-    let app = c.before.args.app in
+    let app = c.args.app in
     let parents : length app.parents.ids ≡ max_list = search (rules, long) in
     let args : length app.args.ids ≡ max_list = search (rules, long) in
-    c.pred-app-is-within.ensures ∙ sym (and_then (not_false (or_neither (held_short app.parents parents) (held_short app.args args))) refl)
-
-pub pred-app-is-allowed-spec : {M : Type 1} → statement M
-pred-app-is-allowed-spec = tie.close (tie.spec (λ c κs. search rules) returns)
+    c.pred_app_is_within.ensures ∙ sym (and_then (not_false (or_neither (held_short app.parents parents) (held_short app.args args))) refl)
