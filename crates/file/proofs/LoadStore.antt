@@ -17,7 +17,7 @@ use Rattle.signature.specs.Model.{Sig}
 use Rattle.semantics.specs.Structure.{Fact, FuncApp, PredApp, Pair, Var, Ambient, Structure, structure}
 use Rattle.semantics.specs.Sheet.{bit}
 use Rattle.semantics.specs.Valid.{Below, Listed, counts_of, FactValid, PredAppValid, VarValid, PairValid, Valid}
-use Rattle.semantics.proofs.Cases.{test, or_first, or_second}
+use Rattle.semantics.proofs.Cases.{or_first, or_second}
 use Rattle.validity.proofs.Operating.{Admitted}
 use Rattle.file.specs.Layout.{byte, word_bytes, by_columns, rows_in, joined, parts_of, sum}
 use Rattle.file.specs.Rows.{fact_columns, func_app_columns, pred_app_columns, imposition_columns, pair_columns, fact_row, func_app_row, func_app_in}

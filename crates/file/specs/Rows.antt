@@ -3,7 +3,7 @@ use Rattle.std.specs.Prelude.{ℕ, ◌+◌, Bool, List, [], ◌∷◌, ◌++◌,
 use Rattle.ids.specs.Limits.{max_list}
 use Rattle.ids.specs.Ids.{padded}
 use Rattle.semantics.specs.Structure.{Fact, fact, FuncApp, func_app, PredApp, pred_app, Pair, pair, Var, variable, Ambient, ambient}
-use Rattle.semantics.specs.Sheet.{all_zero, bit}
+use Rattle.semantics.specs.Sheet.{all_zero}
 
 -- Lists: "parents by position", in four places, and then how many there are. "Unused places are zero."
 

@@ -69,6 +69,8 @@ module _ (n : ℕ) (R : ℕ → ℕ → Type 0) where
 
     together_within : (k l : List ℕ) → Below n k → Together Extended k l → Together R k l
     together_within [] [] h none = none
+    together_within [] (y ∷ ys) h t = elim t [ ]
+    together_within (x ∷ xs) [] h t = elim t [ ]
     together_within (x ∷ xs) (y ∷ ys) h (more e t) = more (within x y h.0 e) (together_within xs ys h.1 t)
 
     meet_within : (x y : FuncApp) → AppNamed n x → Meet Extended x y → Meet R x y
@@ -85,6 +87,8 @@ module _ (n : ℕ) (R : ℕ → ℕ → Type 0) where
 
   all_inside : (k l : List ℕ) → Below n k → Together Extended k l → Below n l
   all_inside [] [] h none = tt
+  all_inside [] (y ∷ ys) h t = elim t [ ]
+  all_inside (x ∷ xs) [] h t = elim t [ ]
   all_inside (x ∷ xs) (y ∷ ys) h (more e t) = (inside x y h.0 e, all_inside xs ys h.1 t)
 
   app_inside : (x y : FuncApp) → AppNamed n x → Meet Extended x y → Extended x.result y.result → AppNamed n y

@@ -167,8 +167,11 @@ ran_left {cs = cs} {s = s} h ran =
 
 -- both run closes, one after the other, and at least one
 ran_some : {k : Call} {cs : List Closed} (m : Machine) → ValidMachine m → RanCloses m k cs → Closes m cs (step k m).after × (0 < length cs)
-ran_some m v (closes e) = ((e, refl), omega arith)
-ran_some m v (settles {t} e) = (settle_closes m t e, last_some (settle_ends m v t e).unchanged)
+ran_some m v ran = go m v ran
+  where
+    go : (m : Machine) {k : Call} {cs : List Closed} → ValidMachine m → RanCloses m k cs → Closes m cs (step k m).after × (0 < length cs)
+    go m v (closes e) = ((e, refl), omega arith)
+    go m v (settles {t} e) = (settle_closes m t e, last_some (settle_ends m v t e).unchanged)
 
 -- one close
 close_leaves : (h : History) (c : Closed) → ValidHistory h → any_marked h.book.marks ≡ false → (step close h.machine).answer ≡ closed c

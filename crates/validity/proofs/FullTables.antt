@@ -1,4 +1,4 @@
--- Rows on number 9 inside a close (02, M-102), as those of semantics/proofs/proved_cases, each computed by itself. They stand here since they take long to
+-- Rows on number 9 inside a close (02, M-102), as those of semantics/proofs/ProvedCases, each computed by itself. They stand here since they take long to
 -- compute and this crate has no must-fail edit, which would compute them again.
 use mathlib.Core.Path.{refl}
 use mathlib.Core.List.{List, [], ◌∷◌, ◌++◌, Memᴰ}

@@ -1,5 +1,5 @@
 -- What the laws of identities and composites insert into a valid structure may stand in one.
-use mathlib.Core.Path.{◌≡◌, refl, ap, ◌∙◌}
+use mathlib.Core.Path.{◌≡◌, refl, ap, sym, subst, ◌∙◌}
 use mathlib.Core.Logic.{inl, inr}
 use mathlib.Core.Bool.{Bool, true, false, ◌&&◌, ◌||◌}
 use mathlib.Core.List.Memᴰ
@@ -29,7 +29,11 @@ pub is_operation : (ms : List ModelM) (m : ModelM) → Memᴰ m ms → (is_id_or
 unfolding is_id_or_comp
 is_operation [] m k = absurd (Memᴰ.not-nil k)
 is_operation (n ∷ ns) m k = elim (Memᴰ.cases_cons k) [
-  | inl q ↦ rw q (rw (eq-eqb n.id n.id refl), rw (eq-eqb n.comp n.comp refl) (own (eqb n.comp n.id) (is_id_or_comp n.comp ns)))
+  | inl q ↦
+      subst
+      (λ (x : ModelM). (is_id_or_comp x.id (n ∷ ns) ≡ true) × (is_id_or_comp x.comp (n ∷ ns) ≡ true))
+      (sym q)
+      (rw (eq-eqb n.id n.id refl), rw (eq-eqb n.comp n.comp refl) (own (eqb n.comp n.id) (is_id_or_comp n.comp ns)))
   | inr j ↦
       let r = is_operation ns m j in (
         rw r.0 (later (eqb m.id n.id || eqb m.id n.comp)),

@@ -1,0 +1,18 @@
+-- `pred_apps_of` meets its contract.
+use mathlib.Core.List.{[]}
+use native.Mathlib.Omega.{arith}
+use Rattle.ids.proofs.Views.{long}
+use Rattle.rows.proofs.Copying.{copied_none, copied_next, copied_all}
+use borrow.Author.Rules.{rules}
+use Rattle.app_rows.proofs.pred_apps_of.Goals as goal
+
+pub loop-i-init : goal.loop-i-init
+loop-i-init c = copied_none _ _ _ _ _ _ (search (rules, long))
+
+pub loop-i-preserved : goal.loop-i-preserved
+loop-i-preserved c =
+    let pre = c.requires in
+    copied_next _ _ _ _ _ c.loop-i.invariant [] c.loop-i-test.true (omega (arith, pre.0, pre.1)) pre.0 c.pred_app_of.ensures
+
+pub returns : goal.returns
+returns c = copied_all _ _ _ _ _ c.loop-i.invariant c.loop-i-test.false
