@@ -1,5 +1,5 @@
 -- What the tests of `load` tell: the length, the limits, what the structure that was read is judged to be, and whether it is stored as the same bytes.
-use mathlib.Core.Path.{◌≡◌, refl, sym, ap, subst, ◌∙◌}
+use mathlib.Core.Path.{◌≡◌, refl, sym, ap, ◌∙◌}
 use mathlib.Core.Logic.{◌⊎◌, inl, inr, ⊎_elim}
 use mathlib.Core.Bool.{Bool, true, false, not, ◌&&◌, ◌||◌}
 use mathlib.Core.List.{List, [], ◌∷◌}
@@ -7,15 +7,15 @@ use mathlib.Core.Option.{Option, none, some}
 use Prim.Native.Nat.{ℕ, ◌≤◌, ◌<◌}
 use native.Mathlib.Omega.{arith}
 use lib.ListN.{length}
-use lib.Dec.{eqb, leb}
-use borrow.Author.Tests.{lt-leb, le-leb, eq-eqb, eqb-true, ne_eqb, not-false}
-use Rattle.ids.specs.Answers.{Answered, accepted, refused, Cause, first_of, decided, ◌if◌, wrong_length, wrong_content}
+use lib.Dec.{eqb}
+use borrow.Author.Tests.{lt-leb, le-leb, eq-eqb, eqb-true, ne_eqb}
+use Rattle.ids.specs.Answers.{accepted, refused, Cause, first_of, decided, wrong_length, wrong_content}
 use Rattle.ids.specs.Sorted.{All}
 use Rattle.ids.proofs.Answers as answers
 use Rattle.ids.proofs.Sorted.{all_map, no_test}
 use Rattle.signature.specs.Model.{Sig, max_types, max_preds, max_funcs}
 use Rattle.semantics.specs.Structure.{Structure, compare_var, compare_ambient}
-use Rattle.semantics.proofs.Cases.{and_first, and_second, or_first, or_second}
+use Rattle.semantics.proofs.Cases.{and_first, and_second}
 use Rattle.file.specs.Layout.{sum}
 use Rattle.file.specs.File as file
 use Rattle.file.specs.File.{counts, head_of, head_bytes, sizes, head_in, Content, content_in, structure_in, has_length, any_over, limits, entry_refused, link_rises}
@@ -39,7 +39,7 @@ pub record WithinTables (g : Sig) : Type 0 where
   pub funcs : length g.funcs ≤ max_funcs
 
 is_not : {b : Bool} → b ≡ false → not b ≡ true
-is_not = answers.not-false
+is_not = answers.not_false
 
 pub not_told : (b : Bool) → not b ≡ true → b ≡ false
 not_told true e = no_test refl (sym e)

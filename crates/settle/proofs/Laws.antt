@@ -6,8 +6,6 @@ use mathlib.Core.List.{List, [], ◌∷◌, ◌++◌, append-nil, append_assoc}
 use mathlib.Core.Option.{Option, none, some}
 use native.Mathlib.Omega.{arith}
 use lib.ListN.{length, length-append}
-use denote.Enum.Declared.{tag_of}
-use types.Run.{OneOf, miss}
 use Rattle.ids.specs.Judge.{verdict_of}
 use Rattle.ids.specs.Answers.{Outcome, outcome, refusing, accepting}
 use Rattle.ids.proofs.Judging.{decided_refuses, decided_accepts}
@@ -20,9 +18,9 @@ use Rattle.semantics.specs.Calls.{Totals, totals, summed, closed, Answer, machin
 use Rattle.semantics.specs.Calls.{settle_by, settle_from, settle_run, merges_in, sums_of, rule, close_rule, settle_rule, acceptance, refusal, step}
 use Rattle.semantics.proofs.Judged.{close_first, met_refuses, met_accepts}
 use Rattle.structure.specs.declared.Answer as code
+use Rattle.structure.specs.declared.Closed as reports
 use Rattle.structure.specs.declared.Answer.TheVariants as variants
 use Rattle.structure.specs.View.{structure_of, totals_of, answer_of}
-use Rattle.structure.specs.contracts.Answer.{the_type}
 use Rattle.rounds.specs.View.{one_close}
 use Rattle.settle.specs.declared.SettleRun as declared
 use Rattle.settle.specs.View.{refused_by, SettleRunIs}
@@ -76,9 +74,9 @@ module _ (g : Sig) (s : Structure) {v : Structure} {x : Answer} (stepped : answe
       go none p = let q : closed c ≡ closed (report_of (close_run g s)) = sym e ∙ answer_is none p in (p, cc q)
       go (some n) p = let q : closed c ≡ calls.refuse n = sym e ∙ answer_is (some n) p in never (cc q)
 
--- the variants but a report
-abbrev others : List ℕ
-others = 0 ∷ 1 ∷ 2 ∷ 4 ∷ 5 ∷ 6 ∷ []
+-- an answer that is no close's
+abbrev NotClosed : code.Answer → Type 0
+NotClosed a = (x : reports.Closed) → a ≡ variants.Closed x → ⊥
 
 module _ (g : Sig) where
   -- some closes answered `reports` and left s; with those to come they are the whole settle, which runs at most so many
@@ -130,10 +128,10 @@ module _ (g : Sig) where
 
       -- it gave no report
       pub refused_told : (a : code.Answer) {v : Structure} → answers (answer_of [] a) (machine g v) ≡ step calls.close (machine g s)
-          → OneOf others (tag_of the_type a) → as_settle_run so_far.reports (refused_by a) s ≡ whole
+          → NotClosed a → as_settle_run so_far.reports (refused_by a) s ≡ whole
       refused_told a stepped k = go a k (close_run g s).core.met refl (answer_is g s stepped (close_run g s).core.met refl)
         where
-          go : (b : code.Answer) → OneOf others (tag_of the_type b) → (o : Option ℕ) → (close_run g s).core.met ≡ o → answer_of [] b ≡ answered g s o
+          go : (b : code.Answer) → NotClosed b → (o : Option ℕ) → (close_run g s).core.met ≡ o → answer_of [] b ≡ answered g s o
               → as_settle_run so_far.reports (refused_by b) s ≡ whole
           go (variants.Number n) k none p e = never (cc e)
           go (variants.Number n) k (some m) p e = never (cc e)
@@ -141,7 +139,7 @@ module _ (g : Sig) where
           go (variants.Says b) k (some m) p e = never (cc e)
           go variants.Done k none p e = never (cc e)
           go variants.Done k (some m) p e = never (cc e)
-          go (variants.Closed c) k o p e = absurd (miss others 3 tt k)
+          go (variants.Closed c) k o p e = absurd (k c refl)
           go (variants.Conflicting n) k none p e = never (cc e)
           go (variants.Conflicting n) k (some m) p e = never (cc e)
           go (variants.Summed t) k none p e = never (cc e)

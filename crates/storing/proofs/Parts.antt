@@ -1,7 +1,7 @@
 -- The parts of a file that are written together: how long they are, that they make the file, and the arrays that hold them.
 use mathlib.Core.Path.{◌≡◌, refl, sym, ap, ◌∙◌}
 use mathlib.Core.List.{List, [], ◌∷◌, ◌++◌, map, append_assoc}
-use Prim.Native.Nat.{ℕ, zero, suc, ◌+◌, ◌*◌, ◌≤◌, ◌<◌}
+use Prim.Native.Nat.{ℕ, ◌+◌, ◌*◌, ◌≤◌, ◌<◌}
 use native.Mathlib.Omega.{arith}
 use lib.ListN.{length, take, drop, length-map, take-append-drop}
 use lib.Seq.{get_or-take, ext_get_or, length-take-le}
@@ -10,7 +10,7 @@ use Rattle.ids.specs.Answers.{first_of, decided, outcome, refusing, accepting, n
 use Rattle.unification.specs.Roots.{up_to}
 use Rattle.unification.proofs.Arrays.{up_to_length, up_to_at}
 use Rattle.semantics.specs.Structure.{Fact, Structure}
-use Rattle.file.specs.Layout.{byte, word_bytes, by_columns, joined, sum}
+use Rattle.file.specs.Layout.{byte, by_columns, joined, sum}
 use Rattle.file.specs.Rows.{fact_columns, func_app_columns, pred_app_columns, imposition_columns, pair_columns, fact_row, func_app_row, pred_app_row}
 use Rattle.file.specs.Rows.{imposition_row, var_row, ambient_row}
 use Rattle.file.specs.File.{counts, head_of, nexts, firsts, first_fact, parts, store, store_causes, store_into}

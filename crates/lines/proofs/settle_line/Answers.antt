@@ -1,0 +1,20 @@
+-- `settle_line` meets its contract.
+use mathlib.Core.Path.{◌∙◌}
+use mathlib.Core.List.{[], ◌∷◌}
+use native.Mathlib.Omega.{arith}
+use Rattle.semantics.specs.Sheet.{newline, settle_word}
+use Rattle.lines.proofs.Whole.{begun, with, with_numbers, whole, settle_parts}
+use Rattle.lines.proofs.settle_line.Goals as goal
+
+pub returns : goal.returns
+returns c =
+    whole
+    (with
+    (with_numbers
+    (with_numbers (with (begun c.new.ensures) settle_word c.put_word-word.ensures) _ c.put_spaced-one.ensures)
+    _
+    c.put_spaced-two.ensures)
+    (newline ∷ [])
+    c.put.ensures)
+    (omega arith)
+    ∙ settle_parts _

@@ -1,0 +1,13 @@
+-- `imposition_row` meets its contract.
+use mathlib.Core.List.{◌∷◌}
+use Rattle.ids.specs.Ids.{els_of}
+use Rattle.file.specs.Rows.{imposition_row, fact_row}
+use Rattle.storing.proofs.Places.{in_places}
+use Rattle.storing.proofs.imposition_row.Goals as goal
+
+pub returns : goal.returns
+unfolding imposition_row fact_row
+returns c =
+    let fact = c.args.fact in
+    let list = in_places (els_of fact.ct.parents) c.size-count.ensures c.place.ensures c.place-2.ensures c.place-3.ensures c.place-4.ensures in
+    λ i. fact.el.0 ∷ fact.ct.typ.0 ∷ list i
