@@ -6,15 +6,10 @@ use Rattle.semantics.specs.Conflicts.{Conflict}
 use Rattle.semantics.specs.Calls.{answers}
 use Rattle.structure.specs.View.{machine_of, answer_of}
 use Rattle.carrying.proofs.Laws.{none_beside}
-use borrow.Author.Rules.{rules}
-use Rattle.carrying.proofs.answered.Statement.{statement}
-use Rattle.carrying.proofs.answered.Tie as tie
+use Rattle.carrying.proofs.answered.Goals as goal
 
-returns : tie.Need-returns
+pub returns : goal.returns
 returns c =
-    let a = c.before.args in
+    let a = c.args in
     let none = c.new.ensures ∙ ap (λ (cs : List Conflict). whole cs) (sym (none_beside a.answer)) in
     λ i. record { step = answers (answer_of (c.new.ensures i).held a.answer) (machine_of a.machine); conflicts = none i }
-
-pub answered-spec : {M : Type 1} → statement M
-answered-spec = tie.close (tie.spec (λ c κs. search rules) returns)
