@@ -44,8 +44,8 @@ nothing_written old all = record { done = []; appends = nothing_more old; is = r
 
 module _ {old between : Option (List ℕ)} {all rest : List ℕ} (so_far : Written old between all rest) where
   -- one more page
-  pub page_written : {new : Option (List ℕ)} {page after : List ℕ} → rest ≡ page ++ after → Appends between new page → Written old new all after
-  page_written {new} {page} {after} e h =
+  pub page_written : {new : Option (List ℕ)} (page after : List ℕ) → rest ≡ page ++ after → Appends between new page → Written old new all after
+  page_written {new} page after e h =
       record {
         done = so_far.done ++ page;
         appends = more old between new so_far.done page so_far.appends h;
@@ -53,14 +53,14 @@ module _ {old between : Option (List ℕ)} {all rest : List ℕ} (so_far : Writt
       }
 
   -- a part of one more page
-  pub page_begun : {new : Option (List ℕ)} {page after : List ℕ} → rest ≡ page ++ after → AppendsFront between new page → AppendsFront old new all
-  page_begun {new} {page} {after} e h =
+  pub page_begun : {new : Option (List ℕ)} (page after : List ℕ) → rest ≡ page ++ after → AppendsFront between new page → AppendsFront old new all
+  page_begun {new} page after e h =
       let k = min h.count (length page) in
       let done = so_far.done in
       let front : take (length done + k) all ≡ done ++ take h.count page =
-        ap (take (length done + k)) (so_far.is ∙ ap (λ (l : List ℕ). done ++ l) e)
-        ∙ take-append-add done (page ++ after) k
-        ∙ ap (λ (l : List ℕ). done ++ l) (take-append-le k page after (omega arith) ∙ take_min h.count page)
+      ap (take (length done + k)) (so_far.is ∙ ap (λ (l : List ℕ). done ++ l) e)
+      ∙ take-append-add done (page ++ after) k
+      ∙ ap (λ (l : List ℕ). done ++ l) (take-append-le k page after (omega arith) ∙ take_min h.count page)
       in
       record {
         count = length done + k;

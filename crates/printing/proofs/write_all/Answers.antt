@@ -12,8 +12,7 @@ loop-done-preserved g c =
     let l = c.loop-done in
     let n = c.in_ok-n.n in
     let bytes = c.args.bytes.now in
-    let W = g.W.Write in
-    (
+    let W = g.W.Write in (
       omega (arith, l.invariant.0, c.in_ok-n.ensures.bound, length-drop l.done bytes, c.loop-done-test.true),
-      subst (λ (t : List ℕ). Appends (W.contents c.args.to.now) (W.contents c.write.new.self) t) (sym (next_front l.done n bytes)) (more _ _ _ _ _ l.invariant.1 c.in_ok-n.ensures.bytes)
+      subst (λ (t : List ℕ). Appends (W.contents c.args.to.now) (W.contents c.write.new.self) t) (sym (next_front l.done n bytes)) (more _ _ _ _ _ l.invariant.1 c.in_ok-n.ensures.bytes),
     )
