@@ -1,6 +1,6 @@
 -- A sheet that has ended prints nothing more.
 use mathlib.Core.Path.{◌≡◌, refl, sym}
-use mathlib.Core.Bool.{true}
+use mathlib.Core.Bool.{true, true≢false}
 use mathlib.Core.List.{List, []}
 use Prim.Native.Nat.{ℕ}
 use Rattle.sheet.specs.declared.Stage.{Stage}

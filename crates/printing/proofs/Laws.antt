@@ -7,7 +7,7 @@ use lib.ListN.{length, take, drop, length-drop}
 use lib.Seq.{take_all}
 use Rattle.std.proofs.Math.Seq.{take-add, take-append-add}
 use Rattle.std.proofs.lemmas.List.{take-append-le, take_min}
-use Rattle.std.specs.Prelude.{Option, Some, None}
+use Rattle.std.specs.Prelude.{Option, Some, None, Result, Ok, Err, OnErr}
 use Rattle.std.specs.Io.KnownBytes.{Appends, Keeps}
 use Rattle.printing.specs.Printing.{AppendsFront}
 
@@ -69,3 +69,8 @@ module _ {old between : Option (List ℕ)} {all rest : List ℕ} (so_far : Writt
 
   pub all_written : rest ≡ [] → Appends old between all
   all_written e = subst (Appends old between) (sym (so_far.is ∙ ap (λ (l : List ℕ). so_far.done ++ l) e ∙ append-nil so_far.done)) so_far.appends
+
+-- what holds holds on an error
+pub on_error : {T E : Type 0} {P : Type 0} (r : Result T E) → P → OnErr r P
+on_error (Ok x) h = tt
+on_error (Err e) h = h

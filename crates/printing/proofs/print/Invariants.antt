@@ -1,6 +1,4 @@
 -- The loop of `print`.
-use Rattle.std.proofs.Common.{List, ℕ, ◌++◌, ◌≡◌}
-use Rattle.std.specs.Io.KnownBytes.{Appends}
 use Rattle.sheet.specs.Pieces.{pieces_of, rest_of}
 use Rattle.sheet.specs.View.{progress_of}
 use Rattle.printing.proofs.Laws.{Written}

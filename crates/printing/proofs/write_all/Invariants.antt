@@ -1,5 +1,5 @@
 -- The loop of `write_all`.
-use Rattle.std.proofs.Common.{length, ◌-◌, take, ◌≡◌, ◌≤◌}
+use Rattle.std.proofs.Common.{length, ◌-◌, take, ◌≤◌}
 use Rattle.std.specs.Io.KnownBytes.{Appends}
 use Rattle.printing.proofs.write_all.Given as goal
 
