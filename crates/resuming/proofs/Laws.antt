@@ -1,19 +1,19 @@
 -- Laws of the parts of the code: a record of an index, the load, a sheet up to the load and up to its last line.
-use Prim.Native.Nat.{ℕ, ◌*◌, ◌≤◌, ◌<◌, ◌-◌}
+use Prim.Native.Nat.{ℕ, ◌≤◌, ◌<◌, ◌-◌}
 use mathlib.Core.Path.{◌≡◌, refl, sym, ap, subst, ◌∙◌}
-use mathlib.Core.Bool.{Bool, true, false, not, true≢false}
-use mathlib.Core.List.{List, [], ◌∷◌, ◌++◌, append-nil, append_assoc}
+use mathlib.Core.Bool.{Bool, true, false, true≢false}
+use mathlib.Core.List.{List, [], ◌∷◌, ◌++◌, append_assoc}
 use native.Mathlib.Omega.{arith}
-use lib.ListN.{length, take, drop}
-use lib.Dec.{eqb, leb, ltb}
+use lib.ListN.{length, drop}
+use lib.Dec.{eqb, ltb}
 use borrow.Author.Tests.{ltb-true, ltb-false, lt-ltb, le-ltb}
 use Rattle.ids.specs.Answers.{Answered, accepted, refused, bad_chain, bad_sheet, wrong_length}
 use Rattle.ids.proofs.Tests.{chosen, unchosen}
 use Rattle.semantics.specs.Structure as model
 use Rattle.semantics.specs.Conflicts.{Conflict}
-use Rattle.semantics.specs.Calls.{Answer, number, says, done, closed, conflicting, summed, found, typed, els, refuse, Machine, Step}
-use Rattle.semantics.specs.Sheet.{max_records, record_bytes, max_sheet, Record, record_of, record_at, call_of, carry_out, Ran, prints, stops, chain_broken, bad_length, conflict_line}
-use Rattle.records.specs.View.{record_in, blank}
+use Rattle.semantics.specs.Calls.{Answer, number, says, done, closed, conflicting, summed, found, typed, els, refuse, Machine}
+use Rattle.semantics.specs.Sheet.{max_records, max_sheet, Record, record_of, record_at, call_of, carry_out, Ran, prints, stops, chain_broken, bad_length, conflict_line}
+use Rattle.records.specs.View.{record_in}
 use Rattle.records.proofs.Laws.{record_in_lem}
 use Rattle.structure.specs.View.{structure_of}
 use Rattle.file.specs.File.{load}
@@ -23,8 +23,8 @@ use Rattle.loading.specs.declared.Loaded.{Loaded}
 use Rattle.loading.specs.View.{LoadingM, loading, answer_of, loading_of}
 use Rattle.sheet.specs.declared.Stage.{Stage}
 use Rattle.sheet.specs.declared.Stage.TheVariants as stages
-use Rattle.sheet.specs.Pieces.{is_ended, ProgressM, PieceM, standing, piece, start_of, refusal_piece, follow_of, answer_piece, step_piece, done_before, visit_piece, list_piece, listing_all, one_printed}
-use Rattle.sheet.specs.Pieces.{piece_at, next_piece, rest_at, rest_of, pieces_of}
+use Rattle.sheet.specs.Pieces.{is_ended, ProgressM, PieceM, standing, piece, start_of, refusal_piece, follow_of, answer_piece, done_before, visit_piece, list_piece, listing_all, one_printed}
+use Rattle.sheet.specs.Pieces.{piece_at, next_piece, rest_of, pieces_of}
 use Rattle.sheet.proofs.Laws.{nothing_past}
 use Rattle.sheet.proofs.Pieces.{rest_next, pieces_next, some_to_come}
 use Rattle.resuming.specs.Resuming.{load_file, is_due_at, is_due, loaded_piece, restored_piece, holding, waiting_of, Refuses, Declared, Resumed, is_last, Finished}

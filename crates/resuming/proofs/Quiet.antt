@@ -1,12 +1,11 @@
 -- A record that declares prints nothing, unless it is refused.
 use Prim.Native.Nat.{ℕ, ◌≤◌, ◌<◌}
-use mathlib.Core.Path.{◌≡◌, refl, sym, ap, subst}
-use mathlib.Core.Bool.{Bool, true, false, true≢false}
-use mathlib.Core.Option.{Option, none, some}
+use mathlib.Core.Path.{◌≡◌, refl, sym, subst}
+use mathlib.Core.Bool.{Bool, true, false}
+use mathlib.Core.Option.{none, some}
 use native.Mathlib.Omega.{arith}
 use lib.Dec.{eqb, leb, ltb}
 use borrow.Author.Tests.{eqb-true, eqb-false, ltb-true, leb-true}
-use Rattle.semantics.specs.Calls as calls
 use Rattle.semantics.specs.Calls.{Call, Answer, number, says, done, closed, conflicting, summed, found, typed, els, refuse, Machine, Step, rule, acceptance, step}
 use Rattle.semantics.specs.Sheet.{Record, Form, forms, form_of, fits, call_in, call_of, carry_out, type_form, pred_form, func_form, model_form, mor_app_form}
 use Rattle.semantics.proofs.Judged.{step_by_lem}

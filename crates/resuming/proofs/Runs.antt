@@ -8,7 +8,7 @@ use lib.ListN.{length}
 use Rattle.semantics.specs.Sheet.{Ran, prints, stops, run_sheet, end_line}
 use Rattle.sheet.specs.declared.Stage.{Stage}
 use Rattle.sheet.specs.declared.Stage.TheVariants as stages
-use Rattle.sheet.specs.Pieces.{is_ended, ProgressM, PieceM, piece, start_of, pieces, rest_at, rest_of, Holds}
+use Rattle.sheet.specs.Pieces.{is_ended, PieceM, piece, start_of, pieces, rest_at, rest_of, Holds}
 use Rattle.sheet.proofs.Pieces.{pieces_rest, start_rest}
 use Rattle.resuming.specs.Resuming.{resume_sheet, Refuses, Resumed, is_last, Finished, Ended, Stopped}
 use Rattle.resuming.proofs.Waiting.{start_waits}

@@ -1,8 +1,8 @@
 -- What a sheet prints where its file is still to be loaded, piece by piece: theorems about the definitions, which the contracts of `resuming` carry over to
 -- the code.
-use Prim.Native.Nat.{ℕ, zero, suc, ◌+◌, ◌-◌, ◌/◌, ◌≤◌, ◌<◌}
+use Prim.Native.Nat.{ℕ, zero, suc, ◌+◌, ◌-◌, ◌/◌, ◌<◌}
 use mathlib.Core.Path.{◌≡◌, refl, sym, ap, ◌∙◌}
-use mathlib.Core.Bool.{Bool, true, false, not, true≢false}
+use mathlib.Core.Bool.{Bool, true, false, true≢false}
 use mathlib.Core.List.{List, [], append-nil}
 use native.Mathlib.Omega.{arith}
 use lib.ListN.{length, take}
@@ -19,9 +19,9 @@ use Rattle.semantics.specs.Sheet.{run_records, bad_length, refused_line, end_lin
 use Rattle.records.proofs.Laws.{sheet_record}
 use Rattle.sheet.specs.declared.Stage.{Stage}
 use Rattle.sheet.specs.declared.Stage.TheVariants as stages
-use Rattle.sheet.specs.Pieces.{is_ended, ProgressM, PieceM, standing, piece, start_of, refusal_piece, follow_of, answer_piece, step_piece, done_before, visit_piece}
+use Rattle.sheet.specs.Pieces.{is_ended, ProgressM, PieceM, standing, piece, start_of, refusal_piece, follow_of, answer_piece, done_before, visit_piece}
 use Rattle.sheet.specs.Pieces.{piece_at, next_piece, visiting, rest_at, rest_of, Holds}
-use Rattle.sheet.proofs.Pieces.{next_in, choice_same, visit_same, run_from, after, good_length, records_same}
+use Rattle.sheet.proofs.Pieces.{next_in, visit_same, run_from, good_length, records_same}
 use Rattle.resuming.specs.Resuming.{declares, load_file, onward, loading, loading_end, visit_waiting, resume_records, resume_sheet, is_due_at, is_due, holding}
 use Rattle.resuming.specs.Resuming.{loaded_piece, restored_piece, waiting_at, waiting_of}
 use Rattle.resuming.proofs.Quiet.{Quiet, declaring_quiet}
