@@ -41,7 +41,7 @@ use Rattle.signature.proofs.Signature.new.Reads as new-signature-fn
 use Rattle.structure.proofs.Structure.new.Reads as new-structure-fn
 use Rattle.storing.proofs.store.Reads as store-fn
 use Rattle.loading.proofs.load.Reads as load_fn
-use Rattle.conserved.specs.Acts.{Lent}
+use Rattle.conserved.specs.Acts.{Lent, LentMut}
 
 pub new_signature_asked : new-signature-fn.Asked tt tt
 new_signature_asked = tt
@@ -71,7 +71,7 @@ module _ (s : Structure) where
   pub root_const_asked : (e : ElId) → root-const-fn.Asked tt (s, (e, tt))
   root_const_asked e = tt
 
-  pub store_asked : (κs : Lfts 1) (buffer : Lent) → store-fn.Asked κs (s, (buffer, tt))
+  pub store_asked : (κs : Lfts 1) (buffer : LentMut) → store-fn.Asked κs (s, (buffer, tt))
   store_asked κs buffer = tt
 
 module _ (g : Signature) where

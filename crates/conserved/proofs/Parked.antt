@@ -39,7 +39,7 @@ use Rattle.parking.proofs.Continuing.{acted_next}
 use Rattle.parking.proofs.Conservation.{parked_conservation, settled_is_noted, settled_closes_noted}
 use Rattle.parking.proofs.Validity.{acted_valid}
 use Rattle.conserved.specs.Run.{Made, Fresh}
-use Rattle.conserved.specs.Acts.{Lent, Stores, Loads, with_loaded, Did, nothing, call, park, restore, load_other, restart}
+use Rattle.conserved.specs.Acts.{Lent, LentMut, Stores, Loads, with_loaded, Did, nothing, call, park, restore, load_other, restart}
 use Rattle.conserved.specs.Acts.{noted_load, noted_at, noted_of}
 use Rattle.conserved.proofs.Composed.{made_step}
 use Rattle.conserved.proofs.Settled.{SaysSettled}
@@ -131,7 +131,7 @@ after_restore {v} {files} {s} before later κs bytes r is did at =
     subst (λ (o : Option Parked). Comes left files (noted_load r.answer (noted_at (sig_of v.signature) o) s.notes) s.files (restored o s)) (sym f.1) under
 
 -- a store
-after_store : {v : Machine} {files : List (List ℕ)} {s : State} (κs : Lfts 1) (buffer : Lent) (n : ℕ) (after : Lent) → Stores v κs buffer n after
+after_store : {v : Machine} {files : List (List ℕ)} {s : State} (κs : Lfts 1) (buffer : LentMut) (n : ℕ) (after : LentMut) → Stores v κs buffer n after
     → Stands v files s
     → Comes v (files ++ (take n after.now ∷ [])) s.notes (s.files ++ (parked (take n after.now) (sig_of v.signature) s.notes ∷ []))
     (act parking.park s)

@@ -2,7 +2,7 @@
 use Rattle.std.specs.Prelude.{ℕ, ◌≡◌, List, [], ◌∷◌, ◌++◌, length, take}
 use Rattle.std.proofs.Math.Option.{Option, none, some, map}
 use contract.Lifetimes.{Lfts}
-use Rattle.std.specs.Borrow.{Bor}
+use Rattle.std.specs.Borrow.{Bor, MutBor}
 use Rattle.signature.specs.Model.{Sig, sig_of}
 use Rattle.semantics.specs.Calls.{Call, Answer}
 use Rattle.structure.specs.declared.Structure.{Structure}
@@ -21,8 +21,12 @@ use Rattle.conserved.specs.Run.{with_structure, Made, Fresh}
 abbrev pub Lent : Type 0
 Lent = Bor (List ℕ)
 
+-- one that is lent to be written to
+abbrev pub LentMut : Type 0
+LentMut = MutBor (List ℕ)
+
 -- `store` wrote n bytes into a buffer, and left it so
-abbrev pub Stores : Machine → Lfts 1 → Lent → ℕ → Lent → Type 0
+abbrev pub Stores : Machine → Lfts 1 → LentMut → ℕ → LentMut → Type 0
 Stores v κs buffer n after = store-fn.Learnt κs (v.structure, (buffer, tt)) (stored.Bytes n) (v.structure, (after, tt))
 
 -- `load` of these bytes gave r
@@ -41,7 +45,7 @@ pub data Did : Machine → List (List ℕ) → List Act → Machine → List (Li
   call : {v w z : Machine} {files kept : List (List ℕ)} {k : Call} {a : Answer} {l : List Act} → Made v k a w → Did w files l z kept
       → Did v files (parking.call k ∷ l) z kept
   -- the file is what stands in the buffer, as far as `store` says that it wrote
-  park : {v z : Machine} {files kept : List (List ℕ)} {l : List Act} (κs : Lfts 1) (buffer : Lent) (n : ℕ) (after : Lent) → Stores v κs buffer n after
+  park : {v z : Machine} {files kept : List (List ℕ)} {l : List Act} (κs : Lfts 1) (buffer : LentMut) (n : ℕ) (after : LentMut) → Stores v κs buffer n after
       → Did v (files ++ (take n after.now ∷ [])) l z kept → Did v files (parking.park ∷ l) z kept
   -- the bytes that are lent are those of a file kept
   restore : {v z : Machine} {files kept : List (List ℕ)} {l : List Act} (before later : List (List ℕ)) (κs : Lfts 1) (bytes : Lent) (r : Loading)

@@ -3,7 +3,7 @@
 use Rattle.std.specs.Prelude.{ℕ, zero, suc, ◌+◌, ◌*◌, ◌/◌, min, Bool, true, false, List, [], ◌∷◌, length, take, get_or, eqb}
 use Rattle.ids.specs.Answers.{Answered, accepted, refused, Outcome}
 use Rattle.semantics.specs.Structure.{Structure}
-use Rattle.semantics.specs.Calls.{Answer, number, says, done, closed, conflicting, summed, found, typed, els, refuse, Machine, machine, Step, start}
+use Rattle.semantics.specs.Calls.{Answer, number, says, done, closed, conflicting, summed, found, typed, els, refuse, Step, start}
 use Rattle.semantics.specs.Sheet.{record_bytes, Record, call_of, carry_out, bit}
 use Rattle.sheet.specs.declared.Stage.{Stage}
 use Rattle.sheet.specs.declared.Stage.TheVariants as stages
