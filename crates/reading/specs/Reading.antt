@@ -1,5 +1,6 @@
 -- What the reads of an input come to.
-use Rattle.std.specs.Prelude.{ℕ, ◌+◌, ◌≡◌, min, Bool, true, false, eqb, ltb, ℤ, pos, negsuc, Result, Ok, Err}
+use Rattle.std.specs.Prelude.{ℕ, ◌+◌, ◌-◌, ◌<◌, ◌≤◌, ◌≡◌, min, List, [], length, take, drop, Option, IfSome, Bool, true, false, eqb, ltb, ℤ, pos, negsuc, Result, Ok, Err}
+use Rattle.std.specs.Io.KnownBytes.{Keeps, Consumes, IsAtEnd}
 use Rattle.reading.specs.declared.Reading.{Reading}
 use Rattle.reading.specs.declared.Reading.TheVariants as readings
 use Rattle.reading.specs.declared.Input.{Input}
@@ -50,3 +51,25 @@ unfoldable pub reading_of : Input → Reading
 reading_of (inputs.Bytes n) = readings.Whole n
 reading_of inputs.Longer = readings.Longer
 reading_of (inputs.Failed e) = readings.Failed
+
+-- What the reads of an input give, where it is known what the input has: `old` is what it had left before, `new` what it has after.
+
+-- a read into a part, where so many bytes were there before it, and there is room for `room`
+abbrev pub Took : Option (List ℕ) → Option (List ℕ) → List ℕ → ℕ → ℕ → Reading → Type 0
+Took old new part room at (readings.On m) = Consumes old new (take (m - at) part)
+Took old new part room at (readings.Whole m) = (m ≡ at) × Consumes old new [] × (0 < length part → IsAtEnd new)
+Took old new part room at readings.Longer = (n : ℕ) × (0 < n) × (n ≤ length part) × (room < at + n) × Consumes old new (take n part)
+Took old new part room at readings.Failed = Keeps old new
+
+-- a read into the bytes from the index `at` on
+abbrev pub TookOn : Option (List ℕ) → Option (List ℕ) → List ℕ → ℕ → Reading → Type 0
+TookOn old new bytes at (readings.On m) = Consumes old new (take (m - at) (drop at bytes))
+TookOn old new bytes at (readings.Whole m) = (m ≡ at) × Consumes old new [] × IsAtEnd new
+TookOn old new bytes at readings.Longer = (length bytes ≤ at) × (more : List ℕ) × (0 < length more) × Consumes old new more
+TookOn old new bytes at readings.Failed = Keeps old new
+
+-- all reads: the bytes are what the input had; it had more than there is room for; or what it gave up to the failure is at their front
+abbrev pub IsInput : Option (List ℕ) → Option (List ℕ) → List ℕ → Input → Type 0
+IsInput old new bytes (inputs.Bytes n) = (n ≤ length bytes) × Consumes old new (take n bytes) × IsAtEnd new
+IsInput old new bytes inputs.Longer = IfSome old (λ xs. (take (length bytes) xs ≡ bytes) × (length bytes < length xs))
+IsInput old new bytes (inputs.Failed e) = (n : ℕ) × Consumes old new (take n bytes)

@@ -6,7 +6,7 @@ mod failing;
 ghost use Rattle.std.specs.Prelude.{◌≡◌, length, take, IsErr};
 ghost use Rattle.std.specs.Io.{ReadsAtMost};
 ghost use Rattle.reading.specs.declared.Reading.TheVariants as readings;
-ghost use Rattle.reading.specs.Reading.{answer_of, clamp_len, is_negative, after_read, Gave, Reads, reading_of};
+ghost use Rattle.reading.specs.Reading.{answer_of, clamp_len, is_negative, after_read, Gave, Reads, reading_of, Took, TookOn, IsInput};
 
 pub use failing::fail;
 use std::env::{Env, FillError};
@@ -85,6 +85,7 @@ fn read_into<R: Read>(
     at: usize,
 ) -> (Reading, io::Result<usize>)
     ensures gave { Gave room at result.0 }
+    ensures took { Took (R.remaining input.old) (R.remaining input.new) part.new room at result.0 }
     ensures failed { result.0 ≡ readings.Failed → IsErr result.1 }
 {
     let got = input.read(part);
@@ -95,6 +96,7 @@ fn read_into<R: Read>(
 // One read, into the bytes from an index on, those before it as they were; past the last, of one byte more.
 fn read_on<R: Read>(input: &mut R, bytes: &mut [u8], at: usize) -> (Reading, io::Result<usize>)
     ensures gave { Gave (length bytes.old) at result.0 }
+    ensures took { TookOn (R.remaining input.old) (R.remaining input.new) bytes.new at result.0 }
     ensures failed { result.0 ≡ readings.Failed → IsErr result.1 }
     ensures bytes_unchanged { take at bytes.new ≡ take at bytes.old }
 {
@@ -108,7 +110,8 @@ fn read_on<R: Read>(input: &mut R, bytes: &mut [u8], at: usize) -> (Reading, io:
 
 // Reads an input to its end, into the front of the bytes.
 pub fn read_all<R: Read>(input: &mut R, bytes: &mut [u8]) -> Input
-    ensures { Reads (length bytes.old) 0 (reading_of result) }
+    ensures reads { Reads (length bytes.old) 0 (reading_of result) }
+    ensures input { IsInput (R.remaining input.old) (R.remaining input.new) bytes.new result }
 {
     let mut at: usize = 0;
     loop {
