@@ -1,4 +1,4 @@
-//! Links the archive that `rt staticlib bench_close` writes.
+//! Links the archive that `rt lib`, in crates/bench_close, writes.
 
 use std::env;
 

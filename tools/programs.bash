@@ -131,7 +131,7 @@ prove() { # PROGRAM..
     : >"$log"
     # With its own process group it can be ended whole.
     set -m
-    (cd "$root" && exec rt check "$@") >>"$log" 2>&1 </dev/null &
+    make_programs "$@" >>"$log" 2>&1 </dev/null &
     job=$!
     set +m
     exec {out}<"$log"
@@ -155,19 +155,27 @@ prove() { # PROGRAM..
     marks=()
     echo "$self: proved and built $all ($(spent))" >&2
 }
+# `rt run` proves a program and what it is built on, builds it and runs it, here on no input: that it came to run it says that it
+# is proved and built.
+make_programs() { # PROGRAM..
+    local name log=$made/rt.log
+    mkdir -p "$root/target/bin"
+    for name; do
+        (cd "$root/crates/$name" && rt run) 2>&1 | tee "$log" || true
+        grep -q "^rt: running out/$name" "$log" || return 1
+        cp -f "$root/crates/$name/out/$name" "$root/target/bin/$name"
+    done
+}
 # Looks which crates rt has come to, and says so: on a terminal on one line, with the time, else on a line for each crate. rt
-# prints what it says of a crate when that is proved, several crates at once, and begins its file in target/log before.
+# prints a line of a crate when that is proved or was found proved.
 follow() {
-    local name part
+    local part
     while IFS= read -r part <&"$out"; do
         line+=$part
-        [[ ! $line =~ ^rt:\ ([[:alnum:]_]+)\ (proved|NOT) ]] || reach "${BASH_REMATCH[1]}"
+        [[ ! $line =~ ^(crate|library)\ ([[:alnum:]_]+): ]] || reach "${BASH_REMATCH[2]}"
         line=''
     done
     line+=$part
-    for name in "${crates[@]}"; do
-        [[ ! $root/target/log/$name.out -nt ${marks[0]} ]] || reach "$name"
-    done
     if [[ -t 2 ]] && ((${#crates[@]})); then
         show_line "$self: proving crate $((at ? at : 1)) of ${#crates[@]}${latest:+, $latest} ($(spent) so far)"
     fi

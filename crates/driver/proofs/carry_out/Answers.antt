@@ -7,6 +7,7 @@ use Rattle.structure.specs.View.{machine_of}
 use Rattle.driver.specs.Calls.{call_at}
 use Rattle.driver.specs.View.{responded}
 use Rattle.driver.proofs.Laws.{of_kind, as_sheet}
+use native.Mathlib.Omega.{arith}
 use Rattle.driver.proofs.carry_out.Goals as goal
 
 pub returns-in-101 : goal.returns-in-101
@@ -40,6 +41,5 @@ returns-in-104 c =
 pub returns-in_default : goal.returns-in_default
 returns-in_default c =
     let a = c.args in
-    let not = c.in_default.in_default-own.rest in
     c.carry_out_as_sheet.ensures
-    ∙ ap responded (as_sheet (record_view a.given) (machine_of a.machine) a.given.kind not.0.0.0.1 not.0.0.1 not.0.1 not.1)
+    ∙ ap responded (as_sheet (record_view a.given) (machine_of a.machine) a.given.kind (λ e. omega arith) (λ e. omega arith) (λ e. omega arith) (λ e. omega arith))
