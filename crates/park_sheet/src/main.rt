@@ -3,95 +3,108 @@
 #![tactic(auto)]
 
 use file_rows::File;
-use libc::{STDERR_FILENO, STDIN_FILENO, STDOUT_FILENO};
 use lines::Line;
 use reading::Input;
 use records::Record;
 use sheet::Piece;
+use std::env::{Env, FillError};
 use storing::Stored;
 use structure::Structure;
 
 // A refusal, to standard error.
-fn say(line: Line) {
-    printing::write_line(STDERR_FILENO, line);
+fn say(rt: &HostRuntime, line: Line) {
+    let _ = printing::write_line(&mut rt.stderr(), line);
 }
 
-fn write_file(structure: Structure) {
+fn write_file(rt: &HostRuntime, structure: Structure) {
     let mut file = [0u8; File::MAX_BYTES];
     let stored = storing::store(structure, &mut file);
     match stored {
         Stored::Bytes(n) => {
-            if !printing::write_front(STDOUT_FILENO, &file, n) {
-                os::fail(b"standard output");
+            if let Err(error) = printing::write_front(&mut rt.stdout(), &file, n) {
+                reading::fail(&mut rt.stderr(), b"standard output", &error);
             }
         }
         Stored::Refused(number) => {
-            say(lines::refused_line(number, 0));
+            say(rt, lines::refused_line(number, 0));
         }
     }
 }
 
 // What a sheet comes to from where it stands.
-fn park(given: Piece, bytes: &[u8; Record::MAX_BYTES]) {
+fn park(rt: &HostRuntime, given: Piece, bytes: &[u8; Record::MAX_BYTES]) {
     let last = resuming::finish(given, bytes);
     let line = last.line;
     let progress = last.progress;
     let stage = progress.stage;
     if stage.is_ended() {
-        say(line);
+        say(rt, line);
         return;
     }
     let machine = progress.machine;
     let structure = machine.structure;
-    write_file(structure);
+    write_file(rt, structure);
 }
 
 // A sheet of so many bytes, from the empty structure.
-fn run(bytes: &[u8; Record::MAX_BYTES], length: usize) {
+fn run(rt: &HostRuntime, bytes: &[u8; Record::MAX_BYTES], length: usize) {
     let line = Line::new();
     let progress = sheet::start(length);
     let given = Piece { line, progress };
-    park(given, bytes);
+    park(rt, given, bytes);
 }
 
 // The same, from the file in the first of some bytes.
-fn run_on(bytes: &[u8; Record::MAX_BYTES], length: usize, file: &[u8], size: usize) {
+fn run_on(
+    rt: &HostRuntime,
+    bytes: &[u8; Record::MAX_BYTES],
+    length: usize,
+    file: &[u8],
+    size: usize,
+) {
     let given = resuming::resume(length, bytes, file, size);
-    park(given, bytes);
+    park(rt, given, bytes);
+}
+
+// Whether the program was started with an argument.
+fn has_argument(rt: &HostRuntime) -> bool {
+    let mut none = [0u8; 0];
+    let got = rt.arg(1, &mut none);
+    !matches!(got, Err(FillError::NotPresent))
 }
 
 // The same, from the file that the argument names, where there is one.
-fn run_from(bytes: &[u8; Record::MAX_BYTES], length: usize) {
-    if os::arg_count() < 2 {
-        run(bytes, length);
+fn run_from(rt: &HostRuntime, bytes: &[u8; Record::MAX_BYTES], length: usize) {
+    if !has_argument(rt) {
+        run(rt, bytes, length);
         return;
     }
     // One byte more than the longest file has, which tells of a longer one.
     let mut file = [0u8; File::MAX_BYTES + 1];
-    let input = reading::read_argument(1, &mut file);
+    let input = reading::read_argument(rt, &mut rt.stderr(), 1, &mut file);
     match input {
         Input::Bytes(size) => {
-            run_on(bytes, length, &file, size);
+            run_on(rt, bytes, length, &file, size);
         }
         Input::Longer => {
-            run_on(bytes, length, &file, File::MAX_BYTES + 1);
+            run_on(rt, bytes, length, &file, File::MAX_BYTES + 1);
         }
-        Input::Failed => {}
+        Input::Failed(_) => {}
     }
 }
 
-fn main() {
+fn main(rt: HostRuntime) {
     let mut bytes = [0u8; Record::MAX_BYTES];
-    let input = reading::read_all(STDIN_FILENO, &mut bytes);
+    let input = reading::read_all(&mut rt.stdin(), &mut bytes);
     match input {
         Input::Bytes(length) => {
-            run_from(&bytes, length);
+            run_from(&rt, &bytes, length);
         }
         Input::Longer => {
-            run_from(&bytes, Record::MAX_BYTES + 1);
+            run_from(&rt, &bytes, Record::MAX_BYTES + 1);
         }
-        Input::Failed => {
-            os::fail(b"standard input");
+        Input::Failed(error) => {
+            reading::fail(&mut rt.stderr(), b"standard input", &error);
         }
     }
 }

@@ -12,13 +12,30 @@ use lib.Signed.{lt_z}
 use borrow.Author.Tests.{eq-eqb, ne_eqb, eqb-true, eqb-false, lt-ltb, le-ltb, ltb-true, ltb-false}
 use Rattle.reading.specs.declared.Reading.{Reading}
 use Rattle.reading.specs.declared.Reading.TheVariants as readings
-use Rattle.reading.specs.Reading.{is_negative, counted, given, after_read, Gave}
+use Rattle.std.specs.Prelude.{Result, Ok, Err, is_err, IsErr}
+use Rattle.reading.specs.Reading.{answer_of, is_negative, counted, given, after_read, Gave}
 
 -- a number below zero, by the code's test
 pub below_zero : (z : ℤ) → lt_z z (pos 0) ≡ is_negative z
 unfolding is_negative
 below_zero (pos k) = le-ltb k 0 (omega arith)
 below_zero (negsuc k) = refl
+
+-- the C library's answer is below zero where std's is an error
+pub error_below_zero : {E : Type 0} (r : Result ℕ E) → is_err r ≡ is_negative (answer_of r)
+unfolding is_negative
+error_below_zero (Ok n) = refl
+error_below_zero (Err e) = refl
+
+told : Bool → ℕ
+told true = 1
+told false = 0
+
+pub below_zero_error : {E : Type 0} (r : Result ℕ E) → is_negative (answer_of r) ≡ true → IsErr r
+unfolding is_negative told
+below_zero_error (Ok n) h =
+    let none : 0 ≡ 1 = ap told h in absurd (omega (arith, none))
+below_zero_error (Err e) h = refl
 
 -- what a read comes to, by the code's tests
 module _ (room at : ℕ) (failed : Bool) (n : ℕ) where
@@ -71,3 +88,21 @@ grows room at m g = go g.failed (eqb g.n 0) (ltb room (at + g.n)) refl refl refl
       let most : at + g.n ≤ room = ltb-false room (at + g.n) k in
       let is : suc m ≡ suc (at + g.n) = ap there (g.is ∙ sym (after_more room at g.failed g.n e some most)) in
       (omega (arith, is, some), omega (arith, is, most))
+
+-- no read comes to a failure but one that failed
+pub only_failed : (room at : ℕ) (failed : Bool) (n : ℕ) → readings.Failed ≡ after_read room at failed n → failed ≡ true
+only_failed room at true n h = refl
+only_failed room at false n h = go (eqb n 0) (ltb room (at + n)) refl refl where
+  failing : Reading → ℕ
+  failing (readings.On k) = 0
+  failing (readings.Whole k) = 0
+  failing readings.Longer = 0
+  failing readings.Failed = 1
+
+  go : (a b : Bool) → eqb n 0 ≡ a → ltb room (at + n) ≡ b → false ≡ true
+  go true b e k =
+      let none : 1 ≡ 0 = ap failing (h ∙ sym (after_end room at false n refl (eqb-true _ 0 e))) in absurd (omega (arith, none))
+  go false true e k =
+      let none : 1 ≡ 0 = ap failing (h ∙ sym (after_over room at false n refl (eqb-false _ 0 e) (ltb-true _ _ k))) in absurd (omega (arith, none))
+  go false false e k =
+      let none : 1 ≡ 0 = ap failing (h ∙ sym (after_more room at false n refl (eqb-false _ 0 e) (ltb-false _ _ k))) in absurd (omega (arith, none))

@@ -1,5 +1,5 @@
 -- What the reads of an input come to.
-use Rattle.std.specs.Prelude.{ℕ, ◌+◌, ◌≡◌, Bool, true, false, eqb, ltb, ℤ, pos, negsuc}
+use Rattle.std.specs.Prelude.{ℕ, ◌+◌, ◌≡◌, min, Bool, true, false, eqb, ltb, ℤ, pos, negsuc, Result, Ok, Err}
 use Rattle.reading.specs.declared.Reading.{Reading}
 use Rattle.reading.specs.declared.Reading.TheVariants as readings
 use Rattle.reading.specs.declared.Input.{Input}
@@ -20,6 +20,16 @@ unfoldable pub after_read : ℕ → ℕ → Bool → ℕ → Reading
 after_read room at true n = readings.Failed
 after_read room at false n = given (eqb n 0) room at n
 
+-- the number with which the C library answers a read that std tells so: how many bytes it gave, or -1 where it failed
+abbrev pub answer_of : {E : Type 0} → Result ℕ E → ℤ
+answer_of (Ok n) = pos n
+answer_of (Err e) = negsuc 0
+
+-- such an answer, brought into `0..=most`
+abbrev pub clamp_len : ℤ → ℕ → ℕ
+clamp_len (pos k) most = min k most
+clamp_len (negsuc k) most = 0
+
 -- the C library answers a read that failed with a number below zero
 unfoldable pub is_negative : ℤ → Bool
 is_negative (pos k) = false
@@ -39,4 +49,4 @@ pub data Reads (room : ℕ) : ℕ → Reading → Type 0 where
 unfoldable pub reading_of : Input → Reading
 reading_of (inputs.Bytes n) = readings.Whole n
 reading_of inputs.Longer = readings.Longer
-reading_of inputs.Failed = readings.Failed
+reading_of (inputs.Failed e) = readings.Failed

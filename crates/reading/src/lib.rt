@@ -1,9 +1,18 @@
 // Reads all that an input has into an array, and tells where it has more, or where a read failed.
 #![tactic(auto)]
 
-ghost use Rattle.std.specs.Prelude.{◌≡◌, length, take};
-ghost use Rattle.io.specs.Counts.{clamp_len};
-ghost use Rattle.reading.specs.Reading.{is_negative, after_read, Gave, Reads, reading_of};
+mod failing;
+
+ghost use Rattle.std.specs.Prelude.{◌≡◌, length, take, IsErr};
+ghost use Rattle.std.specs.Io.{ReadsAtMost};
+ghost use Rattle.reading.specs.declared.Reading.TheVariants as readings;
+ghost use Rattle.reading.specs.Reading.{answer_of, clamp_len, is_negative, after_read, Gave, Reads, reading_of};
+
+pub use failing::fail;
+use std::env::{Env, FillError};
+use std::fs::Files;
+use std::io::{ErrorKind, Read, Write};
+use std::{fs, io};
 
 // What a read came to: so many bytes are there, and there may be more; the input has ended with so many; it has more than
 // there is room for; or the read failed.
@@ -15,12 +24,12 @@ pub enum Reading {
     Failed,
 }
 
-// What was read: so many bytes; more than there is room for; or a read failed.
+// What was read: so many bytes; more than there is room for; or a read failed, by this error.
 #[derive(Clone, Copy)]
 pub enum Input {
     Bytes(usize),
     Longer,
-    Failed,
+    Failed(io::Error),
 }
 
 // After a read that failed or gave n bytes, where so many were there before it and there is room for `room`.
@@ -42,50 +51,68 @@ fn after_read(room: usize, at: usize, failed: bool, n: usize) -> Reading
     Reading::On(at + n)
 }
 
-// Whether the C library's answer tells of a failure.
-fn is_failure(got: isize) -> bool
-    ensures { result ≡ is_negative got }
+// Whether the answer to a read tells of a failure.
+fn is_failure(got: &io::Result<usize>) -> bool
+    ensures { result ≡ is_negative (answer_of got.now) }
 {
-    got < 0
+    got.is_err()
 }
 
-// What a read into a part of the bytes came to, by what the C library answered.
-fn came_to(room: usize, at: usize, got: isize, part: &[u8]) -> Reading
-    ensures { result ≡ after_read room at (is_negative got) (clamp_len got (length part.now)) }
+// How many bytes of a part a read gave, by its answer.
+fn count(got: &io::Result<usize>, part: &[u8]) -> usize
+    ensures { result ≡ clamp_len (answer_of got.now) (length part.now) }
+{
+    match got {
+        Ok(n) => (*n).min(part.len()),
+        Err(_) => 0,
+    }
+}
+
+// What a read into a part of the bytes came to, by its answer.
+fn came_to(room: usize, at: usize, got: &io::Result<usize>, part: &[u8]) -> Reading
+    ensures { result ≡ after_read room at (is_negative (answer_of got.now)) (clamp_len (answer_of got.now) (length part.now)) }
 {
     let failed = is_failure(got);
-    let n = io::count(got, part);
+    let n = count(got, part);
     after_read(room, at, failed, n)
 }
 
-// One read, into a part of the bytes.
-fn read_into(fd: i32, part: &mut [u8], room: usize, at: usize) -> Reading
-    ensures { Gave room at result }
+// One read, into a part of the bytes: what it came to, and its answer.
+fn read_into<R: Read>(
+    input: &mut R,
+    part: &mut [u8],
+    room: usize,
+    at: usize,
+) -> (Reading, io::Result<usize>)
+    ensures gave { Gave room at result.0 }
+    ensures failed { result.0 ≡ readings.Failed → IsErr result.1 }
 {
-    let got = libc::read(fd, part);
-    came_to(room, at, got, part)
+    let got = input.read(part);
+    let reading = came_to(room, at, &got, part);
+    (reading, got)
 }
 
 // One read, into the bytes from an index on, those before it as they were; past the last, of one byte more.
-fn read_on(fd: i32, bytes: &mut [u8], at: usize) -> Reading
-    ensures gave { Gave (length bytes.old) at result }
+fn read_on<R: Read>(input: &mut R, bytes: &mut [u8], at: usize) -> (Reading, io::Result<usize>)
+    ensures gave { Gave (length bytes.old) at result.0 }
+    ensures failed { result.0 ≡ readings.Failed → IsErr result.1 }
     ensures bytes_unchanged { take at bytes.new ≡ take at bytes.old }
 {
     let room = bytes.len();
     if room <= at {
         let mut more = [0u8; 1];
-        return read_into(fd, &mut more, room, at);
+        return read_into(input, &mut more, room, at);
     }
-    read_into(fd, &mut bytes[at..], room, at)
+    read_into(input, &mut bytes[at..], room, at)
 }
 
-// Reads an open file to its end, into the front of the bytes.
-pub fn read_all(fd: i32, bytes: &mut [u8]) -> Input
+// Reads an input to its end, into the front of the bytes.
+pub fn read_all<R: Read>(input: &mut R, bytes: &mut [u8]) -> Input
     ensures { Reads (length bytes.old) 0 (reading_of result) }
 {
     let mut at: usize = 0;
     loop {
-        let reading = read_on(fd, bytes, at);
+        let (reading, got) = read_on(input, bytes, at);
         match reading {
             Reading::On(n) => {
                 at = n;
@@ -97,33 +124,72 @@ pub fn read_all(fd: i32, bytes: &mut [u8]) -> Input
                 return Input::Longer;
             }
             Reading::Failed => {
-                return Input::Failed;
+                return Input::Failed(got.unwrap_err());
             }
         }
     }
 }
 
-fn read_path(path: &[u8], bytes: &mut [u8]) -> Input {
-    let fd = os::open_read(path);
-    if fd < 0 {
-        os::fail(path);
-        return Input::Failed;
+// Opens the file of a path. Only a path that is text has one.
+fn open<F: Files>(files: &F, path: &[u8]) -> io::Result<F::File> {
+    match str::from_utf8(path) {
+        Ok(text) => fs::open(files, text),
+        Err(_) => Err(io::Error::from(ErrorKind::InvalidFilename)),
     }
-    let input = read_all(fd, bytes);
-    if let Input::Failed = input {
-        os::fail(path);
+}
+
+fn read_path<F: Files, W: Write>(
+    files: &F,
+    errors: &mut W,
+    path: &[u8],
+    bytes: &mut [u8],
+) -> Input {
+    let mut file = match open(files, path) {
+        Ok(file) => file,
+        Err(error) => {
+            fail(errors, path, &error);
+            return Input::Failed(error);
+        }
+    };
+    let input = read_all(&mut file, bytes);
+    if let Input::Failed(error) = input {
+        fail(errors, path, &error);
     }
-    libc::close(fd);
     input
 }
 
-// Reads the file that an argument of the program names, and says on standard error where that failed.
-pub fn read_argument(i: usize, bytes: &mut [u8]) -> Input {
-    let mut path = io::buffer();
-    let n = os::arg(i, &mut path);
-    if os::errno() != 0 {
-        os::fail(b"argument");
-        return Input::Failed;
+// The numbers of the system's errors: an argument is missing, or longer than a path.
+const EINVAL: i32 = 22;
+
+const ENAMETOOLONG: i32 = 36;
+
+// The most bytes of a path, with the 0 that ends it.
+const MAX_PATH: usize = 4096;
+
+// The argument at the start of a path, and its length.
+fn argument<E: Env>(env: &E, i: usize, path: &mut [u8]) -> io::Result<usize>
+    ensures { ReadsAtMost result path.new }
+{
+    match env.arg(i, path) {
+        Ok(n) => Ok(n),
+        Err(FillError::NotPresent) => Err(io::Error::from_raw_os_error(EINVAL)),
+        Err(FillError::TooLong) => Err(io::Error::from_raw_os_error(ENAMETOOLONG)),
     }
-    read_path(&path[..n], bytes)
+}
+
+// Reads the file that an argument of the program names, and says on `errors` where that failed.
+pub fn read_argument<S: Env + Files, W: Write>(
+    system: &S,
+    errors: &mut W,
+    i: usize,
+    bytes: &mut [u8],
+) -> Input {
+    let mut path = [0u8; MAX_PATH];
+    match argument(system, i, &mut path) {
+        Ok(n) => read_path(system, errors, &path[..n], bytes),
+        Err(error) => {
+            fail(errors, b"argument", &error);
+            Input::Failed(error)
+        }
+    }
 }

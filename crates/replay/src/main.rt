@@ -1,6 +1,8 @@
 // Runs a stream of histories (oracle/FORMAT.md) and prints the answers, and the structure where the stream asks for it.
 #![tactic(auto)]
 
+ghost use Rattle.std.specs.Prelude.{◌≡◌, ◌≤◌, min, length, take};
+
 use apps::{FuncApp, FuncApps, PredApp, PredApps};
 use bindings::{AmbientEls, VarEls};
 use conflicts::TypeConflicts;
@@ -8,12 +10,12 @@ use driver::Response;
 use equalities::Pairs;
 use facts::{Fact, Facts, Impositions};
 use ids::{ElIds, TypeId};
-use libc::{STDIN_FILENO, STDOUT_FILENO};
 use lines::Line;
 use loading::{Loaded, Loading};
 use records::Record;
 use sheet::{Progress, Stage};
 use signature::Signature;
+use std::io::{Read, Write};
 use storing::Stored;
 use structure::{Answer, Machine, Structure};
 use unification::Unification;
@@ -22,23 +24,33 @@ use unification::Unification;
 
 const MAX_TEXT: usize = 65536;
 
-fn write_first(text: &[u8], n: usize) {
+// A number of bytes, or how many there are where there are fewer.
+fn count(n: usize, bytes: &[u8]) -> usize
+    ensures value { result ≡ min n (length bytes.now) }
+    ensures in_bounds { result ≤ length bytes.now }
+    ensures prefix { result ≡ length (take result bytes.now) }
+{
+    if n < bytes.len() { n } else { bytes.len() }
+}
+
+// What is not written, as to a device that is full, is not told.
+fn write_first(rt: &HostRuntime, text: &[u8], n: usize) {
     if n <= MAX_TEXT {
-        let m = io::count(n as isize, text);
-        io::write_all(STDOUT_FILENO, &text[..m]);
+        let m = count(n, text);
+        let _ = rt.stdout().write_all(&text[..m]);
     }
 }
 
-fn flush(text: &[u8; MAX_TEXT], n: usize) {
-    write_first(text, n);
+fn flush(rt: &HostRuntime, text: &[u8; MAX_TEXT], n: usize) {
+    write_first(rt, text, n);
 }
 
 // Writes a text out that may not have room for a line, and answers where it ends then.
-fn make_room(text: &[u8; MAX_TEXT], n: usize) -> usize {
+fn make_room(rt: &HostRuntime, text: &[u8; MAX_TEXT], n: usize) -> usize {
     if n <= MAX_TEXT - Line::MAX_LEN {
         return n;
     }
-    flush(text, n);
+    flush(rt, text, n);
     0
 }
 
@@ -50,9 +62,9 @@ fn put(text: &mut [u8; MAX_TEXT], n: usize, b: u8) -> usize {
     n + 1
 }
 
-fn put_line(text: &mut [u8; MAX_TEXT], n: usize, line: Line) -> usize {
+fn put_line(rt: &HostRuntime, text: &mut [u8; MAX_TEXT], n: usize, line: Line) -> usize {
     let size = line.size();
-    let mut at = make_room(text, n);
+    let mut at = make_room(rt, text, n);
     for i in 0..size {
         at = put(text, at, line.bytes[i]);
     }
@@ -150,7 +162,13 @@ pub struct Dumped {
 }
 
 // The facts of an element, from an index on.
-fn put_facts_at(text: &mut [u8; MAX_TEXT], from: Dumped, facts: Facts, el: u16) -> Dumped {
+fn put_facts_at(
+    rt: &HostRuntime,
+    text: &mut [u8; MAX_TEXT],
+    from: Dumped,
+    facts: Facts,
+    el: u16,
+) -> Dumped {
     let mut n = from.n;
     let first = from.fact;
     let k = facts.size();
@@ -159,12 +177,13 @@ fn put_facts_at(text: &mut [u8; MAX_TEXT], from: Dumped, facts: Facts, el: u16) 
         if fact.el.0 != el {
             return Dumped { n, fact: i };
         }
-        n = put_line(text, n, fact_line(b"f", fact));
+        n = put_line(rt, text, n, fact_line(b"f", fact));
     }
     Dumped { n, fact: k }
 }
 
 fn put_all_els(
+    rt: &HostRuntime,
     text: &mut [u8; MAX_TEXT],
     n: usize,
     u: Unification,
@@ -177,108 +196,124 @@ fn put_all_els(
         let el = i as u16;
         let link = u.links[i];
         let mark = marks[i];
-        let at = put_line(text, now.n, el_line(el, link, mark));
+        let at = put_line(rt, text, now.n, el_line(el, link, mark));
         let fact = now.fact;
-        now = put_facts_at(text, Dumped { n: at, fact }, facts, el);
+        now = put_facts_at(rt, text, Dumped { n: at, fact }, facts, el);
     }
     now.n
 }
 
-fn put_func_apps(text: &mut [u8; MAX_TEXT], n: usize, apps: FuncApps) -> usize {
+fn put_func_apps(rt: &HostRuntime, text: &mut [u8; MAX_TEXT], n: usize, apps: FuncApps) -> usize {
     let mut at = n;
     let k = apps.size();
     for i in 0..k {
         let app = apps.items[i];
-        at = put_line(text, at, func_app_line(app));
+        at = put_line(rt, text, at, func_app_line(app));
     }
     at
 }
 
-fn put_pred_apps(text: &mut [u8; MAX_TEXT], n: usize, apps: PredApps) -> usize {
+fn put_pred_apps(rt: &HostRuntime, text: &mut [u8; MAX_TEXT], n: usize, apps: PredApps) -> usize {
     let mut at = n;
     let k = apps.size();
     for i in 0..k {
         let app = apps.items[i];
-        at = put_line(text, at, pred_app_line(app));
+        at = put_line(rt, text, at, pred_app_line(app));
     }
     at
 }
 
-fn put_vars(text: &mut [u8; MAX_TEXT], n: usize, vars: VarEls) -> usize {
+fn put_vars(rt: &HostRuntime, text: &mut [u8; MAX_TEXT], n: usize, vars: VarEls) -> usize {
     let mut at = n;
     for i in 0..Structure::MAX_VARS {
         let slot = vars.slots[i];
         if !slot.given {
             continue;
         }
-        at = put_line(text, at, pair_line(b"v", i as u16, slot.el.0));
+        at = put_line(rt, text, at, pair_line(b"v", i as u16, slot.el.0));
     }
     at
 }
 
-fn put_ambients(text: &mut [u8; MAX_TEXT], n: usize, ambients: AmbientEls) -> usize {
+fn put_ambients(
+    rt: &HostRuntime,
+    text: &mut [u8; MAX_TEXT],
+    n: usize,
+    ambients: AmbientEls,
+) -> usize {
     let mut at = n;
     for i in 0..Signature::MAX_TYPES {
         let slot = ambients.slots[i];
         if !slot.given {
             continue;
         }
-        at = put_line(text, at, pair_line(b"m", i as u16, slot.el.0));
+        at = put_line(rt, text, at, pair_line(b"m", i as u16, slot.el.0));
     }
     at
 }
 
-fn put_pairs(text: &mut [u8; MAX_TEXT], n: usize, pairs: Pairs) -> usize {
+fn put_pairs(rt: &HostRuntime, text: &mut [u8; MAX_TEXT], n: usize, pairs: Pairs) -> usize {
     let mut at = n;
     let k = pairs.size();
     for i in 0..k {
         let pair = pairs.items[i];
-        at = put_line(text, at, pair_line(b"q", pair.lhs.0, pair.rhs.0));
+        at = put_line(rt, text, at, pair_line(b"q", pair.lhs.0, pair.rhs.0));
     }
     at
 }
 
-fn put_impositions(text: &mut [u8; MAX_TEXT], n: usize, impositions: Impositions) -> usize {
+fn put_impositions(
+    rt: &HostRuntime,
+    text: &mut [u8; MAX_TEXT],
+    n: usize,
+    impositions: Impositions,
+) -> usize {
     let mut at = n;
     let k = impositions.size();
     for i in 0..k {
         let fact = impositions.items[i];
-        at = put_line(text, at, fact_line(b"i", fact));
+        at = put_line(rt, text, at, fact_line(b"i", fact));
     }
     at
 }
 
 // The last line of a structure: whether a call of kinds 6 to 15 was accepted, and whether it is settled.
-fn put_flags(text: &mut [u8; MAX_TEXT], n: usize, s: Structure) -> usize {
-    put_line(text, n, flags_line(s.started, s.is_settled()))
+fn put_flags(rt: &HostRuntime, text: &mut [u8; MAX_TEXT], n: usize, s: Structure) -> usize {
+    put_line(rt, text, n, flags_line(s.started, s.is_settled()))
 }
 
-fn put_structure(text: &mut [u8; MAX_TEXT], n: usize, s: Structure) -> usize {
+fn put_structure(rt: &HostRuntime, text: &mut [u8; MAX_TEXT], n: usize, s: Structure) -> usize {
     let u = s.unification;
     let marks = s.inferred_parent_els;
     let facts = s.els;
-    let a = put_all_els(text, n, u, marks, facts);
+    let a = put_all_els(rt, text, n, u, marks, facts);
     let func_apps = s.func_apps;
-    let b = put_func_apps(text, a, func_apps);
+    let b = put_func_apps(rt, text, a, func_apps);
     let pred_apps = s.pred_apps;
-    let c = put_pred_apps(text, b, pred_apps);
+    let c = put_pred_apps(rt, text, b, pred_apps);
     let vars = s.var_els;
-    let d = put_vars(text, c, vars);
+    let d = put_vars(rt, text, c, vars);
     let ambients = s.ambient_model_els;
-    let e = put_ambients(text, d, ambients);
+    let e = put_ambients(rt, text, d, ambients);
     let pairs = s.pending_equalities;
-    let f = put_pairs(text, e, pairs);
+    let f = put_pairs(rt, text, e, pairs);
     let impositions = s.pending_type_impositions;
-    let g = put_impositions(text, f, impositions);
-    put_flags(text, g, s)
+    let g = put_impositions(rt, text, f, impositions);
+    put_flags(rt, text, g, s)
 }
 
-fn put_dump(text: &mut [u8; MAX_TEXT], n: usize, machine: Machine, dumps: bool) -> usize {
+fn put_dump(
+    rt: &HostRuntime,
+    text: &mut [u8; MAX_TEXT],
+    n: usize,
+    machine: Machine,
+    dumps: bool,
+) -> usize {
     if !dumps {
         return n;
     }
     let structure = machine.structure;
-    put_structure(text, n, structure)
+    put_structure(rt, text, n, structure)
 }
 
 // ---- calls that no sheet has: the line of their answer
@@ -301,12 +336,17 @@ pub struct Printed {
     pub length: u16,
 }
 
-fn put_conflicts(text: &mut [u8; MAX_TEXT], n: usize, found: TypeConflicts) -> usize {
+fn put_conflicts(
+    rt: &HostRuntime,
+    text: &mut [u8; MAX_TEXT],
+    n: usize,
+    found: TypeConflicts,
+) -> usize {
     let mut at = n;
     let k = found.size();
     for i in 0..k {
         let c = found.items[i];
-        at = put_line(text, at, lines::conflict_line(c.el, c.a, c.b));
+        at = put_line(rt, text, at, lines::conflict_line(c.el, c.a, c.b));
     }
     at
 }
@@ -336,17 +376,17 @@ fn response_line(response: Response, els: ElIds, listed: u16) -> Line {
 }
 
 // The record at the start of the bytes, run as a list of one.
-fn respond(text: &mut [u8; MAX_TEXT], from: Printed, bytes: &[u8]) -> Printed {
-    let m = io::count(Record::BYTES as isize, bytes);
+fn respond(rt: &HostRuntime, text: &mut [u8; MAX_TEXT], from: Printed, bytes: &[u8]) -> Printed {
+    let m = count(Record::BYTES, bytes);
     let machine = from.machine;
     let responded = driver::run_from(machine, &bytes[..m]);
     let response = responded.response;
     let els = responded.els;
     let conflicts = responded.conflicts;
     let next = responded.machine;
-    let at = put_conflicts(text, from.n, conflicts);
+    let at = put_conflicts(rt, text, from.n, conflicts);
     Printed {
-        n: put_line(text, at, response_line(response, els, conflicts.len)),
+        n: put_line(rt, text, at, response_line(response, els, conflicts.len)),
         machine: next,
         length: from.length,
     }
@@ -398,7 +438,7 @@ fn bytes_word() -> Line {
 }
 
 // `b n..`, a line for each sixteen bytes.
-fn put_bytes(text: &mut [u8; MAX_TEXT], n: usize, file: &[u8]) -> usize {
+fn put_bytes(rt: &HostRuntime, text: &mut [u8; MAX_TEXT], n: usize, file: &[u8]) -> usize {
     let mut at = n;
     let mut line = bytes_word();
     for i in 0..file.len() {
@@ -406,24 +446,31 @@ fn put_bytes(text: &mut [u8; MAX_TEXT], n: usize, file: &[u8]) -> usize {
         if i % 16 != 15 {
             continue;
         }
-        at = put_line(text, at, line.put(b'\n'));
+        at = put_line(rt, text, at, line.put(b'\n'));
         line = bytes_word();
     }
     if file.len() % 16 == 0 {
         return at;
     }
-    put_line(text, at, line.put(b'\n'))
+    put_line(rt, text, at, line.put(b'\n'))
 }
 
-fn put_all_bytes(text: &mut [u8; MAX_TEXT], n: usize, file: &[u8], mode: usize) -> usize {
+fn put_all_bytes(
+    rt: &HostRuntime,
+    text: &mut [u8; MAX_TEXT],
+    n: usize,
+    file: &[u8],
+    mode: usize,
+) -> usize {
     if mode != 2 {
         return n;
     }
-    put_bytes(text, n, file)
+    put_bytes(rt, text, n, file)
 }
 
 // A file was written, and has this length now.
 fn put_file(
+    rt: &HostRuntime,
     text: &mut [u8; MAX_TEXT],
     from: Printed,
     slot: &[u8],
@@ -431,44 +478,50 @@ fn put_file(
     mode: usize,
 ) -> Printed {
     let machine = from.machine;
-    let m = io::count(length as isize, slot);
-    let at = put_line(text, from.n, file_line(&slot[..m], length));
+    let m = count(length as usize, slot);
+    let at = put_line(rt, text, from.n, file_line(&slot[..m], length));
     Printed {
-        n: put_all_bytes(text, at, &slot[..m], mode),
+        n: put_all_bytes(rt, text, at, &slot[..m], mode),
         machine,
         length,
     }
 }
 
 fn store_within(structure: Structure, slot: &mut [u8], room: u16) -> Stored {
-    let m = io::count(room as isize, slot);
+    let m = count(room as usize, slot);
     storing::store(structure, &mut slot[..m])
 }
 
 fn load_within(signature: Signature, slot: &[u8], length: u16) -> Loading {
-    let m = io::count(length as isize, slot);
+    let m = count(length as usize, slot);
     loading::load(signature, &slot[..m])
 }
 
 // A call that was accepted and answers nothing.
-fn put_done(text: &mut [u8; MAX_TEXT], from: Printed, machine: Machine) -> Printed {
+fn put_done(
+    rt: &HostRuntime,
+    text: &mut [u8; MAX_TEXT],
+    from: Printed,
+    machine: Machine,
+) -> Printed {
     Printed {
-        n: put_line(text, from.n, number_line(b"answer", bit(true))),
+        n: put_line(rt, text, from.n, number_line(b"answer", bit(true))),
         machine,
         length: from.length,
     }
 }
 
-fn put_refused(text: &mut [u8; MAX_TEXT], from: Printed, number: u16) -> Printed {
+fn put_refused(rt: &HostRuntime, text: &mut [u8; MAX_TEXT], from: Printed, number: u16) -> Printed {
     let machine = from.machine;
     Printed {
-        n: put_line(text, from.n, number_line(b"refused", number)),
+        n: put_line(rt, text, from.n, number_line(b"refused", number)),
         machine,
         length: from.length,
     }
 }
 
 fn run_store(
+    rt: &HostRuntime,
     slot: &mut [u8; SLOT],
     text: &mut [u8; MAX_TEXT],
     from: Printed,
@@ -479,8 +532,8 @@ fn run_store(
     let structure = machine.structure;
     let stored = store_within(structure, slot, room);
     match stored {
-        Stored::Bytes(k) => put_file(text, from, slot, short(k), mode),
-        Stored::Refused(x) => put_refused(text, from, x),
+        Stored::Bytes(k) => put_file(rt, text, from, slot, short(k), mode),
+        Stored::Refused(x) => put_refused(rt, text, from, x),
     }
 }
 
@@ -525,6 +578,7 @@ fn change(slot: &mut [u8; SLOT], length: u16, given: Record) -> u16 {
 }
 
 fn run_change(
+    rt: &HostRuntime,
     slot: &mut [u8; SLOT],
     text: &mut [u8; MAX_TEXT],
     from: Printed,
@@ -532,10 +586,15 @@ fn run_change(
     mode: usize,
 ) -> Printed {
     let length = change(slot, from.length, given);
-    put_file(text, from, slot, length, mode)
+    put_file(rt, text, from, slot, length, mode)
 }
 
-fn run_load(slot: &[u8; SLOT], text: &mut [u8; MAX_TEXT], from: Printed) -> Printed {
+fn run_load(
+    rt: &HostRuntime,
+    slot: &[u8; SLOT],
+    text: &mut [u8; MAX_TEXT],
+    from: Printed,
+) -> Printed {
     let machine = from.machine;
     let signature = machine.signature;
     let loading = load_within(signature, slot, from.length);
@@ -546,59 +605,83 @@ fn run_load(slot: &[u8; SLOT], text: &mut [u8; MAX_TEXT], from: Printed) -> Prin
         structure,
     };
     match answer {
-        Loaded::Done => put_done(text, from, next),
-        Loaded::Refused(x) => put_refused(text, from, x),
+        Loaded::Done => put_done(rt, text, from, next),
+        Loaded::Refused(x) => put_refused(rt, text, from, x),
     }
 }
 
 // ---- the stream
 
+// Reads until the bytes are full, the stream ends or a read fails: how many bytes it put at their start.
+fn read_full(rt: &HostRuntime, bytes: &mut [u8]) -> usize
+    ensures { result ≤ length bytes.new }
+{
+    let mut done: usize = 0;
+    while done < bytes.len() {
+        let n = match rt.stdin().read(&mut bytes[done..]) {
+            Ok(n) => n,
+            Err(_) => 0,
+        };
+        if n == 0 {
+            break;
+        }
+        done += n;
+    }
+    done
+}
+
 // The next bytes of the stream, so many or as many as there are.
-fn read_first(bytes: &mut [u8], n: usize) -> usize {
+fn read_first(rt: &HostRuntime, bytes: &mut [u8], n: usize) -> usize {
     if Record::MAX_BYTES < n {
         return 0;
     }
-    let m = io::count(n as isize, bytes);
-    io::read_full(STDIN_FILENO, &mut bytes[..m])
+    let m = count(n, bytes);
+    read_full(rt, &mut bytes[..m])
 }
 
-fn read(bytes: &mut [u8; Record::MAX_BYTES], n: usize) -> usize {
-    read_first(bytes, n)
+fn read(rt: &HostRuntime, bytes: &mut [u8; Record::MAX_BYTES], n: usize) -> usize {
+    read_first(rt, bytes, n)
 }
 
 // Bytes of the stream that are not looked at.
-fn skip(bytes: &mut [u8; Record::MAX_BYTES], n: usize) {
+fn skip(rt: &HostRuntime, bytes: &mut [u8; Record::MAX_BYTES], n: usize) {
     let count = n / Record::MAX_BYTES;
     for i in 0..count {
-        if read(bytes, Record::MAX_BYTES) == 0 {
+        if read(rt, bytes, Record::MAX_BYTES) == 0 {
             return;
         }
     }
-    read(bytes, n % Record::MAX_BYTES);
+    read(rt, bytes, n % Record::MAX_BYTES);
 }
 
 // A sheet: how many bytes it has, one more than the longest sheet where it has more. Such a sheet is refused whatever it
 // holds, so that what is read over its bytes does not matter.
-fn read_sheet(bytes: &mut [u8; Record::MAX_BYTES], length: usize) -> usize {
+fn read_sheet(rt: &HostRuntime, bytes: &mut [u8; Record::MAX_BYTES], length: usize) -> usize {
     if length <= Record::MAX_BYTES {
-        return read(bytes, length);
+        return read(rt, bytes, length);
     }
-    let n = read(bytes, Record::MAX_BYTES);
-    if read(bytes, 1) == 0 {
+    let n = read(rt, bytes, Record::MAX_BYTES);
+    if read(rt, bytes, 1) == 0 {
         return n;
     }
     let over = Record::MAX_BYTES + 1;
-    skip(bytes, length - over);
+    skip(rt, bytes, length - over);
     over
 }
 
 // Prints the structure after the last piece of a record that was carried out.
-fn put_dump_after(text: &mut [u8; MAX_TEXT], n: usize, progress: Progress, dumps: bool) -> usize {
+fn put_dump_after(
+    rt: &HostRuntime,
+    text: &mut [u8; MAX_TEXT],
+    n: usize,
+    progress: Progress,
+    dumps: bool,
+) -> usize {
     let stage = progress.stage;
     let machine = progress.machine;
     match stage {
-        Stage::Visiting => put_dump(text, n, machine, dumps),
-        Stage::Ending => put_dump(text, n, machine, dumps),
+        Stage::Visiting => put_dump(rt, text, n, machine, dumps),
+        Stage::Ending => put_dump(rt, text, n, machine, dumps),
         Stage::Refusing => n,
         Stage::Listing => n,
         Stage::Ended => n,
@@ -606,6 +689,7 @@ fn put_dump_after(text: &mut [u8; MAX_TEXT], n: usize, progress: Progress, dumps
 }
 
 fn run_sheet(
+    rt: &HostRuntime,
     bytes: &[u8; Record::MAX_BYTES],
     text: &mut [u8; MAX_TEXT],
     n: usize,
@@ -623,23 +707,30 @@ fn run_sheet(
         let line = piece.line;
         let next = piece.progress;
         progress = next;
-        at = put_line(text, at, line);
-        at = put_dump_after(text, at, progress, dumps);
+        at = put_line(rt, text, at, line);
+        at = put_dump_after(rt, text, at, progress, dumps);
     }
     at
 }
 
 // What the mode of a list prints after each call.
-fn put_after_call(text: &mut [u8; MAX_TEXT], n: usize, machine: Machine, mode: usize) -> usize {
+fn put_after_call(
+    rt: &HostRuntime,
+    text: &mut [u8; MAX_TEXT],
+    n: usize,
+    machine: Machine,
+    mode: usize,
+) -> usize {
     match mode {
-        2 => put_dump(text, n, machine, true),
-        4 => put_flags(text, n, machine.structure),
+        2 => put_dump(rt, text, n, machine, true),
+        4 => put_flags(rt, text, n, machine.structure),
         _ => n,
     }
 }
 
 // The call of the record at the start of the bytes.
 fn run_call(
+    rt: &HostRuntime,
     bytes: &[u8; Record::MAX_BYTES],
     slot: &mut [u8; SLOT],
     text: &mut [u8; MAX_TEXT],
@@ -649,26 +740,27 @@ fn run_call(
     let given = records::record_at(bytes, 0);
     let kind = given.kind;
     match kind {
-        STORE => run_store(slot, text, from, given.a, mode),
-        CHANGE => run_change(slot, text, from, given, mode),
-        LOAD => run_load(slot, text, from),
-        BEGIN_AGAIN => put_done(text, from, Machine::new()),
-        _ => respond(text, from, bytes),
+        STORE => run_store(rt, slot, text, from, given.a, mode),
+        CHANGE => run_change(rt, slot, text, from, given, mode),
+        LOAD => run_load(rt, slot, text, from),
+        BEGIN_AGAIN => put_done(rt, text, from, Machine::new()),
+        _ => respond(rt, text, from, bytes),
     }
 }
 
 // A record, and what the mode prints after it.
 fn run_record(
+    rt: &HostRuntime,
     bytes: &[u8; Record::MAX_BYTES],
     slot: &mut [u8; SLOT],
     text: &mut [u8; MAX_TEXT],
     from: Printed,
     mode: usize,
 ) -> Printed {
-    let printed = run_call(bytes, slot, text, from, mode);
+    let printed = run_call(rt, bytes, slot, text, from, mode);
     let next = printed.machine;
     Printed {
-        n: put_after_call(text, printed.n, next, mode),
+        n: put_after_call(rt, text, printed.n, next, mode),
         machine: next,
         length: printed.length,
     }
@@ -676,6 +768,7 @@ fn run_record(
 
 // The records of a list, and then the bytes that are no whole record.
 fn run_records(
+    rt: &HostRuntime,
     bytes: &mut [u8; Record::MAX_BYTES],
     slot: &mut [u8; SLOT],
     text: &mut [u8; MAX_TEXT],
@@ -690,17 +783,18 @@ fn run_records(
     };
     let count = length / Record::BYTES;
     for i in 0..count {
-        if read(bytes, Record::BYTES) != Record::BYTES {
+        if read(rt, bytes, Record::BYTES) != Record::BYTES {
             return now.n;
         }
-        now = run_record(bytes, slot, text, now, mode);
+        now = run_record(rt, bytes, slot, text, now, mode);
     }
-    skip(bytes, length % Record::BYTES);
+    skip(rt, bytes, length % Record::BYTES);
     now.n
 }
 
 // A list begins with no file.
 fn run_list(
+    rt: &HostRuntime,
     bytes: &mut [u8; Record::MAX_BYTES],
     text: &mut [u8; MAX_TEXT],
     n: usize,
@@ -708,10 +802,11 @@ fn run_list(
     mode: usize,
 ) -> usize {
     let mut slot = [0u8; SLOT];
-    run_records(bytes, &mut slot, text, n, length, mode)
+    run_records(rt, bytes, &mut slot, text, n, length, mode)
 }
 
 fn run_entry(
+    rt: &HostRuntime,
     bytes: &mut [u8; Record::MAX_BYTES],
     text: &mut [u8; MAX_TEXT],
     n: usize,
@@ -720,12 +815,12 @@ fn run_entry(
 ) -> usize {
     match mode {
         0 | 3 => {
-            let there = read_sheet(bytes, length);
-            run_sheet(bytes, text, n, there, mode == 3)
+            let there = read_sheet(rt, bytes, length);
+            run_sheet(rt, bytes, text, n, there, mode == 3)
         }
-        1 | 2 | 4 => run_list(bytes, text, n, length, mode),
+        1 | 2 | 4 => run_list(rt, bytes, text, n, length, mode),
         _ => {
-            skip(bytes, length);
+            skip(rt, bytes, length);
             n
         }
     }
@@ -749,25 +844,29 @@ const HEADER: usize = 8;
 // More entries than a stream has: a loop has to end.
 const MAX_ENTRIES: u64 = 1000000000;
 
-fn run_stream(bytes: &mut [u8; Record::MAX_BYTES], text: &mut [u8; MAX_TEXT]) -> usize {
+fn run_stream(
+    rt: &HostRuntime,
+    bytes: &mut [u8; Record::MAX_BYTES],
+    text: &mut [u8; MAX_TEXT],
+) -> usize {
     let mut at: usize = 0;
     for i in 0..MAX_ENTRIES {
-        if read(bytes, HEADER) != HEADER {
+        if read(rt, bytes, HEADER) != HEADER {
             return at;
         }
         // A header is the first words of a record.
         let header = records::record_at(bytes, 0);
         let mode = long(header.next, header.kind);
         let length = long(header.a, header.b);
-        at = put_line(text, at, entry_line(i));
-        at = run_entry(bytes, text, at, mode, length);
+        at = put_line(rt, text, at, entry_line(i));
+        at = run_entry(rt, bytes, text, at, mode, length);
     }
     at
 }
 
-fn main() {
+fn main(rt: HostRuntime) {
     let mut bytes = [0u8; Record::MAX_BYTES];
     let mut text = [0u8; MAX_TEXT];
-    let n = run_stream(&mut bytes, &mut text);
-    flush(&text, n);
+    let n = run_stream(&rt, &mut bytes, &mut text);
+    flush(&rt, &text, n);
 }

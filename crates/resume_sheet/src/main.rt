@@ -3,54 +3,67 @@
 #![tactic(auto)]
 
 use file_rows::File;
-use libc::{STDIN_FILENO, STDOUT_FILENO};
 use pages::Page;
 use reading::Input;
 use records::Record;
+use std::io;
 
 // A sheet of so many bytes, from the file in the first of some bytes.
-fn run(bytes: &[u8; Record::MAX_BYTES], length: usize, file: &[u8], size: usize) {
+fn print(
+    rt: &HostRuntime,
+    bytes: &[u8; Record::MAX_BYTES],
+    length: usize,
+    file: &[u8],
+    size: usize,
+) -> io::Result<()> {
     let mut text = [0u8; Page::MAX_LEN];
     let piece = resuming::resume(length, bytes, file, size);
     let line = piece.line;
     let progress = piece.progress;
-    if !printing::write_line(STDOUT_FILENO, line) {
-        os::fail(b"standard output");
-        return;
-    }
-    if !printing::print(bytes, &mut text, progress) {
-        os::fail(b"standard output");
+    printing::write_line(&mut rt.stdout(), line)?;
+    printing::print(&mut rt.stdout(), bytes, &mut text, progress)
+}
+
+fn run(
+    rt: &HostRuntime,
+    bytes: &[u8; Record::MAX_BYTES],
+    length: usize,
+    file: &[u8],
+    size: usize,
+) {
+    if let Err(error) = print(rt, bytes, length, file, size) {
+        reading::fail(&mut rt.stderr(), b"standard output", &error);
     }
 }
 
 // The same, from the file that the argument names.
-fn run_from(bytes: &[u8; Record::MAX_BYTES], length: usize) {
+fn run_from(rt: &HostRuntime, bytes: &[u8; Record::MAX_BYTES], length: usize) {
     // One byte more than the longest file has, which tells of a longer one.
     let mut file = [0u8; File::MAX_BYTES + 1];
-    let input = reading::read_argument(1, &mut file);
+    let input = reading::read_argument(rt, &mut rt.stderr(), 1, &mut file);
     match input {
         Input::Bytes(size) => {
-            run(bytes, length, &file, size);
+            run(rt, bytes, length, &file, size);
         }
         Input::Longer => {
-            run(bytes, length, &file, File::MAX_BYTES + 1);
+            run(rt, bytes, length, &file, File::MAX_BYTES + 1);
         }
-        Input::Failed => {}
+        Input::Failed(_) => {}
     }
 }
 
-fn main() {
+fn main(rt: HostRuntime) {
     let mut bytes = [0u8; Record::MAX_BYTES];
-    let input = reading::read_all(STDIN_FILENO, &mut bytes);
+    let input = reading::read_all(&mut rt.stdin(), &mut bytes);
     match input {
         Input::Bytes(length) => {
-            run_from(&bytes, length);
+            run_from(&rt, &bytes, length);
         }
         Input::Longer => {
-            run_from(&bytes, Record::MAX_BYTES + 1);
+            run_from(&rt, &bytes, Record::MAX_BYTES + 1);
         }
-        Input::Failed => {
-            os::fail(b"standard input");
+        Input::Failed(error) => {
+            reading::fail(&mut rt.stderr(), b"standard input", &error);
         }
     }
 }
