@@ -24,13 +24,7 @@ fn print(
     printing::print(&mut rt.stdout(), bytes, &mut text, progress)
 }
 
-fn run(
-    rt: &HostRuntime,
-    bytes: &[u8; Record::MAX_BYTES],
-    length: usize,
-    file: &[u8],
-    size: usize,
-) {
+fn run(rt: &HostRuntime, bytes: &[u8; Record::MAX_BYTES], length: usize, file: &[u8], size: usize) {
     if let Err(error) = print(rt, bytes, length, file, size) {
         reading::fail(&mut rt.stderr(), b"standard output", &error);
     }
