@@ -79,8 +79,8 @@ is_ready() { # PROGRAM..
         for crate in "${kept[@]:1}"; do sources[$root/crates/$crate]=1; done
     done
     # By the time at which a file was last written or renamed, which no copy keeps. A folder is newer once a file was added or
-    # removed. No program is made from must-fail/.
-    found=$(find "${!sources[@]}" -name must-fail -prune -o \( "${newer[@]:1}" \) -print -quit 2>/dev/null) && [[ -z $found ]]
+    # removed. No program is made from must-fail/, and out/ is what rt keeps.
+    found=$(find "${!sources[@]}" \( -name must-fail -o -name out \) -prune -o \( "${newer[@]:1}" \) -print -quit 2>/dev/null) && [[ -z $found ]]
 }
 # The programs, and every crate that they are built on, in `crates`. What crates.txt has no line for is of the toolchain.
 find_crates() { # PROGRAM..
@@ -119,6 +119,8 @@ prove() { # PROGRAM..
         rm -f "$ready/$name"
         marks+=("$ready/$name.$$")
         find_crates "$name"
+        # What rt keeps is there before the mark, so that its folders are not newer.
+        ((${#crates[@]} == 0)) || (cd "$root/crates" && mkdir -p "${crates[@]/%//out}")
         printf '%s\n' "$rt" "${crates[@]}" >"$ready/$name.$$"
     done
     find_crates "$@"

@@ -365,16 +365,16 @@ class Proved(unittest.TestCase):
     """The files that crates/file proves cases of are those of tools/park_cases.txt with at most 100 bytes."""
 
     DECLARATIONS = {
-        "push-type (type-entry plain [])": "type plain",
-        "push-type (type-entry plain (0 ∷ []))": "type plain [0]",
-        "push-type (type-entry plain (0 ∷ 0 ∷ []))": "type plain [0 0]",
-        "push-type (type-entry plain (0 ∷ 0 ∷ 0 ∷ 0 ∷ []))": "type plain [0 0 0 0]",
-        "push-type (type-entry model [])": "type model",
-        "push-type (type-entry (mor 0) [])": "type mor 0",
-        "push-pred (pred-entry [] [])": "predicate",
-        "push-func (func-entry [] [] 0)": "function -> 0",
-        "push-model (model-entry 0 1 0 1 2 3)": "model 0 1 (0 1 2 3)",
-        "push-mor-app (mor-app-entry 4 1 0)": "morphism-application 4 (1 0)",
+        "push_type (type_entry plain [])": "type plain",
+        "push_type (type_entry plain (0 ∷ []))": "type plain [0]",
+        "push_type (type_entry plain (0 ∷ 0 ∷ []))": "type plain [0 0]",
+        "push_type (type_entry plain (0 ∷ 0 ∷ 0 ∷ 0 ∷ []))": "type plain [0 0 0 0]",
+        "push_type (type_entry model [])": "type model",
+        "push_type (type_entry (mor 0) [])": "type mor 0",
+        "push_pred (pred_entry [] [])": "predicate",
+        "push_func (func_entry [] [] 0)": "function -> 0",
+        "push_model (model_entry 0 1 0 1 2 3)": "model 0 1 (0 1 2 3)",
+        "push_mor_app (mor_app_entry 4 1 0)": "morphism-application 4 (1 0)",
     }
 
     def data(self, text):
@@ -385,7 +385,7 @@ class Proved(unittest.TestCase):
         return found
 
     def declarations(self, text):
-        return [self.DECLARATIONS[entry] for entry in re.split(" ∷ (?=push-)", text)]
+        return [self.DECLARATIONS[entry] for entry in re.split(" ∷ (?=push_)", text)]
 
     def test_the_same_files(self):
         entry = re.compile(r"-- (.*)\n\s*(?:∷ )?file (\[\]|\((.*?) ∷ \[\]\)) (.*)\n")

@@ -742,8 +742,8 @@ class Script(unittest.TestCase):
         # The commands that the script uses, and no `rt`.
         self.commands = self.root / "commands"
         self.commands.mkdir()
-        for name in ("bash", "basename", "cat", "dirname", "find", "mkdir", "mktemp", "mv", "readlink",
-                     "rm", "sleep", "tail", "tee", "python3", "env"):
+        for name in ("bash", "basename", "cat", "cp", "dirname", "find", "grep", "mkdir", "mktemp", "mv",
+                     "readlink", "rm", "sleep", "tail", "tee", "python3", "env"):
             (self.commands / name).symlink_to(shutil.which(name))
 
     def put(self, path, text):
@@ -804,10 +804,12 @@ class Script(unittest.TestCase):
                          (1, b"", f"close-sheet: {self.root.resolve()}/target/bin/close_sheet is not"
                                   " built, and rt, which builds it, is not found\n"))
         # Where it is there, it builds the program, and standard input is the sheet's.
-        made = self.root / "target/bin/close_sheet"
-        self.put(self.commands / "rt", f"#!{shutil.which('bash')}\ncat\nmkdir -p target/bin\n"
+        (self.root / "crates/close_sheet").mkdir(parents=True)
+        made = "out/close_sheet"
+        self.put(self.commands / "rt", f"#!{shutil.which('bash')}\ncat\nmkdir -p out\n"
                                        f"printf '#!{shutil.which('bash')}\\necho end 1\\n' >{made}\n"
-                                       f"{shutil.which('chmod')} +x {made}\n")
+                                       f"{shutil.which('chmod')} +x {made}\n"
+                                       f"echo 'rt: running {made}'\n")
         # What is said meanwhile is in tools/test_names.py.
         self.assertEqual(self.run_script("a.sheet")[:2], (0, b"end 1\n"))
         self.put(self.commands / "rt", f"#!{shutil.which('bash')}\necho no proof\nexit 1\n")
