@@ -1,4 +1,4 @@
--- The proved cases (01, "Proved sheets"): P1 to P10, rows for each number 1 to 12 and 15 and for single sentences of 01 and 02, as one table, and one theorem: every row holds (with those of RefusedSettle: `every_row_holds` there; rows on full tables are in validity/proofs/full_tables).
+-- The proved cases (01, "Proved sheets"): P1 to P10, rows for each number 1 to 12 and 15 and for single sentences of 01 and 02, as one table, and one theorem: every row holds (with those of RefusedSettle: `every_row_holds` there; rows on full tables are in validity/proofs/FullTables).
 -- A row is data: what it runs, what that answers or prints, and claims about the machine that it leaves. That a refused call leaves the machine as
 -- it was is a theorem over every call (`refused_leaves`, Judged); the rows on refusals state it where it computes in few steps.
 use mathlib.Core.Path.{◌≡◌, refl, ap, ◌∙◌}

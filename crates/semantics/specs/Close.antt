@@ -205,7 +205,7 @@ unfoldable pub rounds : Sig → List PredApp → List FuncApp → Core → Round
 rounds g preds apps w = rounds_from fuel g preds (round g preds apps w)
 
 -- How many applications the laws of maps inserted in these rounds. No other pass makes the table longer, and theirs never makes it shorter (`up_most`,
--- `laws_lengthen`, history/proofs/no_change), so that in one round its length tells. From the first round to the last it does not: `functionality` makes one of
+-- `laws_lengthen`, history/proofs/NoChange), so that in one round its length tells. From the first round to the last it does not: `functionality` makes one of
 -- two entries whose keys come to be the same.
 
 -- a round up to the laws

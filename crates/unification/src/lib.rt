@@ -202,7 +202,6 @@ impl Unification {
 }
 
 // The root of `el`, with the path shortened in the table that is lent. A number that is no element is its own root.
-// A function that takes `&mut` of a struct is proved by hand, so this one only takes the table out and stores it back.
 pub fn root(unification: &mut Unification, el: ElId) -> Find
     ensures { record { find = found result; links = links_of unification.new }
         ≡ shortened_of (links_of unification.old) el.0 }
@@ -212,7 +211,7 @@ pub fn root(unification: &mut Unification, el: ElId) -> Find
     s.find
 }
 
-// The same with plain parameters, through `root`, so that no caller needs a proof by hand.
+// The same with plain parameters, through `root`.
 pub fn root_value(unification: Unification, el: ElId) -> Shortened
     ensures { shortened result ≡ shortened_of (links_of unification) el.0 }
 {
