@@ -36,7 +36,7 @@ unfoldable pub is_negative : ℤ → Bool
 is_negative (pos k) = false
 is_negative (negsuc k) = true
 
--- what a read can come to: which of these it is, is for the C library to say
+-- what a read can come to: which of these it is, is for the reader to say
 pub record Gave (room at : ℕ) (r : Reading) : Type 0 where
   pub failed : Bool
   pub n : ℕ
