@@ -113,14 +113,15 @@ prove() { # PROGRAM..
     local -A waiting=()
     printf -v all '%s, ' "$@"
     all=${all%, }
-    mkdir -p "$ready"
+    mkdir -p "$ready" "${log%/*}"
+    # The folders of what rt keeps are there before the marks, so that no crate's folder is newer.
+    find_crates "$@"
+    ((${#crates[@]} == 0)) || (cd "$root/crates" && mkdir -p "${crates[@]/%//out}")
     for name; do
         [[ -x $root/target/bin/$name ]] || is_built=''
         rm -f "$ready/$name"
         marks+=("$ready/$name.$$")
         find_crates "$name"
-        # What rt keeps is there before the mark, so that its folders are not newer.
-        ((${#crates[@]} == 0)) || (cd "$root/crates" && mkdir -p "${crates[@]/%//out}")
         printf '%s\n' "$rt" "${crates[@]}" >"$ready/$name.$$"
     done
     find_crates "$@"
@@ -165,7 +166,8 @@ make_programs() { # PROGRAM..
     for name; do
         (cd "$root/crates/$name" && rt run) 2>&1 | tee "$log" || true
         grep -q "^rt: running out/$name" "$log" || return 1
-        cp -f "$root/crates/$name/out/$name" "$root/target/bin/$name"
+        rm -f "$root/target/bin/$name"
+        cp "$root/crates/$name/out/$name" "$root/target/bin/$name"
     done
 }
 # Looks which crates rt has come to, and says so: on a terminal on one line, with the time, else on a line for each crate. rt

@@ -568,7 +568,7 @@ def random_records(rng):
 
 
 COMMANDS = ("bash", "basename", "cat", "chmod", "dirname", "env", "find", "mkdir", "mktemp", "mv", "python3",
-            "readlink", "rm", "sleep", "tail", "tee")
+            "readlink", "rm", "sleep", "tail", "tee", "cp", "grep")
 SCRIPTS = ("close-sheet", "park-sheet", "resume-sheet")
 
 
@@ -767,26 +767,25 @@ parked: ids
 park_sheet: parked close
 resume_sheet: parked close
 """
-# It counts how often it is asked, says of the crates what rt says, and builds the programs.
+# It counts how often it is asked, says of the crates what rt says, and builds the program of the folder that it runs in.
 TOOLCHAIN = """\
-echo "$@" >>asked
+program=${PWD##*/}
+cd ../..
+echo "$1 $program" >>asked
 cat                               # what it is given on standard input
-mkdir -p target/log target/bin
+mkdir -p "crates/$program/out"
 . ./does
 """
 PROVES = """\
-echo 'logic: rt: ids proved (no line of rt)'
+echo 'logic: library ids: (no line of rt)'
 echo 'fn ids::x: proved'
-echo 'rt: ids proved (unchanged since it was last proved)'
-printf 'rt: fac'; sleep 0.5; printf 'ts proved (3 s)\\n'
-echo 'rt: close proved (0 s)'
-for p in "${@:2}"; do
-    echo "rt: $p proved (1 s)"
-    printf '#!%s\\ncat >/dev/null; echo end 1\\n' "$BASH" >"target/bin/$p"
-    chmod +x "target/bin/$p"
-    echo "rt: $p ran, and wrote what its file 'stdout' has (0 s)"
-done
-echo 'rt: ok, 4 crates proved'
+echo 'library ids: modules loaded=3 checked=0'
+printf 'library fac'; sleep 0.5; printf 'ts: modules loaded=3 checked=0\\n'
+echo 'library close: modules loaded=3 checked=0'
+echo "crate $program: modules loaded=0 checked=3"
+printf '#!%s\\ncat >/dev/null; echo end 1\\n' "$BASH" >"crates/$program/out/$program"
+chmod +x "crates/$program/out/$program"
+echo "rt: running out/$program; to give it other input, run that file yourself"
 """
 FIRST = "close-sheet: proving and building close_sheet first; this happens once and takes minutes"
 AGAIN = ("close-sheet: looking whether close_sheet is as the sources are; what has changed is proved"
@@ -833,7 +832,7 @@ class Building(Copy):
 
     def first(self):
         self.assertEqual(self.start("close-sheet", "a.sheet")[:2], (0, "end 1\n"))
-        self.assertEqual(self.asked(), ["check close_sheet"])
+        self.assertEqual(self.asked(), ["run close_sheet"])
 
     def test_first_start(self):
         """The crates as they are reached, of those that the program is built on; and the time."""
@@ -844,21 +843,11 @@ class Building(Copy):
                            for at, name in enumerate(("ids", "facts", "close", "close_sheet"), 1)),
                          rf"close-sheet: proved and built close_sheet \({TIME}\)")
         self.assertNotIn("\r", said)
-        self.assertEqual(self.asked(), ["check close_sheet"])
+        self.assertEqual(self.asked(), ["run close_sheet"])
         log = (self.root / "target/close-sheet.log").read_text()
-        self.assertTrue(log.endswith("\nrt: ok, 4 crates proved\n"))
+        self.assertTrue(log.endswith("\nrt: running out/close_sheet; to give it other input, run that file yourself\n"))
         self.assertNotIn("typed", log)
-        self.assertIn("\nrt: facts proved (3 s)\n", log)
-
-    def test_crates_that_are_begun(self):
-        """rt prints several crates at once, and begins a file for each before."""
-        self.does(": >target/log/facts.out; : >target/log/lost.out; sleep 2.5\n" + PROVES)
-        _, _, said = self.start("close-sheet", "a.sheet")
-        reached = re.findall(r"crate (\d) of 4, (\w+) \((\d+) s", said)
-        self.assertEqual([name for _, name, _ in reached], ["facts", "ids", "close", "close_sheet"])
-        self.assertEqual([at for at, _, _ in reached], ["1", "2", "3", "4"])
-        # `facts` is said when it is begun, `ids` when it is proved.
-        self.assertLess(int(reached[0][2]), int(reached[1][2]))
+        self.assertIn("\nlibrary facts: modules loaded=3 checked=0\n", log)
 
     def test_later_starts_are_immediate(self):
         self.first()
@@ -866,7 +855,7 @@ class Building(Copy):
             self.assert_immediate()
         # Each program is ready for itself.
         self.assertEqual(self.start("resume-sheet", "a.sheet", "a.sheet")[:2], (0, "end 1\n"))
-        self.assertEqual(self.asked(), ["check resume_sheet"])
+        self.assertEqual(self.asked(), ["run resume_sheet"])
         self.assert_immediate("resume-sheet", "a.sheet", "a.sheet")
         self.assert_immediate()
 
@@ -892,7 +881,7 @@ class Building(Copy):
                 change()
                 code, out, said = self.start("close-sheet", "a.sheet")
                 self.assertEqual((code, out), (0, "end 1\n"))
-                self.assertEqual(self.asked(), ["check close_sheet"])
+                self.assertEqual(self.asked(), ["run close_sheet"])
                 self.assertEqual(said.splitlines()[0], FIRST if "the program, " in what else AGAIN)
         self.assert_immediate()
 
@@ -912,7 +901,7 @@ class Building(Copy):
         (self.commands / "rt").unlink()
         (self.commands / "rt").symlink_to("../other/rt")
         self.assertEqual(self.start("close-sheet", "a.sheet")[:2], (0, "end 1\n"))
-        self.assertEqual(self.asked(), ["check close_sheet"])
+        self.assertEqual(self.asked(), ["run close_sheet"])
         self.assert_immediate()
 
     def test_an_edit_during_the_check(self):
@@ -921,31 +910,31 @@ class Building(Copy):
         self.first()
         self.does(PROVES)
         self.assertEqual(self.start("close-sheet", "a.sheet")[:2], (0, "end 1\n"))
-        self.assertEqual(self.asked(), ["check close_sheet"])
+        self.assertEqual(self.asked(), ["run close_sheet"])
         self.assert_immediate()
 
     def test_built_by_another(self):
         self.put("target/bin/close_sheet", f"#!{shutil.which('bash')}\necho end 1\n")
         code, out, said = self.start("close-sheet", "a.sheet")
         self.assertEqual((code, out, said.splitlines()[0]), (0, "end 1\n", AGAIN))
-        self.assertEqual(self.asked(), ["check close_sheet"])
+        self.assertEqual(self.asked(), ["run close_sheet"])
         self.assert_immediate()
 
     def test_a_check_that_fails(self):
         for before in (False, True):
             with self.subTest(built_before=before):
                 self.does("for n in 1 2 3 4 5 6; do echo line $n; done\n"
-                          "echo 'rt: ids NOT PROVED (exit 1, 2 s)'; exit 1\n")
+                          "echo 'crate ids: modules loaded=0 checked=3'; exit 1\n")
                 self.put("crates/ids/src/lib.rt", "wrong\n")
                 code, out, said = self.start("close-sheet", "a.sheet")
                 self.assertEqual((code, out), (1, ""))
                 self.assert_said(said, re.escape(AGAIN if before else FIRST),
                                  rf"close-sheet: proving crate 1 of 4, ids \({TIME} so far\)",
                                  "line 3", "line 4", "line 5", "line 6",
-                                 r"rt: ids NOT PROVED \(exit 1, 2 s\)",
+                                 "crate ids: modules loaded=0 checked=3",
                                  "close-sheet: close_sheet is not proved; target/close-sheet.log says why")
                 self.assertEqual(list((self.root / "target/ready").iterdir()), [])
-                self.assertEqual(self.asked(), ["check close_sheet"])
+                self.assertEqual(self.asked(), ["run close_sheet"])
                 # It is asked again, also where the source is as old as it was.
                 os.utime(self.root / "crates/ids/src/lib.rt", (1, 1))
                 self.does(PROVES)
@@ -957,7 +946,7 @@ class Building(Copy):
         self.put("tools/report", f"#!{shutil.which('bash')}\necho page\n")
         code, out, said = self.start("close-sheet", "--report", "a.sheet")
         self.assertEqual((code, out), (0, "page\n"))
-        self.assertEqual(self.asked(), ["check close_sheet park_sheet resume_sheet"])
+        self.assertEqual(self.asked(), ["run close_sheet", "run park_sheet", "run resume_sheet"])
         self.assertIn("building close_sheet, park_sheet, resume_sheet first;", said)
         self.assertIn("crate 6 of 7, resume_sheet (", said)  # It never says of `parked`.
         for words in (("close-sheet", "a.sheet"), ("resume-sheet", "a.sheet", "a.sheet")):
@@ -969,7 +958,7 @@ class Building(Copy):
         self.put("crates/parked/src/lib.rt", "other\n")
         self.assert_immediate()
         self.assertEqual(self.start("close-sheet", "--report", "a.sheet")[:2], (0, "page\n"))
-        self.assertEqual(self.asked(), ["check close_sheet park_sheet resume_sheet"])
+        self.assertEqual(self.asked(), ["run close_sheet", "run park_sheet", "run resume_sheet"])
         self.does("exit 2\n")
         os.utime(self.root / "crates/parked/src/lib.rt")
         code, out, said = self.start("close-sheet", "--report", "a.sheet")
@@ -1029,7 +1018,7 @@ class Building(Copy):
         """Nothing goes on, also not what ignores ^C as the children of rt do; nothing is ready."""
         self.first()
         self.put("crates/ids/src/lib.rt", "other\n")
-        self.does("echo 'rt: ids proved (1 s)'\n"
+        self.does("echo 'library ids: modules loaded=3 checked=0'\n"
                   "(trap '' INT; sleep 30; echo x >late) & echo $! >child\necho half >target/bin/close_sheet\n"
                   "sleep 30\n")
         code, said = self.on_terminal("close-sheet", "a.sheet", interrupt_at=b"crate 1 of 4, ids")
