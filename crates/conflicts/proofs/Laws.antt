@@ -14,7 +14,7 @@ use Rattle.ids.specs.Table.{Sized, push_of, present, rewrite_into}
 use Rattle.ids.specs.declared.ElId.{ElId}
 use Rattle.ids.specs.declared.ElIds.{ElIds}
 use Rattle.ids.specs.Ids.{el_of, els_of, whole}
-use Rattle.ids.proofs.Views.{view_next, view_done, view_nil}
+use Rattle.ids.proofs.Views.{view_cons, view_next, view_done, view_nil}
 use Rattle.ids.proofs.Sorted.{no_test, rewrite_there}
 use Rattle.ids.proofs.Lists.{padded_view, says_held, as_given, as_held, given_held_alike}
 use Rattle.ids.proofs.Counted.{push_at, push_past}
@@ -27,14 +27,15 @@ use Rattle.semantics.specs.Conflicts.{Conflict, conflict, parents_match, disagre
 use Rattle.semantics.specs.Conflicts.{type_conflicts_of, finds_among, finds_at, finds_below, conflict_finds}
 use Rattle.semantics.proofs.Orders.{fact_ordered}
 use Rattle.semantics.specs.Calls.{Step}
-use Rattle.fact_rows.specs.View.{fact_in, facts_in}
 use Rattle.el_rows.specs.View.{TypesOf}
-use Rattle.el_rows.proofs.Taking.{next_row}
+use Rattle.facts.specs.declared.Fact as code
 use Rattle.conflicts.specs.declared.TypeConflict.{TypeConflict}
 use Rattle.conflicts.specs.declared.TypeConflicts.{TypeConflicts}
 use Rattle.conflicts.specs.View.{conflict_of, conflicts_of, given_conflict, given_conflicts, no_conflict, handed_conflict, handed_conflicts}
 use Rattle.conflicts.specs.declared.Conflicting.{Conflicting}
 use Rattle.conflicts.specs.View.{handed_conflicting, conflicts_in, finds_in, ParentsFound}
+use Rattle.facts.specs.View.{fact_of}
+use Rattle.rows.specs.View.{facts_in}
 
 -- A structure of which only links and facts are known.
 abbrev pub bare : List ℕ → List Fact → Structure
@@ -125,24 +126,27 @@ module _ (ls : List ℕ) (f g : Fact) where
     unfolding disagree
     all_alike m = rw (eq-eqb f.typ g.typ e, sym as_roots ∙ m)
 
--- The facts of a class, k rows searched in turn: R is its conflict.
-pub facts_start : (ls : List ℕ) (e k : ℕ) (rows : List (List ℕ)) (d : List ℕ) {f : Fact} → f ≡ fact_in (get_or rows 0 d)
-    → {ts : List Fact} → facts_in k rows ≡ ts → 0 < length ts
-    → (first_conflict ls e f (drop 1 (facts_in k rows)) ≡ conflict_among ls e (facts_in k rows)) × (length f.parents ≡ finds_among (facts_in k rows))
+-- The facts of a class, the first k of a table searched in turn: R is its conflict.
+pub facts_start : (ls : List ℕ) (e k : ℕ) (rows : List code.Fact) (d : code.Fact)
+    → {ts : List Fact} → facts_in k rows ≡ ts → 0 < length ts → let f = fact_of (get_or rows 0 d) in
+    (first_conflict ls e f (drop 1 (facts_in k rows)) ≡ conflict_among ls e (facts_in k rows)) × (length f.parents ≡ finds_among (facts_in k rows))
 unfolding first_conflict conflict_among finds_among
-facts_start ls e zero rows d is are some = absurd (omega (arith, ap length are))
-facts_start ls e (suc k) [] d is are some = absurd (omega (arith, ap length are))
-facts_start ls e (suc k) (r ∷ rows) d is are some = (ap (λ (f : Fact). first_conflict ls e f (facts_in k rows)) is, ap (λ (f : Fact). length f.parents) is)
+facts_start ls e zero rows d are some = absurd (omega (arith, ap length are))
+facts_start ls e (suc k) [] d are some = absurd (omega (arith, ap length are))
+facts_start ls e (suc k) (r ∷ rows) d are some = (refl, refl)
 
-module _ (ls : List ℕ) (e : ℕ) (f : Fact) (k : ℕ) (rows : List (List ℕ)) (j : ℕ) {R : List Conflict}
+module _ (ls : List ℕ) (e : ℕ) (f : Fact) (k : ℕ) (rows : List code.Fact) (j : ℕ) {R : List Conflict}
     (so_far : first_conflict ls e f (drop j (facts_in k rows)) ≡ R) where
   pub facts_done : k ≤ j → [] ≡ R
   unfolding first_conflict
-  facts_done h = ap (first_conflict ls e f) (sym (view_nil fact_in k rows j h)) ∙ so_far
+  facts_done h = ap (first_conflict ls e f) (sym (view_nil fact_of k rows j h)) ∙ so_far
 
-  module _ (d : List ℕ) {g : Fact} (is : g ≡ fact_in (get_or rows j d)) (at : j < k) (there : k ≤ length rows) where
+  module _ (d : code.Fact) (at : j < k) (there : k ≤ length rows) where
+    abbrev g : Fact
+    g = fact_of (get_or rows j d)
+
     search_on : first_conflict ls e f (g ∷ drop (j + 1) (facts_in k rows)) ≡ R
-    search_on = ap (first_conflict ls e f) (next_row k rows j d is at there) ∙ so_far
+    search_on = ap (first_conflict ls e f) (sym (view_cons fact_of k rows j d at (omega arith))) ∙ so_far
 
     pub facts_agree : disagree ls f g ≡ false → first_conflict ls e f (drop (j + 1) (facts_in k rows)) ≡ R
     unfolding first_conflict
@@ -248,7 +252,7 @@ module _ (s : Structure) (e : ℕ) where
 
 -- The loops of the search, over the classes below n and over the k facts of the class e, of which the first is f.
 
-pub record AtClass (s : Structure) (n : ℕ) (types : List (List ℕ)) (out : TypeConflicts) (finds e : ℕ) : Type 0 where
+pub record AtClass (s : Structure) (n : ℕ) (types : List code.Fact) (out : TypeConflicts) (finds e : ℕ) : Type 0 where
   pub within : e ≤ n
   pub long : length types ≡ max_facts
   pub so_far : SoFar s e out finds
@@ -288,7 +292,7 @@ module _ (s : Structure) (e : ℕ) {ts : List Fact} {p : ℕ} (are : ts ≡ orde
         ∙ on s e));
   }
 
-pub record AtFact (s : Structure) (n : ℕ) (types : List (List ℕ)) (out : TypeConflicts) (finds e k : ℕ) (f : Fact) (roots : List ℕ) (j : ℕ) : Type 0 where
+pub record AtFact (s : Structure) (n : ℕ) (types : List code.Fact) (out : TypeConflicts) (finds e k : ℕ) (f : Fact) (roots : List ℕ) (j : ℕ) : Type 0 where
   pub below : e < n
   pub room : e < max_els
   pub few : k ≤ max_facts
@@ -298,13 +302,13 @@ pub record AtFact (s : Structure) (n : ℕ) (types : List (List ℕ)) (out : Typ
   pub rest : first_conflict s.links e f (drop j (facts_in k types)) ≡ conflict_among s.links e (facts_in k types)
 
 -- at the second fact of a class, whose facts are taken from a list that has them all
-pub second_fact : (s : Structure) (n e : ℕ) {fs : List Fact} {types : List (List ℕ)} {k : ℕ} → TypesOf s.links fs e types k → root_of s.links e ≡ e
-    → 2 ≤ length (facts_at e s.facts) → facts_at e fs ≡ facts_at e s.facts → e < n → e < max_els → {f : Fact} → f ≡ fact_in (get_or types 0 [])
-    → {roots : List ℕ} {p : ℕ} → ParentsFound s.links f roots p → {out : TypeConflicts} {finds : ℕ} → SoFar s e out finds
-    → AtFact s n types out (finds + p) e k f roots 1
-second_fact s n e {fs} {types} {k} t root two same at room is parents found =
+pub second_fact : (s : Structure) (n e : ℕ) (d : code.Fact) {fs : List Fact} {types : List code.Fact} {k : ℕ} {roots : List ℕ} {p : ℕ} {out : TypeConflicts} {finds : ℕ}
+    → TypesOf s.links fs e types k → root_of s.links e ≡ e → 2 ≤ length (facts_at e s.facts) → facts_at e fs ≡ facts_at e s.facts → e < n → e < max_els
+    → ParentsFound s.links (fact_of (get_or types 0 d)) roots p → SoFar s e out finds
+    → AtFact s n types out (finds + p) e k (fact_of (get_or types 0 d)) roots 1
+second_fact s n e d {fs} {types} {k} t root two same at room parents found =
     let ordered = t.is ∙ two_facts s e root two fs same in
-    let starts = facts_start s.links e k types [] is ordered (one_ordered s e root two) in
+    let starts = facts_start s.links e k types d ordered (one_ordered s e root two) in
     record {
       below = at;
       room = room;
@@ -315,7 +319,7 @@ second_fact s n e {fs} {types} {k} t root two same at room is parents found =
       rest = starts.0;
     }
 
-module _ {s : Structure} {n : ℕ} {types : List (List ℕ)} {out : TypeConflicts} {finds e k : ℕ} {f : Fact} {roots : List ℕ} {j : ℕ}
+module _ {s : Structure} {n : ℕ} {types : List code.Fact} {out : TypeConflicts} {finds e k : ℕ} {f : Fact} {roots : List ℕ} {j : ℕ}
     (l : AtFact s n types out finds e k f roots j) where
   -- the next class, where the element and the conflicts are still those
   next_class : {e' : ℕ} → e' ≡ e → {next : TypeConflicts} → SoFar s (e + 1) next finds → AtClass s n types next finds (e' + 1)
@@ -333,18 +337,21 @@ module _ {s : Structure} {n : ℕ} {types : List (List ℕ)} {out : TypeConflict
   class_done same {out'} kept h =
       next_class same (subst (λ (t : TypeConflicts). SoFar s (e + 1) t finds) (sym kept) (l.class.no_conflict_lem (facts_done s.links e f k types j l.rest h)))
 
-  -- at the fact j, which says g
-  module _ (d : List ℕ) {g : Fact} (is : g ≡ fact_in (get_or types j d)) (at : j < k) where
+  -- at the fact j
+  module _ (d : code.Fact) (at : j < k) where
+    abbrev next : Fact
+    next = fact_of (get_or types j d)
+
     -- it disagrees, and is put at the end
-    pub class_conflict : {e' : ℕ} → e' ≡ e → {out' : TypeConflicts} → out' ≡ out → {next : TypeConflicts}
-        → handed_conflicts next ≡ whole (push_of max_els (conflicts_of out') (conflict e f g)) → disagree s.links f g ≡ true → AtClass s n types next finds (e' + 1)
+    pub class_conflict : {e' : ℕ} → e' ≡ e → {out' : TypeConflicts} → out' ≡ out → {then : TypeConflicts}
+        → handed_conflicts then ≡ whole (push_of max_els (conflicts_of out') (conflict e f next)) → disagree s.links f next ≡ true → AtClass s n types then finds (e' + 1)
     class_conflict same kept put d' =
         next_class same
-        (l.class.one_conflict (put ∙ ap (λ (t : TypeConflicts). whole (push_of max_els (conflicts_of t) (conflict e f g))) kept)
-        (facts_conflict s.links e f k types j l.rest d is at (omega (arith, l.few, l.long)) d'))
+        (l.class.one_conflict (put ∙ ap (λ (t : TypeConflicts). whole (push_of max_els (conflicts_of t) (conflict e f next))) kept)
+        (facts_conflict s.links e f k types j l.rest d at (omega (arith, l.few, l.long)) d'))
 
     -- it agrees
-    pub next_fact : disagree s.links f g ≡ false → AtFact s n types out finds e k f roots (j + 1)
+    pub next_fact : disagree s.links f next ≡ false → AtFact s n types out finds e k f roots (j + 1)
     next_fact a = record {
       below = l.below;
       room = l.room;
@@ -352,7 +359,7 @@ module _ {s : Structure} {n : ℕ} {types : List (List ℕ)} {out : TypeConflict
       long = l.long;
       roots_are = l.roots_are;
       class = l.class;
-      rest = facts_agree s.links e f k types j l.rest d is at (omega (arith, l.few, l.long)) a;
+      rest = facts_agree s.links e f k types j l.rest d at (omega (arith, l.few, l.long)) a;
     }
 
 -- The conflicts of an array, handed back: what they are given as is what is held, also with one more at the end.

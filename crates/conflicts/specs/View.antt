@@ -10,11 +10,12 @@ use Rattle.semantics.specs.Calls.{conflicting, Step, answers, machine}
 use Rattle.unification.specs.Roots.{max_els, root_of}
 use Rattle.facts.specs.declared.Fact as code
 use Rattle.facts.specs.View.{fact_of, given_fact}
-use Rattle.fact_rows.specs.View.{facts_in}
 use Rattle.structure.specs.View.{structure_of}
+use Rattle.conflicts.specs.declared.FactRange.{FactRange}
 use Rattle.conflicts.specs.declared.TypeConflict.{TypeConflict}
 use Rattle.conflicts.specs.declared.TypeConflicts.{TypeConflicts}
 use Rattle.conflicts.specs.declared.Conflicting.{Conflicting}
+use Rattle.rows.specs.View.{facts_in}
 
 abbrev pub conflict_of : TypeConflict → Conflict
 conflict_of c = conflict c.el.0 (fact_of c.a) (fact_of c.b)
@@ -55,18 +56,23 @@ pub record ParentsFound (ls : List ℕ) (f : Fact) (roots : List ℕ) (finds : �
   pub each : finds ≡ length f.parents
   pub few : finds ≤ max_list
 
--- where the facts of an element stand among the first m rows: none before the first number, none from the second on (`from` is what the
--- next turn of the loop needs, which replaces the second); the third says how many there are
-pub record Span (rows : List (List ℕ)) (m el : ℕ) (span : List ℕ) : Type 0 where
-  pub first_within : get_or span 0 0 ≤ m
-  pub last_within : get_or span 1 0 ≤ m
-  pub from : facts_at el (drop (get_or span 0 0) (facts_in m rows)) ≡ facts_at el (facts_in m rows)
-  pub between : facts_at el (drop (get_or span 0 0) (facts_in (get_or span 1 0) rows)) ≡ facts_at el (facts_in m rows)
-  pub count : get_or span 2 0 ≡ length (facts_at el (facts_in m rows))
+-- where the facts of an element stand among the first m of some facts: none before the first number, none from the second on (`from` is
+-- what the next turn of the loop needs, which replaces the second); the third says how many there are
+pub record Span (facts : List code.Fact) (m el : ℕ) (span : FactRange) : Type 0 where
+  pub first_within : span.first ≤ m
+  pub last_within : span.end ≤ m
+  pub ordered : span.first ≤ span.end
+  pub from : facts_at el (drop span.first (facts_in m facts)) ≡ facts_at el (facts_in m facts)
+  pub between : facts_at el (drop span.first (facts_in span.end facts)) ≡ facts_at el (facts_in m facts)
+  pub count : span.count ≡ length (facts_at el (facts_in m facts))
 
-pub record Spans (rows : List (List ℕ)) (m : ℕ) (spans : List (List ℕ)) : Type 0 where
+-- what stands for a span past the last element
+abbrev pub no_span : FactRange
+no_span = record { first = 0; end = 0; count = 0 }
+
+pub record Spans (facts : List code.Fact) (m : ℕ) (spans : List FactRange) : Type 0 where
   pub long : length spans ≡ max_els
-  pub each : (el : ℕ) → el < max_els → Span rows m el (get_or spans el [])
+  pub each : (el : ℕ) → el < max_els → Span facts m el (get_or spans el no_span)
 
 -- the step of a machine whose signature is g, with the conflicts as they are given
 abbrev pub given_conflicting : Sig → Conflicting → Step

@@ -1,7 +1,7 @@
 // Classes whose facts disagree (structure.rs, `type_conflicts`).
 #![tactic(auto)]
 
-ghost use Rattle.std.specs.Prelude.{◌≡◌, [], ◌≤◌, length};
+ghost use Rattle.std.specs.Prelude.{◌≡◌, [], ◌≤◌, length, map};
 ghost use Rattle.ids.specs.Table.{Sized, push_of};
 ghost use Rattle.ids.specs.Ids.{els_of, whole};
 ghost use Rattle.unification.specs.Roots.{max_els};
@@ -9,14 +9,12 @@ ghost use Rattle.signature.specs.Model.{Sig};
 ghost use Rattle.semantics.specs.Structure.{max_facts};
 ghost use Rattle.semantics.specs.Calls.{type_conflicts, machine, step};
 ghost use Rattle.facts.specs.View.{fact_of};
-ghost use Rattle.fact_rows.specs.View.{facts_in};
 ghost use Rattle.el_rows.specs.View.{links_in};
 ghost use Rattle.structure.specs.View.{structure_of};
 ghost use Rattle.conflicts.specs.View.{conflict_of, conflicts_of, given_conflicts, conflicts_in, finds_in, ParentsFound, Spans};
 ghost use Rattle.conflicts.specs.View.{handed_fact, handed_conflict, handed_conflicts, handed_conflicting};
 
-use el_rows::{EL_WIDTH, ElRow};
-use fact_rows::{FACT_WIDTH, FactRow};
+use el_rows::El;
 use facts::{ConcreteType, Fact};
 use ids::{ElId, ElIds, TypeId};
 use structure::{Answer, Structure};
@@ -59,11 +57,14 @@ struct ParentRoots {
     finds: u16,
 }
 
-// How many numbers say where the facts of an element stand.
-const SPAN_WIDTH: usize = 3;
-
-// The row of the first fact of an element, the row past the last, and how many there are; all 0 where it has none.
-type SpanRow = [u16; SPAN_WIDTH];
+// Where the facts of an element stand in a table: the first of them, the index past the last, and how many there are; all 0 where
+// it has none.
+#[derive(Clone, Copy)]
+struct FactRange {
+    first: u16,
+    end: u16,
+    count: u16,
+}
 
 // A fact whose list says the length that it has.
 fn clamped(fact: Fact) -> Fact
@@ -138,40 +139,46 @@ impl TypeConflicts {
     }
 }
 
-// Where the facts of each element stand among the first m. In a table that is in order they stand together.
-fn spans_of(facts: &[FactRow], m: usize) -> [SpanRow; Structure::MAX_ELS]
-    requires { (m ≤ length facts.now) × (m ≤ max_facts) }
-    ensures { Spans facts.now m result }
+// Where the facts of each element stand. In a table that is in order they stand together.
+fn spans_of(facts: &[Fact]) -> [FactRange; Structure::MAX_ELS]
+    requires { length facts.now ≤ max_facts }
+    ensures { Spans facts.now (length facts.now) result }
 {
-    let mut spans = [[0u16; SPAN_WIDTH]; Structure::MAX_ELS];
-    for i in 0..m {
-        let here = fact_rows::fact_of(facts[i]);
+    let none = FactRange {
+        first: 0,
+        end: 0,
+        count: 0,
+    };
+    let mut spans = [none; Structure::MAX_ELS];
+    for (i, here) in facts.iter().enumerate() {
         let el = here.el.0 as usize;
         if Structure::MAX_ELS <= el {
             continue;
         }
-        let span = spans[el];
-        let count = span[2];
-        let mut first = span[0];
+        let count = spans[el].count;
+        let mut first = spans[el].first;
         if count == 0 {
             first = i as u16;
         }
-        spans[el] = [first, (i + 1) as u16, count + 1];
+        spans[el] = FactRange {
+            first,
+            end: (i + 1) as u16,
+            count: count + 1,
+        };
     }
     spans
 }
 
 // The root of each parent is found once, and the count steps with it.
-fn find_parents(els: &[ElRow], n: usize, fact: Fact) -> ParentRoots
-    requires { n ≤ length els.now }
-    ensures { ParentsFound (links_in n els.now) (fact_of fact) (els_of result.roots) result.finds }
+fn find_parents(els: &[El], fact: Fact) -> ParentRoots
+    ensures { ParentsFound (links_in els.now) (fact_of fact) (els_of result.roots) result.finds }
 {
     let parents = fact.ct.parents;
     let k = parents.size();
     let mut roots = parents;
     let mut finds: u16 = 0;
     for i in 0..k {
-        let root = el_rows::find(els, n, parents.ids[i]);
+        let root = el_rows::find(els, parents.ids[i]);
         finds += 1;
         roots.ids[i] = root;
     }
@@ -179,34 +186,34 @@ fn find_parents(els: &[ElRow], n: usize, fact: Fact) -> ParentRoots
 }
 
 // In each class the first later fact that disagrees with its first; then the search moves on to the next class.
-fn find_conflicts(els: &[ElRow], n: usize, facts: &[FactRow], m: usize) -> Searched
-    requires { (n ≤ length els.now) × ((n ≤ max_els) × ((m ≤ length facts.now) × (m ≤ max_facts))) }
-    ensures { (handed_conflicts result.conflicts ≡ whole (conflicts_in (links_in n els.now) (facts_in m facts.now)))
-        × (result.finds ≡ finds_in (links_in n els.now) (facts_in m facts.now)) }
+fn find_conflicts(els: &[El], facts: &[Fact]) -> Searched
+    requires { (length els.now ≤ max_els) × (length facts.now ≤ max_facts) }
+    ensures { (handed_conflicts result.conflicts ≡ whole (conflicts_in (links_in els.now) (map fact_of facts.now)))
+        × (result.finds ≡ finds_in (links_in els.now) (map fact_of facts.now)) }
 {
-    let spans = spans_of(facts, m);
-    let mut types = [[0u16; FACT_WIDTH]; Structure::MAX_FACTS];
+    let spans = spans_of(facts);
+    let none = Fact::new(ElId(0), TypeId(0), ElIds::new());
+    let mut types = [none; Structure::MAX_FACTS];
     let mut conflicts = TypeConflicts::new();
     let mut finds: u16 = 0;
-    'classes: for e in 0..n {
+    'classes: for e in 0..els.len() {
         let number = e as u16;
         let el = ElId(number);
-        let root = el_rows::find(els, n, el);
+        let root = el_rows::find(els, el);
         if root.0 != el.0 {
             continue;
         }
         let span = spans[e];
-        if span[2] < 2 {
+        if span.count < 2 {
             continue;
         }
-        let from = span[0] as usize;
-        let to = span[1] as usize;
-        let k = el_rows::concrete_types_of(els, n, facts, from, to, el, &mut types);
-        let a = fact_rows::fact_of(types[0]);
-        let first = find_parents(els, n, a);
+        let at = &facts[span.first as usize..span.end as usize];
+        let k = el_rows::concrete_types_of(els, at, el, &mut types);
+        let a = types[0];
+        let first = find_parents(els, a);
         finds += first.finds;
         'stored: for j in 1..k {
-            let b = fact_rows::fact_of(types[j]);
+            let b = types[j];
             if a.ct.typ.0 != b.ct.typ.0 {
                 conflicts = conflicts.push(TypeConflict { el, a, b });
                 continue 'classes;
@@ -219,7 +226,7 @@ fn find_conflicts(els: &[ElRow], n: usize, facts: &[FactRow], m: usize) -> Searc
                 if other <= i {
                     continue 'paired;
                 }
-                let q = el_rows::find(els, n, qs.ids[i]);
+                let q = el_rows::find(els, qs.ids[i]);
                 if ps.ids[i].0 != q.0 {
                     conflicts = conflicts.push(TypeConflict { el, a, b });
                     continue 'classes;
@@ -236,17 +243,18 @@ pub fn type_conflicts(structure: Structure) -> Conflicting
 {
     let unification = structure.unification;
     let table = structure.els;
-    let n = unification.size();
-    let m = table.size();
     let links = unification.links;
     let marks = structure.inferred_parent_els;
-    let mut els = [[0u16; EL_WIDTH]; Structure::MAX_ELS];
-    el_rows::fill_els(&mut els, n, links, marks);
-    let mut facts = [[0u16; FACT_WIDTH]; Structure::MAX_FACTS];
-    for i in 0..m {
-        facts[i] = fact_rows::row_of(table.items[i]);
-    }
-    let searched = find_conflicts(&els, n, &facts, m);
+    let n = unification.size();
+    let m = table.size();
+    let none = El {
+        link: 0,
+        marked: false,
+    };
+    let mut rows = [none; Structure::MAX_ELS];
+    let els = &mut rows[..n];
+    el_rows::fill_els(els, &links, &marks);
+    let searched = find_conflicts(els, &table.items[..m]);
     let conflicts = searched.conflicts;
     let finds = searched.finds;
     let stepped = structure.accept(Answer::Conflicting(finds));

@@ -1,11 +1,12 @@
 -- Laws of the look that tells whether an imposing merges parents: of two parents, of two lists, and of the facts of an element and a type.
 use mathlib.Core.Path.{◌≡◌, refl, sym, ap, subst, ◌∙◌}
 use mathlib.Core.Bool.{Bool, true, false, not, ◌&&◌, ◌||◌}
-use mathlib.Core.List.{List, [], ◌∷◌}
+use mathlib.Core.List.{List, [], ◌∷◌, map}
 use Prim.Native.Nat.{ℕ, zero, suc, ◌+◌, ◌-◌, ◌≤◌, ◌<◌}
 use native.Mathlib.Omega.{arith}
-use lib.ListN.{length, take, drop, get_or, drop_of_length-le}
-use lib.Seq.{drop-drop}
+use lib.ListN.{length, take, drop, get_or, get_or-map, length-map, length-take, length-drop, drop_of_length-le}
+use lib.Seq.{drop-drop, drop-cons, get_or-drop, take_all}
+use native.Mathlib.Numerals.{add-one}
 use lib.Dec.{eqb}
 use borrow.Author.Tests.{eq-eqb, ne_eqb, eqb-true}
 use Rattle.ids.specs.declared.Ordering.{Ordering}
@@ -188,6 +189,14 @@ sorted_drop : {A : Type 0} (cmp : A → A → Ordering) (k : ℕ) (l : List A) �
 sorted_drop cmp zero l h = h
 sorted_drop cmp (suc k) [] h = h
 sorted_drop cmp (suc k) (x ∷ xs) h = sorted_drop cmp k xs h.1
+
+-- the entry i of the slice that begins at the index k
+pub slice_next : {A B : Type 0} (f : A → B) (xs : List A) (k i : ℕ) (d : A) → i < length (take (length xs - k) (drop k xs))
+    → drop (k + i) (map f xs) ≡ f (get_or (take (length xs - k) (drop k xs)) i d) ∷ drop (k + i + 1) (map f xs)
+slice_next f xs k i d h =
+    let whole : take (length xs - k) (drop k xs) ≡ drop k xs = take_all (length xs - k) (drop k xs) (omega (arith, length-drop k xs)) in
+    let at : k + i < length (map f xs) = omega (arith, length-take (length xs - k) (drop k xs), length-drop k xs, length-map xs f) in
+    rw (whole, add-one (k + i), drop-cons (map f xs) (k + i) (f d) at, get_or-map f xs (k + i) d, get_or-drop k xs i d) refl
 
 -- The look through the facts fs from an index on.
 module _ (ls : List ℕ) (ms : List Bool) (root : ℕ) (f : Fact) (fs : List Fact) where

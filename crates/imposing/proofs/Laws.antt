@@ -1,8 +1,7 @@
 -- Laws of the passes that impose facts: what each definition does with an entry.
 use mathlib.Core.Path.{◌≡◌, refl, sym, ap, ◌∙◌}
 use mathlib.Core.Bool.{Bool, true, false, not, ◌||◌}
-use mathlib.Core.List.{List, [], ◌∷◌, ◌++◌}
-use mathlib.Core.Option.{some}
+use mathlib.Core.List.{List, [], ◌∷◌, ◌++◌, map}
 use Prim.Native.Nat.{ℕ, ◌+◌, ◌≤◌, ◌<◌, min, max}
 use native.Mathlib.Numerals.{add-one}
 use native.Mathlib.Omega.{arith}
@@ -18,28 +17,31 @@ use Rattle.ids.specs.declared.ElIds.{ElIds}
 use Rattle.ids.proofs.Answers.{and_right}
 use Rattle.ids.proofs.Sorted.{placed_sorted}
 use Rattle.ids.proofs.Tables.{at_present, before_spot}
-use Rattle.ids.proofs.Views.{length_view, view_nil, view_placed, view_next, view_done}
+use Rattle.ids.proofs.Views.{length_view, view_placed, view_next, view_done}
 use Rattle.rows.specs.Table.{RowPlaced}
+use Rattle.rows.proofs.Halving.{items_next, items_done}
+use Rattle.std.specs.declared.option.Option as option
+use Rattle.equalities.specs.declared.Pair.{Pair}
+use Rattle.el_rows.specs.declared.El.{El}
 use Rattle.unification.specs.Roots.{root_of}
-use Rattle.semantics.specs.Structure.{Fact, Pair, pair, max_facts, compare_fact, canonical_fact}
+use Rattle.semantics.specs.Structure.{Fact, pair, max_facts, compare_fact, canonical_fact}
+use Rattle.semantics.specs.Structure as model
 use Rattle.semantics.specs.Types as types
 use Rattle.semantics.specs.Types.{core, with_pairs, first_met, marked, merge, join_roots, join, drain_pairs, drain, refine_roots, refine, refine_parents}
 use Rattle.semantics.specs.Types.{refine_all, insert_fact, insert_canonical, concrete_types_of, impose, impose_all}
 use Rattle.semantics.proofs.Orders.{fact_ordered}
 use Rattle.facts.specs.declared.Fact as code
-use Rattle.facts.specs.declared.Impositions.{Impositions}
-use Rattle.facts.specs.View.{fact_of, impositions_of}
-use Rattle.fact_rows.specs.View.{fact_in, facts_in}
+use Rattle.facts.specs.View.{fact_of}
 use Rattle.merging.specs.declared.Tally.{Tally}
 use Rattle.merging.specs.View.{with_insertion_counted, lent, met_of, core_of, ElsHeld, FactsHeld, PairsHeld, LentHeld}
 use Rattle.merging.proofs.Laws.{idle}
-use Rattle.el_rows.proofs.Taking.{next_row}
 use Rattle.imposing.specs.View.{InsertsFact, refined}
+use Rattle.rows.specs.View.{facts_in}
 
 -- Two parents.
 
 -- a pair joined before the queue is drained is drained first
-join_drained : (p : Pair) (w : types.Core) → drain (join p w) ≡ drain (with_pairs (p ∷ w.pairs) w)
+join_drained : (p : model.Pair) (w : types.Core) → drain (join p w) ≡ drain (with_pairs (p ∷ w.pairs) w)
 unfolding join join_roots merge drain drain_pairs
 join_drained p w = go (eqb a b)
   where
@@ -102,38 +104,34 @@ module _ (ps qs : ElIds) (i : ℕ) where
   unfolding refine_parents
   parents_done h w = ap (λ (l : List ℕ). refine_parents l (drop i (els_of qs)) w) (sym (view_done el_of ps.len ps.ids i h))
 
--- The types of an element, a table of facts, against a fact f: at the row i, which says g.
-module _ (n : ℕ) (rows : List (List ℕ)) (i : ℕ) where
-  module _ (d : List ℕ) {g : Fact} (is : g ≡ fact_in (get_or rows i d)) (at : i < n) (there : n ≤ length rows) (f : Fact) where
+-- The types ts of an element, against a fact f: at the type i.
+module _ (ts : List code.Fact) (i : ℕ) (f : Fact) where
+  module _ (d : code.Fact) (at : i < length ts) where
+    abbrev here : Fact
+    here = fact_of (get_or ts i d)
+
     -- a fact of the same type
-    pub all_same : g.typ ≡ f.typ → (w : types.Core)
-        → refine_all (drop (i + 1) (facts_in n rows)) f (refine_parents g.parents f.parents w) ≡ refine_all (drop i (facts_in n rows)) f w
+    pub all_same : here.typ ≡ f.typ → (w : types.Core)
+        → refine_all (map fact_of (drop (i + 1) ts)) f (refine_parents here.parents f.parents w) ≡ refine_all (map fact_of (drop i ts)) f w
     unfolding refine_all
     all_same e w =
-        sym (rw (eq-eqb g.typ f.typ e, refine_all)) ∙ ap (λ (l : List Fact). refine_all l f w) (next_row n rows i d is at there)
+        sym (rw (eq-eqb here.typ f.typ e, refine_all)) ∙ ap (λ (l : List Fact). refine_all l f w) (sym (items_next fact_of ts i d at))
 
     -- a fact of another type
-    pub all_other : (g.typ ≡ f.typ → ⊥) → (w : types.Core)
-        → refine_all (drop (i + 1) (facts_in n rows)) f w ≡ refine_all (drop i (facts_in n rows)) f w
+    pub all_other : (here.typ ≡ f.typ → ⊥) → (w : types.Core)
+        → refine_all (map fact_of (drop (i + 1) ts)) f w ≡ refine_all (map fact_of (drop i ts)) f w
     unfolding refine_all
     all_other e w =
-        sym (rw (ne_eqb g.typ f.typ e, refine_all)) ∙ ap (λ (l : List Fact). refine_all l f w) (next_row n rows i d is at there)
+        sym (rw (ne_eqb here.typ f.typ e, refine_all)) ∙ ap (λ (l : List Fact). refine_all l f w) (sym (items_next fact_of ts i d at))
 
   -- all are done
-  pub all_done : n ≤ i → (f : Fact) (w : types.Core) → w ≡ refine_all (drop i (facts_in n rows)) f w
+  pub all_done : length ts ≤ i → (w : types.Core) → w ≡ refine_all (map fact_of (drop i ts)) f w
   unfolding refine_all
-  all_done past f w = ap (λ (l : List Fact). refine_all l f w) (sym (view_nil fact_in n rows i past))
+  all_done past w = ap (λ (l : List Fact). refine_all l f w) (sym (items_done fact_of ts i past))
 
 -- A fact inserted.
 
--- the number first met stays
-pub met_first : (n : ℕ) → n ≡ 0 → met_of too_many_facts ≡ first_met too_many_facts (met_of n)
-met_first n e = ap (λ (k : ℕ). first_met too_many_facts (met_of k)) (sym e)
-
-pub met_again : (n : ℕ) → (n ≡ 0 → ⊥) → met_of n ≡ first_met too_many_facts (met_of n)
-met_again n d = let e : met_of n ≡ some n = rw (ne_eqb n 0 d, met_of) in e ∙ sym (ap (first_met too_many_facts) e)
-
-module _ (facts : List (List ℕ)) (c : Tally) (f : Fact) (held : FactsHeld facts c) (k : ℕ) where
+module _ (facts : List code.Fact) (c : Tally) (f : Fact) (held : FactsHeld facts c) (k : ℕ) where
   -- it is there
   pub known : position_from compare_fact f 0 (facts_in c.facts facts) ≡ At k → InsertsFact facts c facts c f
   unfolding insert_fact
@@ -148,22 +146,22 @@ module _ (facts : List (List ℕ)) (c : Tally) (f : Fact) (held : FactsHeld fact
     spot = before_spot compare_fact f k (facts_in c.facts facts) place
 
     many : c.facts ≡ length (facts_in c.facts facts)
-    many = omega (arith, length_view fact_in c.facts facts, held.long, held.few)
+    many = omega (arith, length_view fact_of c.facts facts, held.long, held.few)
 
     pub place_most : k ≤ c.facts
     place_most = omega (arith, spot.1.0, many)
 
     -- the tables hold with other facts
-    holds_still : (facts' : List (List ℕ)) (n a m : ℕ) → FactsHeld facts' (with_insertion_counted n a m c) → (els pairs : List (List ℕ))
+    holds_still : (facts' : List code.Fact) (n a : ℕ) (m : option.Option ℕ) → FactsHeld facts' (with_insertion_counted n a m c) → (els : List El) (pairs : List Pair)
         → ElsHeld els c → PairsHeld pairs c → LentHeld (lent els facts' pairs (with_insertion_counted n a m c))
     holds_still facts' n a m fh els pairs eh ph = record {
-      els_held = record { long = eh.long; few = eh.few; unmarked = eh.unmarked };
+      els_held = record { unmarked = eh.unmarked };
       facts_held = fh;
       pairs_held = record { long = ph.long; few = ph.few };
     }
 
     -- there is no room
-    pub no_room_lem : (m : ℕ) → max_facts ≤ c.facts → met_of m ≡ first_met too_many_facts (met_of c.met)
+    pub no_room_lem : (m : option.Option ℕ) → max_facts ≤ c.facts → met_of m ≡ first_met too_many_facts (met_of c.met)
         → InsertsFact facts c facts (with_insertion_counted c.facts c.added m c) f
     unfolding insert_fact
     no_room_lem m h e els pairs eh ph = record {
@@ -177,7 +175,7 @@ module _ (facts : List (List ℕ)) (c : Tally) (f : Fact) (held : FactsHeld fact
     }
 
     -- there is
-    pub has_room : (facts' : List (List ℕ)) (row : List ℕ) → c.facts < max_facts → fact_in row ≡ f → RowPlaced c.facts k row facts facts'
+    pub has_room : (facts' : List code.Fact) (row : code.Fact) → c.facts < max_facts → fact_of row ≡ f → RowPlaced c.facts k row facts facts'
         → InsertsFact facts c facts' (with_insertion_counted (c.facts + 1) (c.added + 1) c.met c) f
     unfolding insert_fact
     has_room facts' row h is put els pairs eh ph = record {
@@ -196,7 +194,7 @@ module _ (facts : List (List ℕ)) (c : Tally) (f : Fact) (held : FactsHeld fact
       where
         now : facts_in (c.facts + 1) facts' ≡ placed compare_fact f (facts_in c.facts facts)
         now =
-            view_placed fact_in c.facts facts facts' row c.facts k (c.facts + 1) many place_most refl put.is
+            view_placed fact_of c.facts facts facts' row c.facts k (c.facts + 1) many place_most refl put.is
             ∙ ap (λ (x : Fact). take k (facts_in c.facts facts) ++ x ∷ drop k (facts_in c.facts facts)) is
             ∙ sym spot.1.1
 
@@ -216,13 +214,13 @@ pub inserted_canonical : (f : Fact) (w : types.Core) {x : Fact} → x ≡ canoni
 unfolding insert_canonical
 inserted_canonical f w e = ap (λ (x : Fact). insert_fact x w) e
 
--- The impositions of a queue.
-module _ (t : Impositions) (i : ℕ) where
-  pub impositions_next : (d : code.Fact) → i < length (impositions_of t) → (w : types.Core)
-      → impose_all (drop (i + 1) (impositions_of t)) (impose (fact_of (get_or t.items i d)) w) ≡ impose_all (drop i (impositions_of t)) w
+-- Impositions, one after the other.
+module _ (fs : List code.Fact) (i : ℕ) where
+  pub impositions_next : (d : code.Fact) → i < length fs → (w : types.Core)
+      → impose_all (map fact_of (drop (i + 1) fs)) (impose (fact_of (get_or fs i d)) w) ≡ impose_all (map fact_of (drop i fs)) w
   unfolding impose_all
-  impositions_next d h w = ap (λ (l : List Fact). impose_all l w) (sym (view_next fact_of t.len t.items i d h))
+  impositions_next d h w = ap (λ (l : List Fact). impose_all l w) (sym (items_next fact_of fs i d h))
 
-  pub impositions_done : length (impositions_of t) ≤ i → (w : types.Core) → w ≡ impose_all (drop i (impositions_of t)) w
+  pub impositions_done : length fs ≤ i → (w : types.Core) → w ≡ impose_all (map fact_of (drop i fs)) w
   unfolding impose_all
-  impositions_done h w = ap (λ (l : List Fact). impose_all l w) (sym (view_done fact_of t.len t.items i h))
+  impositions_done h w = ap (λ (l : List Fact). impose_all l w) (sym (items_done fact_of fs i h))

@@ -1,14 +1,11 @@
 -- Laws of passes in progress: how a pass begins, takes a step, and what it is said to do; and of the number first met.
 use mathlib.Core.Path.{◌≡◌, refl, sym, ap, ◌∙◌}
-use mathlib.Core.Bool.{Bool, true, false}
-use mathlib.Core.List.{List}
-use mathlib.Core.Option.{Option, none, some}
 use Prim.Native.Nat.{ℕ, ◌+◌, ◌*◌, ◌≤◌}
 use native.Mathlib.Nat.{add-mul, mul-le-mul_right}
 use native.Mathlib.Omega.{arith}
-use lib.ListN.{get_or}
-use lib.Dec.{eqb}
-use borrow.Author.Tests.{ne_eqb}
+use Rattle.std.specs.declared.option.Option as option
+use Rattle.std.specs.declared.option.Option.TheVariants.{None, Some}
+use Rattle.std.specs.Option.{option_or}
 use Rattle.semantics.specs.Types as types
 use Rattle.merging.specs.View.{Lent, core_of, met_of, LentHeld, RoomToCount, Toward, Passes}
 
@@ -52,16 +49,6 @@ module _ {before now : Lent} {most : ℕ} {rest whole : types.Core → types.Cor
   pub room_left : (more : ℕ) {total : ℕ} → RoomToCount total before.counts → most + more ≤ total → RoomToCount more now.counts
   room_left more r h = omega (arith, r, h, so_far.count_most)
 
-  -- what it keeps
-  pub els_kept : now.counts.els ≡ before.counts.els
-  els_kept = ap (λ (l : List ℕ). get_or l 0 0) so_far.kept
-
-  pub func_apps_kept : now.counts.func_apps ≡ before.counts.func_apps
-  func_apps_kept = ap (λ (l : List ℕ). get_or l 1 0) so_far.kept
-
-  pub pred_apps_kept : now.counts.pred_apps ≡ before.counts.pred_apps
-  pred_apps_kept = ap (λ (l : List ℕ). get_or l 2 0) so_far.kept
-
 -- Passes that follow one another.
 
 -- what a pass does where it began, in other words, with as many counted or more
@@ -97,13 +84,7 @@ module _ {before now : Lent} (per : ℕ) {rest whole : types.Core → types.Core
       one : i * per + 1 * per ≡ i * per + per
       one = omega arith
 
--- The number first met.
-
-pub met_none : {n : ℕ} → n ≡ 0 → met_of n ≡ none
-met_none h = ap met_of h
-
-pub met_some : (n : ℕ) → (n ≡ 0 → ⊥) → met_of n ≡ some n
-met_some n h = go (eqb n 0) (ne_eqb n 0 h)
-  where
-    go : (b : Bool) → b ≡ false → ◌≡◌ {A = Option ℕ} (elim b [ true ↦ none | false ↦ some n ]) (some n)
-    go b e = rw e
+-- the number first met stays
+pub met_first : (n : ℕ) (m : option.Option ℕ) → met_of (option_or m (Some n)) ≡ types.first_met n (met_of m)
+met_first n None = refl
+met_first n (Some k) = refl

@@ -17,12 +17,17 @@ use Rattle.semantics.specs.Structure.{Fact, pair, fact_at, compare_fact}
 use Rattle.semantics.specs.Types as types
 use Rattle.semantics.specs.Types.{core, any_marked, marked, merged_marks, moved_facts, merge, join_roots, join, drain_pairs, drain}
 use Rattle.semantics.proofs.Orders.{fact_ordered}
-use Rattle.fact_rows.specs.View.{fact_in, facts_in}
+use Rattle.el_rows.specs.declared.El.{El}
 use Rattle.el_rows.specs.View.{links_in, Merged}
+use Rattle.equalities.specs.declared.Pair.{Pair}
+use Rattle.equalities.specs.View.{pair_of}
+use Rattle.facts.specs.declared.Fact as code
 use Rattle.merging.specs.declared.Tally.{Tally}
-use Rattle.merging.specs.View.{Lent, lent, core_of, pair_in, pairs_in, met_of, ElsHeld, FactsHeld, LentHeld, Passes, PassesAnyQueue, moved_fact}
+use Rattle.merging.specs.View.{Lent, lent, core_of, pairs_in, met_of, ElsHeld, FactsHeld, LentHeld, Passes, PassesAnyQueue, moved_fact}
 use Rattle.merging.specs.View.{with_merge_counted, with_pairs_count}
 use Rattle.merging.proofs.Laws.{idle, counts_as}
+use Rattle.facts.specs.View.{fact_of}
+use Rattle.rows.specs.View.{facts_in}
 
 -- Facts.
 
@@ -59,8 +64,8 @@ unmarked_merged ms keep drop h = rw (unmarked_at ms keep h, merged_marks) (unmar
 
 -- A merge.
 
-pub merged : (els els' facts facts' : List (List ℕ)) (c : Tally) (keep drop k : ℕ) → ElsHeld els c → FactsHeld facts c
-    → Merged c.els keep drop els els' → InPlaceRewritten compare_fact fact_in (moved_fact keep drop) c.facts facts facts' k
+pub merged : (els els' : List El) (facts facts' : List code.Fact) (c : Tally) (keep drop k : ℕ) → ElsHeld els c → FactsHeld facts c
+    → Merged keep drop els els' → InPlaceRewritten compare_fact fact_of (moved_fact keep drop) c.facts facts facts' k
     → PassesAnyQueue els facts c els' facts' (with_merge_counted k c) 1 (merge keep drop)
 unfolding merge
 merged els els' facts facts' c keep drop k e f united done pairs held =
@@ -70,8 +75,6 @@ merged els els' facts facts' c keep drop k e f united done pairs held =
       is = λ i. core (united.links i) (united.marks i) (there i) (pairs_in c.pairs pairs) (one i) c.added (met_of c.met);
       holds = record {
         els_held = record {
-          long = united.long ∙ e.long;
-          few = e.few;
           unmarked = λ none. rw united.marks (unmarked_merged _ keep drop (e.unmarked none));
         };
         facts_held = record {
@@ -107,13 +110,13 @@ module _ {a b : ℕ} (w : types.Core) where
   join_same h g = let e : a ≡ b = omega arith in sym (rw (eq-eqb a b e, join_roots))
 
 -- a and b are the roots of l and r
-module _ (els facts : List (List ℕ)) (c : Tally) (l r : ℕ) {a b : ℕ} (left : a ≡ root_of (links_in c.els els) l)
-    (right : b ≡ root_of (links_in c.els els) r) where
-  found : (pairs : List (List ℕ)) → join_roots a b (core_of (lent els facts pairs c)) ≡ join (pair l r) (core_of (lent els facts pairs c))
+module _ (els : List El) (facts : List code.Fact) (c : Tally) (l r : ℕ) {a b : ℕ} (left : a ≡ root_of (links_in els) l)
+    (right : b ≡ root_of (links_in els) r) where
+  found : (pairs : List Pair) → join_roots a b (core_of (lent els facts pairs c)) ≡ join (pair l r) (core_of (lent els facts pairs c))
   unfolding join
   found pairs = λ i. join_roots (left i) (right i) (core_of (lent els facts pairs c))
 
-  module _ (els' facts' : List (List ℕ)) (c' : Tally) where
+  module _ (els' : List El) (facts' : List code.Fact) (c' : Tally) where
     pub joined_less : a < b → PassesAnyQueue els facts c els' facts' c' 1 (merge a b) → PassesAnyQueue els facts c els' facts' c' 1 (join (pair l r))
     joined_less h step pairs held = counts_as (step pairs held) (join_less _ h ∙ found pairs)
 
@@ -126,17 +129,17 @@ module _ (els facts : List (List ℕ)) (c : Tally) (l r : ℕ) {a b : ℕ} (left
 
 -- Pairs, drained from the last to the first: those that remain when the first i rows do.
 
-last : (rows : List (List ℕ)) (k : ℕ) (d : List ℕ) → k < length rows → pairs_in (suc k) rows ≡ pair_in (get_or rows k d) ∷ pairs_in k rows
+last : (rows : List Pair) (k : ℕ) (d : Pair) → k < length rows → pairs_in (suc k) rows ≡ pair_of (get_or rows k d) ∷ pairs_in k rows
 last rows k d h =
-    ap (λ (l : List (List ℕ)). reverse (map pair_in l)) (take-suc rows k d h)
-    ∙ ap reverse (map-append pair_in (take k rows) (get_or rows k d ∷ []))
-    ∙ reverse-append (map pair_in (take k rows)) (pair_in (get_or rows k d) ∷ [])
+    ap (λ (l : List Pair). reverse (map pair_of l)) (take-suc rows k d h)
+    ∙ ap reverse (map-append pair_of (take k rows) (get_or rows k d ∷ []))
+    ∙ reverse-append (map pair_of (take k rows)) (pair_of (get_or rows k d) ∷ [])
 
-module _ {els facts pairs : List (List ℕ)} {c : Tally} where
+module _ {els : List El} {facts : List code.Fact} {pairs : List Pair} {c : Tally} where
   -- the queue taken out
   pub unqueued_holds : LentHeld (lent els facts pairs c) → LentHeld (lent els facts pairs (with_pairs_count 0 c))
   unqueued_holds h = record {
-    els_held = record { long = h.els_held.long; few = h.els_held.few; unmarked = h.els_held.unmarked };
+    els_held = record { unmarked = h.els_held.unmarked };
     facts_held = record { long = h.facts_held.long; few = h.facts_held.few; sorted = h.facts_held.sorted };
     pairs_held = record { long = h.pairs_held.long; few = omega arith };
   }
@@ -148,14 +151,14 @@ module _ {els facts pairs : List (List ℕ)} {c : Tally} where
   drained p = record { is = p.is; holds = p.holds; kept = p.kept; count_most = p.count_most }
 
 -- the last of those that remain is drained
-pub drain_last : (rows : List (List ℕ)) (i : ℕ) (d : List ℕ) → 0 < i → i ≤ length rows → (w : types.Core)
-    → let r = get_or rows (i - 1) d in drain_pairs (pairs_in (i - 1) rows) (join (pair (get_or r 0 0) (get_or r 1 0)) w) ≡ drain_pairs (pairs_in i rows) w
-unfolding drain_pairs pair_in
+pub drain_last : (rows : List Pair) (i : ℕ) (d : Pair) → 0 < i → i ≤ length rows → (w : types.Core)
+    → let r = get_or rows (i - 1) d in drain_pairs (pairs_in (i - 1) rows) (join (pair_of r) w) ≡ drain_pairs (pairs_in i rows) w
+unfolding drain_pairs
 drain_last rows i d h g w =
     let more : suc (i - 1) ≡ i = omega arith in
     ap (λ (l : List model.Pair). drain_pairs l w) (sym (last rows (i - 1) d (omega arith)) ∙ ap (λ (m : ℕ). pairs_in m rows) more)
 
 -- all are drained
-pub drain_none : (rows : List (List ℕ)) (i : ℕ) → i ≤ 0 → (w : types.Core) → w ≡ drain_pairs (pairs_in i rows) w
+pub drain_none : (rows : List Pair) (i : ℕ) → i ≤ 0 → (w : types.Core) → w ≡ drain_pairs (pairs_in i rows) w
 unfolding drain_pairs
 drain_none rows i h w = let none : 0 ≡ i = omega arith in ap (λ (m : ℕ). drain_pairs (pairs_in m rows) w) none

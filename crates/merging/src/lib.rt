@@ -2,40 +2,27 @@
 #![tactic(auto)]
 
 ghost use Rattle.std.specs.Prelude.{◌≡◌, ◌≤◌, ◌<◌, length};
-ghost use Rattle.rows.specs.Table.{InPlaceRewritten};
-ghost use Rattle.semantics.specs.Structure.{pair, compare_fact, max_pairs};
+ghost use Rattle.semantics.specs.Structure.{pair, max_pairs};
 ghost use Rattle.semantics.specs.Types.{merge, join, drain};
 ghost use Rattle.facts.specs.View.{fact_of};
-ghost use Rattle.fact_rows.specs.View.{fact_in};
-ghost use Rattle.equalities.specs.View.{pairs_of};
-ghost use Rattle.merging.specs.View.{pairs_in, PairsInRows, lent, ElsHeld, FactsHeld, LentHeld, RoomToCount, PassesAnyQueue, Passes, moved_fact};
+ghost use Rattle.merging.specs.View.{lent, ElsHeld, FactsHeld, LentHeld, RoomToCount, PassesAnyQueue, Passes, moved_fact};
 
-use el_rows::ElRow;
-use equalities::{Pair, Pairs};
-use fact_rows::FactRow;
+use el_rows::El;
+use equalities::Pair;
 use facts::Fact;
 use ids::ElId;
 
-// How many numbers a row of a pair has.
-pub const PAIR_WIDTH: usize = 2;
-
-// The two elements of a pair.
-pub type PairRow = [u16; PAIR_WIDTH];
-
-// How many rows of the tables are in use, what is known of them, what was counted, and the number first met that refuses the close; 0
-// stands for none.
+// How many rows of the tables are in use, what is known of them, what was counted, and the number first met that refuses the close.
 #[derive(Clone, Copy)]
 pub struct Tally {
-    pub els: u16,
     pub facts: u16,
     pub func_apps: u16,
-    pub pred_apps: u16,
     pub pairs: u16,
     // The facts are in order.
     pub is_sorted: bool,
     // An element may be marked.
     pub is_marked: bool,
-    pub met: u16,
+    pub met: Option<u16>,
     pub merges: u64,
     pub added: u64,
 }
@@ -51,27 +38,17 @@ fn moved_fact(fact: Fact, keep: ElId, drop: ElId) -> Fact
     Fact { el: keep, ct }
 }
 
-// Rebuilds the first n facts in place: the rows that are done stand before those that are to come. Gives how many there are.
-fn move_facts(facts: &mut [FactRow], n: usize, keep: ElId, drop: ElId) -> usize
-    requires { n ≤ length facts.old }
-    ensures { InPlaceRewritten compare_fact fact_in (moved_fact keep.0 drop.0) n facts.old facts.new result }
-{
-    let mut k: usize = 0;
-    for i in 0..n {
-        let here = fact_rows::fact_of(facts[i]);
-        let entry = moved_fact(here, keep, drop);
-        k = fact_rows::insert(facts, k, entry);
-    }
-    k
-}
-
 // One merge, of the larger root into the smaller.
-fn merge(els: &mut [ElRow], facts: &mut [FactRow], counts: Tally, keep: ElId, drop: ElId) -> Tally
+fn merge(els: &mut [El], facts: &mut [Fact], counts: Tally, keep: ElId, drop: ElId) -> Tally
     requires { ElsHeld els.old counts × (FactsHeld facts.old counts × (RoomToCount 1 counts × (keep.0 < drop.0))) }
     ensures { PassesAnyQueue els.old facts.old counts els.new facts.new result 1 (merge keep.0 drop.0) }
 {
-    el_rows::union_roots(els, counts.els as usize, keep, drop);
-    let moved = move_facts(facts, counts.facts as usize, keep, drop);
+    el_rows::union_roots(els, keep, drop);
+    let moved = rows::rewrite(
+        facts,
+        counts.facts as usize,
+        |fact| moved_fact(fact, keep, drop),
+    );
     let mut next = counts;
     next.facts = moved as u16;
     next.merges = counts.merges + 1;
@@ -79,13 +56,12 @@ fn merge(els: &mut [ElRow], facts: &mut [FactRow], counts: Tally, keep: ElId, dr
 }
 
 // A pair drained: where its two roots differ they are merged.
-pub fn join(els: &mut [ElRow], facts: &mut [FactRow], counts: Tally, lhs: ElId, rhs: ElId) -> Tally
+pub fn join(els: &mut [El], facts: &mut [Fact], counts: Tally, lhs: ElId, rhs: ElId) -> Tally
     requires { ElsHeld els.old counts × (FactsHeld facts.old counts × RoomToCount 1 counts) }
     ensures { PassesAnyQueue els.old facts.old counts els.new facts.new result 1 (join (pair lhs.0 rhs.0)) }
 {
-    let n = counts.els as usize;
-    let a = el_rows::find(els, n, lhs);
-    let b = el_rows::find(els, n, rhs);
+    let a = el_rows::find(els, lhs);
+    let b = el_rows::find(els, rhs);
     if a.0 < b.0 {
         return merge(els, facts, counts, a, b);
     }
@@ -96,53 +72,16 @@ pub fn join(els: &mut [ElRow], facts: &mut [FactRow], counts: Tally, lhs: ElId, 
 }
 
 // The whole queue drained, the last pair first.
-pub fn drain_equalities(
-    els: &mut [ElRow],
-    facts: &mut [FactRow],
-    pairs: &[PairRow],
-    counts: Tally,
-) -> Tally
+pub fn drain_equalities(els: &mut [El], facts: &mut [Fact], pairs: &[Pair], counts: Tally) -> Tally
     requires { LentHeld (lent els.old facts.old pairs.now counts) × RoomToCount max_pairs counts }
     ensures { Passes (lent els.old facts.old pairs.now counts)
         (lent els.new facts.new pairs.now result) max_pairs drain }
 {
     let mut now = counts;
     now.pairs = 0;
-    let n = counts.pairs as usize;
-    let mut i = n;
-    while 0 < i {
-        let at = i - 1;
-        let pair = pairs[at];
-        let next = join(els, facts, now, ElId(pair[0]), ElId(pair[1]));
-        now = next;
-        i -= 1;
+    for i in (0..counts.pairs as usize).rev() {
+        let pair = pairs[i];
+        now = join(els, facts, now, pair.lhs, pair.rhs);
     }
     now
-}
-
-// The pairs as rows: gives how many there are.
-pub fn fill_pairs(pairs: &mut [PairRow], queue: Pairs) -> usize
-    requires { length pairs.old ≡ max_pairs }
-    ensures { PairsInRows queue pairs.new result }
-{
-    let n = queue.size();
-    for i in 0..n {
-        let pair = queue.items[i];
-        pairs[i] = [pair.lhs.0, pair.rhs.0];
-    }
-    n
-}
-
-// The queue of the pairs that the first n rows hold.
-pub fn pairs_of(pairs: &[PairRow], n: usize) -> Pairs
-    requires { (n ≤ max_pairs) × (length pairs.now ≡ max_pairs) }
-    ensures { pairs_of result ≡ pairs_in n pairs.now }
-{
-    let mut queue = Pairs::new();
-    for i in 0..n {
-        let row = pairs[i];
-        queue.items[i] = Pair::new(ElId(row[0]), ElId(row[1]));
-    }
-    queue.len = n as u16;
-    queue
 }

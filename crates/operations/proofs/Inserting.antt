@@ -28,13 +28,20 @@ use Rattle.semantics.specs.Close as closing
 use Rattle.semantics.specs.Close.{applied_turn, apply_turn, key_of, give_to, give, equalize, obey}
 use Rattle.semantics.proofs.Operations.{inserted_turn, kept_turn, queued_turn, full_turn, rooted_in}
 use Rattle.semantics.proofs.Orders.{func_app_ordered}
-use Rattle.app_rows.specs.View.{func_app_in, func_apps_in}
 use Rattle.el_rows.specs.View.{links_in, Shortened}
 use Rattle.merging.specs.declared.Tally.{Tally}
-use Rattle.merging.specs.View.{pair_in, pairs_in}
+use Rattle.merging.specs.View.{pairs_in}
+use Rattle.semantics.specs.Structure as model
+use Rattle.facts.specs.declared.Fact as fact
+use Rattle.apps.specs.declared.FuncApp as code
+use Rattle.equalities.specs.declared.Pair.{Pair}
+use Rattle.equalities.specs.View.{pair_of}
+use Rattle.el_rows.specs.declared.El.{El}
 use Rattle.operations.specs.declared.Turn.{Turn}
 use Rattle.operations.specs.View.{with_operations_counted, said, Tables, tables, turn_of, TablesHeld, TurnBy, Equates, Meets}
 use Rattle.operations.proofs.Turns.{follows_here}
+use Rattle.apps.specs.View.{func_app_of}
+use Rattle.rows.specs.View.{func_apps_in}
 
 -- The application as roots, z, meets the entry with its key.
 module _ (x z : FuncApp) (t : closing.Turn) (is : z ≡ rooted_in t x) where
@@ -73,26 +80,25 @@ module _ (x z : FuncApp) (t : closing.Turn) (is : z ≡ rooted_in t x) where
       unfolding applied_turn applied_equal
       apply_unqueued h = chosen (queued_turn y.result z.result t) (le-leb max_pairs (length t.core.pairs) h) ∙ other
 
--- Two elements equated, on rows: both paths are shortened, and the pair is queued.
-pub rows_equated : {n k a b : ℕ} {els first els' pairs : List (List ℕ)} {x y : ℕ} {r : Bool} → length pairs ≡ max_pairs → k < max_pairs
-    → Shortened n a els first x → Shortened n b first els' y → r ≡ not (eqb x y) → Equates n k a b els els' pairs (set pairs k (a ∷ b ∷ [])) r
-unfolding equate pair_in
-rows_equated {n} {k} {a} {b} {els} {pairs = pairs} long room p q e =
-    let ls : List ℕ = links_in n els in
-    let queued : pairs_in (k + 1) (set pairs k (a ∷ b ∷ [])) ≡ pair a b ∷ pairs_in k pairs =
-    ap reverse (view_pushed pair_in k pairs (a ∷ b ∷ []) (omega arith)) ∙ reverse-append (map pair_in (take k pairs)) (pair a b ∷ []) in
-    let links : links_in n _ ≡ short_of (short_of ls a) b = q.links ∙ ap (λ (l : List ℕ). short_of l b) p.links in
-    let root : _ ≡ root_of (short_of ls a) b = q.is ∙ ap (λ (l : List ℕ). root_of l b) p.links in
+-- Two elements equated: both paths are shortened, and the pair is queued.
+pub rows_equated : {k : ℕ} {p : Pair} {els first els' : List El} {pairs : List Pair} {x y : ℕ} {r : Bool} → k < length pairs
+    → Shortened p.lhs.0 els first x → Shortened p.rhs.0 first els' y → r ≡ not (eqb x y) → Equates k p els els' pairs (set pairs k p) r
+unfolding equate
+rows_equated {k} {p} {els} {pairs = pairs} room s t e =
+    let ls : List ℕ = links_in els in
+    let queued : pairs_in (k + 1) (set pairs k p) ≡ pair_of p ∷ pairs_in k pairs =
+    ap reverse (view_pushed pair_of k pairs p room) ∙ reverse-append (map pair_of (take k pairs)) (pair_of p ∷ []) in
+    let links : links_in _ ≡ short_of (short_of ls p.lhs.0) p.rhs.0 = t.links ∙ ap (λ (l : List ℕ). short_of l p.rhs.0) s.links in
+    let root : _ ≡ root_of (short_of ls p.lhs.0) p.rhs.0 = t.is ∙ ap (λ (l : List ℕ). root_of l p.rhs.0) s.links in
     record {
-      is = λ i. equating (links i) (queued i) ((e ∙ (λ j. not (eqb (p.is j) (root j)))) i);
-      marks = q.marks ∙ p.marks;
-      els_long = q.long ∙ p.long;
-      pairs_long = length-set pairs k (a ∷ b ∷ []);
+      is = λ i. equating (links i) (queued i) ((e ∙ (λ j. not (eqb (s.is j) (root j)))) i);
+      marks = t.marks ∙ s.marks;
+      pairs_long = length-set pairs k p;
     }
 
 -- On rows: the tables hold, and z is the application as roots.
-module _ {els apps pairs : List (List ℕ)} {t : Turn} (h : TablesHeld (tables els apps pairs t)) (x z : FuncApp)
-    (is : z ≡ canonical_func_app (links_in t.counts.els els) x) where
+module _ {els : List El} {apps : List code.FuncApp} {pairs : List Pair} {t : Turn} (h : TablesHeld (tables els apps pairs t)) (x z : FuncApp)
+    (is : z ≡ canonical_func_app (links_in els) x) where
   abbrev c : Tally
   c = t.counts
 
@@ -101,13 +107,13 @@ module _ {els apps pairs : List (List ℕ)} {t : Turn} (h : TablesHeld (tables e
 
   -- as many are there as the counts say
   apps_there : length (func_apps_in c.func_apps apps) ≡ c.func_apps
-  apps_there = omega (arith, length_view func_app_in c.func_apps apps, h.apps_held.few, h.apps_held.long)
+  apps_there = omega (arith, length_view func_app_of c.func_apps apps, h.apps_held.few, h.apps_held.long)
 
   pairs_there : length (pairs_in c.pairs pairs) ≡ c.pairs
-  pairs_there = length-reverse (map pair_in (take c.pairs pairs)) ∙ omega (arith, length_view pair_in c.pairs pairs, h.pairs_held.few, h.pairs_held.long)
+  pairs_there = length-reverse (map pair_of (take c.pairs pairs)) ∙ omega (arith, length_view pair_of c.pairs pairs, h.pairs_held.few, h.pairs_held.long)
 
   -- number 9 is met
-  full : {r : Tally} → Meets no_room c r → ((facts : List (List ℕ)) → full_turn (turn_of facts start) ≡ apply_turn x (turn_of facts start))
+  full : {r : Tally} → Meets no_room c r → ((facts : List fact.Fact) → full_turn (turn_of facts start) ≡ apply_turn x (turn_of facts start))
       → TurnBy start (tables els apps pairs (said r t.worked)) (apply_turn x)
   full {r} m e = record {
     is = λ facts.
@@ -117,7 +123,7 @@ module _ {els apps pairs : List (List ℕ)} {t : Turn} (h : TablesHeld (tables e
         ∙ e facts;
     holds =
         subst (λ (n : Tally). TablesHeld (tables els apps pairs (said n t.worked))) (sym m.counts) (record {
-          els_held = record { long = h.els_held.long; few = h.els_held.few; unmarked = h.els_held.unmarked };
+          els_held = record { unmarked = h.els_held.unmarked };
           apps_held = record { long = h.apps_held.long; few = h.apps_held.few; sorted = h.apps_held.sorted };
           pairs_held = record { long = h.pairs_held.long; few = h.pairs_held.few };
         });
@@ -129,18 +135,18 @@ module _ {els apps pairs : List (List ℕ)} {t : Turn} (h : TablesHeld (tables e
     absent : lookup_of compare_func_app z (func_apps_in c.func_apps apps) ≡ none
     absent = before_none compare_func_app z z at (func_apps_in c.func_apps apps) e
 
-    pub row_placed : {row : List ℕ} {after : List (List ℕ)} → c.func_apps < max_func_apps → func_app_in row ≡ z
+    pub row_placed : {row : code.FuncApp} {after : List code.FuncApp} → c.func_apps < max_func_apps → func_app_of row ≡ z
         → RowPlaced c.func_apps at row apps after
         → TurnBy start (tables els after pairs (said (with_operations_counted (c.func_apps + 1) c.pairs c.met c) true)) (apply_turn x)
     row_placed {after = after} room row_is p =
-        let put : Inserted compare_func_app func_app_in z c.func_apps apps after (c.func_apps + 1) =
-        inserted_before compare_func_app func_app_in z c.func_apps apps (omega (arith, h.apps_held.long)) (sym e) refl row_is p in
+        let put : Inserted compare_func_app func_app_of z c.func_apps apps after (c.func_apps + 1) =
+        inserted_before compare_func_app func_app_of z c.func_apps apps (omega (arith, h.apps_held.long)) (sym e) refl row_is p in
         record {
           is = λ facts.
               (λ i. closing.turn (turn_of facts start).core (put.is i) (sym (or-true t.worked) i))
               ∙ apply_new x z (turn_of facts start) is absent (omega (arith, apps_there));
           holds = record {
-            els_held = record { long = h.els_held.long; few = h.els_held.few; unmarked = h.els_held.unmarked };
+            els_held = record { unmarked = h.els_held.unmarked };
             apps_held = record {
               long = put.long ∙ h.apps_held.long;
               few = omega arith;
@@ -156,9 +162,9 @@ module _ {els apps pairs : List (List ℕ)} {t : Turn} (h : TablesHeld (tables e
 
   -- y has it
   module _ (at : ℕ) (y : FuncApp) (e : position_from compare_func_app z 0 (func_apps_in c.func_apps apps) ≡ At at)
-      (y-is : y ≡ func_app_in (get_or apps at [])) where
+      (d₀ : code.FuncApp) (y-is : y ≡ func_app_of (get_or apps at d₀)) where
     found : lookup_of compare_func_app z (func_apps_in c.func_apps apps) ≡ some y
-    found = row_found compare_func_app func_app_in z c.func_apps apps [] e y-is
+    found = row_found compare_func_app func_app_of z c.func_apps apps d₀ e y-is
 
     pub row_same : y.result ≡ z.result → TurnBy start start (apply_turn x)
     row_same same = record {
@@ -172,20 +178,19 @@ module _ {els apps pairs : List (List ℕ)} {t : Turn} (h : TablesHeld (tables e
       pub row_unqueued : {r : Tally} → max_pairs ≤ c.pairs → Meets no_room c r → TurnBy start (tables els apps pairs (said r t.worked)) (apply_turn x)
       row_unqueued most m = full m (λ facts. apply_unqueued x z (turn_of facts start) is y found differ (omega (arith, pairs_there)))
 
-      pub row_queued : {els' pairs' : List (List ℕ)} {d b : Bool} → c.pairs < max_pairs
-          → Equates c.els c.pairs y.result z.result els els' pairs pairs' d → b ≡ (t.worked || d)
+      pub row_queued : {els' : List El} {pairs' : List Pair} {p : Pair} {d b : Bool} → c.pairs < max_pairs
+          → pair_of p ≡ pair y.result z.result → Equates c.pairs p els els' pairs pairs' d → b ≡ (t.worked || d)
           → TurnBy start (tables els' apps pairs' (said (with_operations_counted c.func_apps (c.pairs + 1) c.met c) b)) (apply_turn x)
-      row_queued room q b-is = record {
+      row_queued {p = p} room says q b-is = record {
         is = λ facts.
             let w = turn_of facts start in
             ap (closing.turn _ _) b-is
             ∙ (λ i. closing.turn (core (q.is i).links (q.marks i) w.core.facts (q.is i).pairs w.core.merges w.core.added w.core.met)
             w.apps (t.worked || (q.is i).differ))
+            ∙ ap (λ (r : model.Pair). queued_turn r.lhs r.rhs w) says
             ∙ apply_other x z w is y found differ (omega (arith, pairs_there));
         holds = record {
           els_held = record {
-            long = q.els_long ∙ h.els_held.long;
-            few = h.els_held.few;
             unmarked = λ none_marked. ap any_marked q.marks ∙ h.els_held.unmarked none_marked;
           };
           apps_held = record { long = h.apps_held.long; few = h.apps_held.few; sorted = h.apps_held.sorted };
@@ -216,18 +221,18 @@ none_given {t} x y {at} h e = record {
 
 -- z has it
 pub value_given : {before after : Tables} (x y : FuncApp) {z : FuncApp} {at : ℕ}
-    → position_from compare_func_app x 0 (func_apps_in before.turn.counts.func_apps before.apps) ≡ At at → z ≡ func_app_in (get_or before.apps at [])
+    → position_from compare_func_app x 0 (func_apps_in before.turn.counts.func_apps before.apps) ≡ At at → (d : code.FuncApp) → z ≡ func_app_of (get_or before.apps at d)
     → TurnBy before after (apply_turn (func_app y.func y.parents y.args z.result)) → TurnBy before after (give x y)
-value_given {before} x y e is p = record {
+value_given {before} x y e d is p = record {
   is = λ facts. p.is facts
-      ∙ given_some x y (turn_of facts before) (row_found compare_func_app func_app_in x before.turn.counts.func_apps before.apps [] e is);
+      ∙ given_some x y (turn_of facts before) (row_found compare_func_app func_app_of x before.turn.counts.func_apps before.apps d e is);
   holds = p.holds;
   counts = p.counts;
 }
 
 -- there and back
 pub agreed : (ps : List ℕ) (l r : Side) {before now after : Tables} {x y : FuncApp}
-    → x ≡ key_of (links_in before.turn.counts.els before.els) ps l → y ≡ key_of (links_in before.turn.counts.els before.els) ps r
+    → x ≡ key_of (links_in before.els) ps l → y ≡ key_of (links_in before.els) ps r
     → TurnBy before now (give x y) → TurnBy now after (give y x) → TurnBy before after (obey (equation ps l r))
 unfolding obey equalize
 agreed ps l r {before} x-is y-is p q = follows_here p q (λ facts. λ i. equalize (x-is i) (y-is i) (turn_of facts before))

@@ -1,12 +1,12 @@
 -- Laws of the pass in progress, and of the laws that remain in its loops.
 use mathlib.Core.Path.{◌≡◌, refl, sym, ap, subst, ◌∙◌}
-use mathlib.Core.List.{List, [], ◌∷◌, ◌++◌}
+use mathlib.Core.List.{List, [], ◌∷◌, ◌++◌, map}
 use Prim.Native.Nat.{ℕ, ◌+◌, ◌≤◌, ◌<◌}
 use native.Mathlib.Omega.{arith}
 use lib.ListN.{length, drop, get_or}
 use borrow.Author.Tests.{eq-eqb, ne_eqb}
 use Rattle.ids.proofs.Tests.{chosen, unchosen}
-use Rattle.ids.proofs.Views.{view_cons, view_next, view_nil, view_done}
+use Rattle.ids.proofs.Views.{view_next, view_done}
 use Rattle.signature.specs.declared.ModelIds.{ModelIds}
 use Rattle.signature.specs.declared.Models.{Models}
 use Rattle.signature.specs.Model.{Sig, ModelM, model_of, view_models}
@@ -14,9 +14,13 @@ use Rattle.semantics.specs.Structure.{FuncApp, func_app, PredApp}
 use Rattle.semantics.specs.MapLaws.{side, MapLaw, application, equation, identity_laws, composition_laws, identity_laws_in, composition_laws_in, map_laws_in, map_laws_of, map_laws}
 use Rattle.semantics.specs.Close as closing
 use Rattle.semantics.specs.Close.{apply_turn, obey, obey_all, operation_pass}
-use Rattle.app_rows.specs.View.{func_app_in, func_apps_in}
+use Rattle.rows.proofs.Halving.{items_next, items_done}
+use Rattle.facts.specs.declared.Fact as fact
+use Rattle.apps.specs.declared.FuncApp as code
 use Rattle.merging.specs.declared.Tally.{Tally}
 use Rattle.operations.specs.View.{with_operations_counted, Tables, turn_of, TablesHeld, TurnToward, TurnBy}
+use Rattle.apps.specs.View.{func_app_of}
+use Rattle.rows.specs.View.{func_apps_in}
 
 -- nothing is done yet
 pub begins : (t : Tables) → TablesHeld t → (f : closing.Turn → closing.Turn) → TurnToward t t f f
@@ -43,7 +47,7 @@ module _ {before now : Tables} {rest whole : closing.Turn → closing.Turn} (so_
 
 -- one after another, in other words where they began
 pub follows_here : {before now after : Tables} {f g whole : closing.Turn → closing.Turn} → TurnBy before now f → TurnBy now after g
-    → ((facts : List (List ℕ)) → g (f (turn_of facts before)) ≡ whole (turn_of facts before)) → TurnBy before after whole
+    → ((facts : List fact.Fact) → g (f (turn_of facts before)) ≡ whole (turn_of facts before)) → TurnBy before after whole
 follows_here {after = after} {g = g} p q e =
     let c : Tally = after.turn.counts in record {
       is = λ facts. q.is facts ∙ ap g (p.is facts) ∙ e facts;
@@ -200,16 +204,15 @@ no_model [] [] e = refl
 no_model [] (x ∷ xs) e = no_model [] xs e
 no_model (m ∷ ms) xs e = absurd (omega arith)
 
--- a loop over the applications of the first n rows, at row i
-module _ (ms : List ModelM) (n : ℕ) (rows : List (List ℕ)) (i : ℕ) {before now : Tables} {whole : closing.Turn → closing.Turn}
-    (so_far : TurnToward before now (obey_all (map_laws ms (drop i (func_apps_in n rows)))) whole) where
-  pub app_obeyed : (d : List ℕ) {x : FuncApp} {next : Tables} → i < n → i < length rows → x ≡ func_app_in (get_or rows i d)
-      → TurnBy now next (obey_all (map_laws_of ms x)) → TurnToward before next (obey_all (map_laws ms (drop (i + 1) (func_apps_in n rows)))) whole
-  app_obeyed d h there is p =
-      obeys _ _ so_far (more_laws ms (view_cons func_app_in n rows i d h there ∙ ap (λ (y : FuncApp). y ∷ drop (i + 1) (func_apps_in n rows)) (sym is))) p
+-- a loop over applications, at index i
+module _ (ms : List ModelM) (xs : List code.FuncApp) (i : ℕ) {before now : Tables} {whole : closing.Turn → closing.Turn}
+    (so_far : TurnToward before now (obey_all (map_laws ms (map func_app_of (drop i xs)))) whole) where
+  pub app_obeyed : (d : code.FuncApp) {next : Tables} → i < length xs
+      → TurnBy now next (obey_all (map_laws_of ms (func_app_of (get_or xs i d)))) → TurnToward before next (obey_all (map_laws ms (map func_app_of (drop (i + 1) xs)))) whole
+  app_obeyed d h p = obeys _ _ so_far (more_laws ms (items_next func_app_of xs i d h)) p
 
-  pub apps_obeyed : n ≤ i → TurnBy before now whole
-  apps_obeyed h = obeyed_all so_far (no_laws ms (view_nil func_app_in n rows i h))
+  pub apps_obeyed : length xs ≤ i → TurnBy before now whole
+  apps_obeyed h = obeyed_all so_far (no_laws ms (items_done func_app_of xs i h))
 
 -- the whole pass: the laws are those of the applications that are there when it begins
 pub passed : (g : Sig) (preds : List PredApp) {before after : Tables} {xs : List FuncApp}

@@ -10,39 +10,44 @@ use Rattle.semantics.specs.MapLaws as semantics
 use Rattle.semantics.specs.MapLaws.{MapLaw, equation}
 use Rattle.semantics.specs.Close as closing
 use Rattle.semantics.specs.Close.{operation_pass}
-use Rattle.app_rows.specs.View.{func_apps_in}
 use Rattle.el_rows.specs.View.{links_in, marks_in}
+use Rattle.std.specs.declared.option.Option as option
+use Rattle.facts.specs.declared.Fact as fact
+use Rattle.apps.specs.declared.FuncApp as code
+use Rattle.equalities.specs.declared.Pair.{Pair}
+use Rattle.el_rows.specs.declared.El.{El}
 use Rattle.merging.specs.declared.Tally.{Tally}
 use Rattle.merging.specs.View.{tally, met_of, lent, core_of, pairs_in, ElsHeld, PairsHeld}
 use Rattle.operations.specs.declared.Turn.{Turn}
 use Rattle.operations.specs.declared.Side.{Side}
 use Rattle.operations.specs.declared.Equation.{Equation}
+use Rattle.rows.specs.View.{func_apps_in}
 
 -- what the pass alters of the counts: the function applications, the pairs, and the number met
-abbrev pub with_operations_counted : ℕ → ℕ → ℕ → Tally → Tally
+abbrev pub with_operations_counted : ℕ → ℕ → option.Option ℕ → Tally → Tally
 with_operations_counted apps ps m c =
-    tally c.els c.facts apps c.pred_apps ps c.is_sorted c.is_marked m c.merges c.added
+    tally c.facts apps ps c.is_sorted c.is_marked m c.merges c.added
 
 abbrev pub said : Tally → Bool → Turn
 said c worked = record { counts = c; worked = worked }
 
 -- the tables that the pass alters, and the turn
 pub record Tables : Type 0 where
-  pub els : List (List ℕ)
-  pub apps : List (List ℕ)
-  pub pairs : List (List ℕ)
+  pub els : List El
+  pub apps : List code.FuncApp
+  pub pairs : List Pair
   pub turn : Turn
 
-abbrev pub tables : List (List ℕ) → List (List ℕ) → List (List ℕ) → Turn → Tables
+abbrev pub tables : List El → List code.FuncApp → List Pair → Turn → Tables
 tables els apps pairs t = record { els = els; apps = apps; pairs = pairs; turn = t }
 
 -- as a turn, with the facts, which the pass does not see
-abbrev pub turn_of : List (List ℕ) → Tables → closing.Turn
+abbrev pub turn_of : List fact.Fact → Tables → closing.Turn
 turn_of facts t =
     closing.turn (core_of (lent t.els facts t.pairs t.turn.counts)) (func_apps_in t.turn.counts.func_apps t.apps) t.turn.worked
 
 -- there is room for as many applications as 01 allows, as many are in use as the counts say, and they are in order
-pub record AppsHeld (apps : List (List ℕ)) (c : Tally) : Type 0 where
+pub record AppsHeld (apps : List code.FuncApp) (c : Tally) : Type 0 where
   pub long : length apps ≡ max_func_apps
   pub few : c.func_apps ≤ max_func_apps
   pub sorted : Sorted compare_func_app (func_apps_in c.func_apps apps)
@@ -54,7 +59,7 @@ pub record TablesHeld (t : Tables) : Type 0 where
 
 -- The pass in progress, begun at `before`: it is at `now`, and what remains to do there, `rest`, gives what the whole does.
 pub record TurnToward (before now : Tables) (rest whole : closing.Turn → closing.Turn) : Type 0 where
-  pub is : (facts : List (List ℕ)) → rest (turn_of facts now) ≡ whole (turn_of facts before)
+  pub is : (facts : List fact.Fact) → rest (turn_of facts now) ≡ whole (turn_of facts before)
   pub holds : TablesHeld now
   pub counts : now.turn.counts
       ≡ with_operations_counted now.turn.counts.func_apps now.turn.counts.pairs now.turn.counts.met before.turn.counts
@@ -63,11 +68,10 @@ pub record TurnToward (before now : Tables) (rest whole : closing.Turn → closi
 abbrev pub TurnBy : Tables → Tables → (closing.Turn → closing.Turn) → Type 0
 TurnBy before after f = TurnToward before after (λ t. t) f
 
--- two elements equated: k pairs were queued before, and r says whether the roots differ
-pub record Equates (n k a b : ℕ) (els els' pairs pairs' : List (List ℕ)) (r : Bool) : Type 0 where
-  pub is : equating (links_in n els') (pairs_in (k + 1) pairs') r ≡ equate (links_in n els) (pairs_in k pairs) a b
-  pub marks : marks_in n els' ≡ marks_in n els
-  pub els_long : length els' ≡ length els
+-- the two elements of p equated: k pairs were queued before, and r says whether the roots differ
+pub record Equates (k : ℕ) (p : Pair) (els els' : List El) (pairs pairs' : List Pair) (r : Bool) : Type 0 where
+  pub is : equating (links_in els') (pairs_in (k + 1) pairs') r ≡ equate (links_in els) (pairs_in k pairs) p.lhs.0 p.rhs.0
+  pub marks : marks_in els' ≡ marks_in els
   pub pairs_long : length pairs' ≡ length pairs
 
 -- a number is met: the one met first stays

@@ -1,24 +1,21 @@
 // The laws of identities and composites (structure.rs, `morphism_operation_constraints`), on the tables that a close lends.
 #![tactic(auto)]
 
-ghost use Rattle.std.specs.Prelude.{◌≡◌, [], ◌∷◌, ◌≤◌, ◌<◌, length};
+ghost use Rattle.std.specs.Prelude.{◌≡◌, [], ◌∷◌, ◌<◌, length};
 ghost use Rattle.ids.specs.Ids.{els_of};
 ghost use Rattle.signature.specs.Model.{model_of, view_models, sig_of};
-ghost use Rattle.semantics.specs.Structure.{func_app, max_func_apps, max_pairs};
+ghost use Rattle.semantics.specs.Structure.{func_app};
 ghost use Rattle.semantics.specs.MapLaws.{identity_laws_in, composition_laws_in, map_laws_in, map_laws_of};
 ghost use Rattle.semantics.specs.Close.{apply_turn, key_of, give, obey, obey_all};
 ghost use Rattle.apps.specs.View.{func_app_of};
-ghost use Rattle.app_rows.specs.View.{func_apps_in};
 ghost use Rattle.el_rows.specs.View.{links_in};
-ghost use Rattle.merging.specs.View.{ElsHeld};
 ghost use Rattle.operations.specs.View.{tables, TablesHeld, TurnBy, Equates, Meets, side_of, law_of, ObeysLaws};
 
-use app_rows::{APP_WIDTH, AppRow};
 use apps::{FuncApp, FuncApps};
-use el_rows::ElRow;
-use equalities::Pairs;
+use el_rows::El;
+use equalities::{Pair, Pairs};
 use ids::{ElId, ElIds, FuncId, Place, Refusal};
-use merging::{PairRow, Tally};
+use merging::Tally;
 use signature::{ModelIds, Models, Signature};
 
 // The counts so far, and whether a pass of the round reported work.
@@ -44,38 +41,31 @@ pub struct Equation {
 }
 
 // Finds both roots, so that paths shorten, and queues the pair as given: whether the roots differ.
-fn equate(els: &mut [ElRow], pairs: &mut [PairRow], counts: Tally, lhs: ElId, rhs: ElId) -> bool
-    requires { ElsHeld els.old counts × ((length pairs.old ≡ max_pairs) × (counts.pairs < max_pairs)) }
-    ensures { Equates counts.els counts.pairs lhs.0 rhs.0 els.old els.new
-        pairs.old pairs.new result }
+fn equate(els: &mut [El], pairs: &mut [Pair], at: usize, pair: Pair) -> bool
+    requires { at < length pairs.old }
+    ensures { Equates at pair els.old els.new pairs.old pairs.new result }
 {
-    let n = counts.els as usize;
-    let a = el_rows::root(els, n, lhs);
-    let b = el_rows::root(els, n, rhs);
-    let at = counts.pairs as usize;
-    pairs[at] = [lhs.0, rhs.0];
+    let a = el_rows::root(els, pair.lhs);
+    let b = el_rows::root(els, pair.rhs);
+    pairs[at] = pair;
     a.0 != b.0
 }
 
 // A number is met: the one met first stays.
 fn meets(counts: Tally, number: u16) -> Tally
-    requires { 0 < number }
     ensures { Meets number counts result }
 {
-    if counts.met != 0 {
-        return counts;
-    }
     let mut next = counts;
-    next.met = number;
+    next.met = counts.met.or(Some(number));
     next
 }
 
 // An application, or the equality of its result with the one that is stored. Where an entry is needed and its table is at its limit, number 9
 // is met.
 fn insert_func_app_or_equate(
-    els: &mut [ElRow],
-    apps: &mut [AppRow],
-    pairs: &mut [PairRow],
+    els: &mut [El],
+    apps: &mut [FuncApp],
+    pairs: &mut [Pair],
     turn: Turn,
     app: FuncApp,
 ) -> Turn
@@ -86,8 +76,8 @@ fn insert_func_app_or_equate(
     let counts = turn.counts;
     let mut next = counts;
     let k = counts.func_apps as usize;
-    let entry = el_rows::canonical_func_app(els, counts.els as usize, app);
-    match app_rows::position(apps, k, entry) {
+    let entry = el_rows::canonical_func_app(els, app);
+    match rows::position(&apps[..k], entry) {
         Place::Before(at) => {
             if FuncApps::MAX_LEN <= k {
                 return Turn {
@@ -95,8 +85,7 @@ fn insert_func_app_or_equate(
                     worked: turn.worked,
                 };
             }
-            let row = app_rows::func_app_row(entry);
-            app_rows::place(apps, k, at, row);
+            rows::place(apps, k, at, entry);
             next.func_apps = counts.func_apps + 1;
             Turn {
                 counts: next,
@@ -104,8 +93,8 @@ fn insert_func_app_or_equate(
             }
         }
         Place::At(at) => {
-            let stored = app_rows::func_app_of(apps[at]);
-            if stored.result.0 == entry.result.0 {
+            let stored = apps[at].result;
+            if stored.0 == entry.result.0 {
                 return turn;
             }
             if Pairs::MAX_LEN <= counts.pairs as usize {
@@ -114,11 +103,15 @@ fn insert_func_app_or_equate(
                     worked: turn.worked,
                 };
             }
-            let differ = equate(els, pairs, counts, stored.result, entry.result);
+            let pair = Pair {
+                lhs: stored,
+                rhs: entry.result,
+            };
+            let differ = equate(els, pairs, counts.pairs as usize, pair);
             next.pairs = counts.pairs + 1;
             Turn {
                 counts: next,
-                worked: ids::or(turn.worked, differ),
+                worked: turn.worked | differ,
             }
         }
     }
@@ -140,19 +133,18 @@ fn unary(func: FuncId, parents: ElIds, el: ElId, res: ElId) -> FuncApp
 }
 
 // What a side is looked up under: the parents as they are stored, the element's root.
-fn key_of(els: &[ElRow], n: usize, parents: ElIds, side: Side) -> FuncApp
-    requires { n ≤ length els.now }
-    ensures { func_app_of result ≡ key_of (links_in n els.now) (els_of parents) (side_of side) }
+fn key_of(els: &[El], parents: ElIds, side: Side) -> FuncApp
+    ensures { func_app_of result ≡ key_of (links_in els.now) (els_of parents) (side_of side) }
 {
-    let root = el_rows::find(els, n, side.el);
+    let root = el_rows::find(els, side.el);
     unary(side.func, parents, root, ElId(0))
 }
 
 // The value at one key, if there is one, is the value at another too.
 fn give(
-    els: &mut [ElRow],
-    apps: &mut [AppRow],
-    pairs: &mut [PairRow],
+    els: &mut [El],
+    apps: &mut [FuncApp],
+    pairs: &mut [Pair],
     turn: Turn,
     from: FuncApp,
     to: FuncApp,
@@ -161,29 +153,20 @@ fn give(
     ensures { TurnBy (tables els.old apps.old pairs.old turn)
         (tables els.new apps.new pairs.new result) (give (func_app_of from) (func_app_of to)) }
 {
-    let found = app_rows::position(apps, turn.counts.func_apps as usize, from);
-    let Place::At(at) = found else {
+    let known = turn.counts.func_apps as usize;
+    let Place::At(at) = rows::position(&apps[..known], from) else {
         return turn;
     };
-    let stored = app_rows::func_app_of(apps[at]);
-    let func = to.func;
-    let parents = to.parents;
-    let args = to.args;
-    let result = stored.result;
-    let app = FuncApp {
-        func,
-        parents,
-        args,
-        result,
-    };
+    let mut app = to;
+    app.result = apps[at].result;
     insert_func_app_or_equate(els, apps, pairs, turn, app)
 }
 
 // Two sides made equal: the value of the left one is given to the right one, then that of the right to the left.
 fn agree(
-    els: &mut [ElRow],
-    apps: &mut [AppRow],
-    pairs: &mut [PairRow],
+    els: &mut [El],
+    apps: &mut [FuncApp],
+    pairs: &mut [Pair],
     turn: Turn,
     equation: Equation,
 ) -> Turn
@@ -191,19 +174,18 @@ fn agree(
     ensures { TurnBy (tables els.old apps.old pairs.old turn)
         (tables els.new apps.new pairs.new result) (obey (law_of equation)) }
 {
-    let n = turn.counts.els as usize;
     let parents = equation.parents;
-    let left = key_of(els, n, parents, equation.left);
-    let right = key_of(els, n, parents, equation.right);
+    let left = key_of(els, parents, equation.left);
+    let right = key_of(els, parents, equation.right);
     let there = give(els, apps, pairs, turn, left, right);
     give(els, apps, pairs, there, right, left)
 }
 
 // id(P; a) = r gives dom(P; r) = a and cod(P; r) = a.
 fn identity_laws(
-    els: &mut [ElRow],
-    apps: &mut [AppRow],
-    pairs: &mut [PairRow],
+    els: &mut [El],
+    apps: &mut [FuncApp],
+    pairs: &mut [Pair],
     turn: Turn,
     ids: ModelIds,
     app: FuncApp,
@@ -229,9 +211,9 @@ fn identity_laws(
 
 // comp(P; f, g) = h gives dom(P; f) = dom(P; h), cod(P; g) = cod(P; h) and cod(P; f) = dom(P; g).
 fn composition_laws(
-    els: &mut [ElRow],
-    apps: &mut [AppRow],
-    pairs: &mut [PairRow],
+    els: &mut [El],
+    apps: &mut [FuncApp],
+    pairs: &mut [Pair],
     turn: Turn,
     ids: ModelIds,
     app: FuncApp,
@@ -275,9 +257,9 @@ fn composition_laws(
 
 // The laws of one application in one model.
 fn laws_in(
-    els: &mut [ElRow],
-    apps: &mut [AppRow],
-    pairs: &mut [PairRow],
+    els: &mut [El],
+    apps: &mut [FuncApp],
+    pairs: &mut [Pair],
     turn: Turn,
     ids: ModelIds,
     app: FuncApp,
@@ -292,9 +274,9 @@ fn laws_in(
 
 // Its laws in each model.
 fn laws_of(
-    els: &mut [ElRow],
-    apps: &mut [AppRow],
-    pairs: &mut [PairRow],
+    els: &mut [El],
+    apps: &mut [FuncApp],
+    pairs: &mut [Pair],
     turn: Turn,
     models: Models,
     app: FuncApp,
@@ -307,28 +289,16 @@ fn laws_of(
     let mut now = turn;
     for i in 0..n {
         let ids = models.items[i];
-        let next = laws_in(els, apps, pairs, now, ids, app);
-        now = next;
+        now = laws_in(els, apps, pairs, now, ids, app);
     }
     now
 }
 
-// The first n applications, copied.
-fn snapshot(apps: &[AppRow], n: usize, rows: &mut [AppRow])
-    requires { (n ≤ max_func_apps) × ((length apps.now ≡ max_func_apps) × (length rows.old ≡ max_func_apps)) }
-    ensures { (func_apps_in n rows.new ≡ func_apps_in n apps.now) × (length rows.new ≡ max_func_apps) }
-{
-    for i in 0..n {
-        let row = apps[i];
-        rows[i] = row;
-    }
-}
-
 // Each law of the applications that the pass begins with, in order, carried out on the tables as they are then.
 pub fn morphism_operation_constraints(
-    els: &mut [ElRow],
-    apps: &mut [AppRow],
-    pairs: &mut [PairRow],
+    els: &mut [El],
+    apps: &mut [FuncApp],
+    pairs: &mut [Pair],
     turn: Turn,
     signature: Signature,
 ) -> Turn
@@ -342,13 +312,12 @@ pub fn morphism_operation_constraints(
         return turn;
     }
     let n = turn.counts.func_apps as usize;
-    let mut rows = [[0u16; APP_WIDTH]; FuncApps::MAX_LEN];
-    snapshot(apps, n, &mut rows);
+    let none = FuncApp::new(FuncId(0), ElIds::new(), ElIds::new(), ElId(0));
+    let mut snapshot = [none; FuncApps::MAX_LEN];
+    snapshot[..n].copy_from_slice(&apps[..n]);
     let mut now = turn;
-    for i in 0..n {
-        let app = app_rows::func_app_of(rows[i]);
-        let next = laws_of(els, apps, pairs, now, models, app);
-        now = next;
+    for app in &snapshot[..n] {
+        now = laws_of(els, apps, pairs, now, models, *app);
     }
     now
 }

@@ -1,7 +1,7 @@
 -- Laws of the loops that rewrite: of entries seen otherwise, of applications that are entered in place, and of slots.
 use mathlib.Core.Path.{◌≡◌, refl, sym, ap, ◌∙◌}
 use mathlib.Core.Bool.{Bool, true, false}
-use mathlib.Core.List.{List, [], ◌∷◌, ◌++◌, map, map-append, map-map, reverse, reverse-append}
+use mathlib.Core.List.{List, [], ◌∷◌, ◌++◌, map, map-append, reverse, reverse-append}
 use mathlib.Core.Option.{Option, none, some}
 use Prim.Native.Nat.{ℕ, suc, ◌+◌, ◌≤◌, ◌<◌}
 use native.Mathlib.Numerals.{add-one}
@@ -10,68 +10,30 @@ use lib.ListN.{length, take, drop, get_or, set, length-set}
 use lib.Seq.{take-suc, take-suc-set, take_all}
 use lib.Dec.{ltb}
 use borrow.Author.Tests.{lt-ltb, eq-eqb, ne_eqb}
-use Rattle.ids.specs.declared.Ordering.{Ordering}
-use Rattle.ids.specs.declared.Ordering.TheVariants.{Less, Equal, Greater}
 use Rattle.ids.specs.declared.Place.TheVariants.{Before, At}
-use Rattle.ids.specs.Table.{placed, lookup_of, position_from, rewrite_into}
+use Rattle.ids.specs.Table.{placed, lookup_of, position_from}
 use Rattle.ids.proofs.Sorted.{Sorted, placed_sorted}
 use Rattle.ids.proofs.Tables.{before_none}
 use Rattle.ids.proofs.Views.{view_cons, view_nil, view_pushed}
-use Rattle.rows.specs.Table.{RowPlaced, Inserted, InPlaceRewritten}
+use Rattle.rows.specs.Table.{RowPlaced, Inserted}
 use Rattle.rows.proofs.InPlace.{get_d_rest, drop_later}
 use Rattle.rows.proofs.Positions.{row_found}
 use Rattle.rows.proofs.Shifting.{inserted_before}
-use Rattle.semantics.specs.Structure.{FuncApp, pair, pred_app, max_pairs, compare_func_app, compare_pred_app, canonical_func_app, canonical_pred_app}
+use Rattle.semantics.specs.Structure.{FuncApp, pair, max_pairs, compare_func_app, canonical_func_app}
 use Rattle.semantics.specs.Close as closing
 use Rattle.semantics.specs.Close.{rewriting, enter_at, enter, enter_all}
 use Rattle.semantics.proofs.Orders.{func_app_ordered}
-use Rattle.app_rows.specs.View.{func_app_in, pred_app_in, func_apps_in}
 use Rattle.bindings.specs.declared.Slot.{Slot}
 use Rattle.bindings.specs.View.{slots_from}
 use Rattle.bindings.proofs.Slots.{slot_given, slot_empty}
-use Rattle.merging.specs.View.{pair_in, pairs_in}
+use Rattle.merging.specs.View.{pairs_in}
+use Rattle.equalities.specs.declared.Pair.{Pair}
+use Rattle.equalities.specs.View.{pair_of}
+use Rattle.apps.specs.declared.FuncApp as code
+use Rattle.semantics.specs.Structure as model
 use Rattle.rewriting.specs.View.{none_rewritten}
-
--- Entries seen by g, which keeps the order.
-module _ {A B : Type 0} (cmp : A → A → Ordering) (cmp' : B → B → Ordering) (g : A → B) (same : (x y : A) → cmp' (g x) (g y) ≡ cmp x y) where
-  placed_seen : (x : A) (l : List A) → map g (placed cmp x l) ≡ placed cmp' (g x) (map g l)
-  unfolding placed
-  placed_seen x [] = refl
-  placed_seen x (y ∷ ys) = go (cmp y x) (cmp' (g y) (g x)) (same y x) (placed_seen x ys)
-    where
-      go : (o o' : Ordering) → o' ≡ o → map g (placed cmp x ys) ≡ placed cmp' (g x) (map g ys)
-          → map g (elim o [ Less ↦ y ∷ placed cmp x ys | Equal ↦ y ∷ ys | Greater ↦ x ∷ y ∷ ys ])
-          ≡ elim o' [ Less ↦ g y ∷ placed cmp' (g x) (map g ys) | Equal ↦ g y ∷ map g ys | Greater ↦ g x ∷ g y ∷ map g ys ]
-      go Less o' e k = rw e (ap (λ (l : List B). g y ∷ l) k)
-      go Equal o' e k = rw e
-      go Greater o' e k = rw e
-
-  module _ (f : A → A) (f' : B → B) (by : (x : A) → f' (g x) ≡ g (f x)) where
-    rewrite_seen : (xs done : List A) → map g (rewrite_into cmp f xs done) ≡ rewrite_into cmp' f' (map g xs) (map g done)
-    unfolding rewrite_into
-    rewrite_seen [] done = refl
-    rewrite_seen (x ∷ xs) done =
-        rewrite_seen xs (placed cmp (f x) done)
-        ∙ ap (rewrite_into cmp' f' (map g xs)) (placed_seen (f x) done ∙ ap (λ (z : B). placed cmp' z (map g done)) (sym (by x)))
-
-    -- a table that is rewritten, so seen
-    rewritten_seen : {C : Type 0} (view : C → A) {n r : ℕ} {before after : List C} → InPlaceRewritten cmp view f n before after r
-        → InPlaceRewritten cmp' (λ v. g (view v)) f' n before after r
-    rewritten_seen view {n} {r} {before} {after} w = record {
-      is =
-          sym (map-map g view (take r after)) ∙ ap (map g) w.is ∙ rewrite_seen (map view (take n before)) []
-          ∙ ap (λ (l : List B). rewrite_into cmp' f' l []) (map-map g view (take n before));
-      most = w.most;
-      long = w.long;
-    }
-
--- rows of function applications as those of predicate applications: the order reads the key alone
-pub pred_apps_rewritten : (ls : List ℕ) {n r : ℕ} {before after : List (List ℕ)}
-    → InPlaceRewritten compare_func_app func_app_in (canonical_func_app ls) n before after r → InPlaceRewritten compare_pred_app pred_app_in (canonical_pred_app ls) n before after r
-unfolding compare_func_app compare_pred_app canonical_func_app canonical_pred_app func_app_in pred_app_in
-pred_apps_rewritten ls w =
-    rewritten_seen compare_func_app compare_pred_app (λ (x : FuncApp). pred_app x.func x.parents x.args) (λ x y. refl)
-    (canonical_func_app ls) (canonical_pred_app ls) (λ x. refl) func_app_in w
+use Rattle.apps.specs.View.{func_app_of}
+use Rattle.rows.specs.View.{func_apps_in}
 
 -- An application as roots, z, meets the entry with its key: there is none, or one with this result, or one with another.
 module _ (z : FuncApp) (t : closing.Rewritten) where
@@ -89,11 +51,11 @@ module _ (z : FuncApp) (t : closing.Rewritten) where
     enter_other e = ap (λ (o : Option FuncApp). enter_at o z t) h ∙ rw (ne_eqb y.result z.result e, enter_at)
 
 -- what the first k rows store and the first q queue
-abbrev pub entered : ℕ → List (List ℕ) → ℕ → List (List ℕ) → closing.Rewritten
+abbrev pub entered : ℕ → List code.FuncApp → ℕ → List Pair → closing.Rewritten
 entered k apps q pairs = rewriting (func_apps_in k apps) (pairs_in q pairs) (ltb 0 q)
 
 -- the first i of n applications are entered, in place
-pub record Entering (ls : List ℕ) (n : ℕ) (start apps pairs : List (List ℕ)) (k q i : ℕ) : Type 0 where
+pub record Entering (ls : List ℕ) (n : ℕ) (start apps : List code.FuncApp) (pairs : List Pair) (k q i : ℕ) : Type 0 where
   pub is : enter_all ls (drop i (func_apps_in n start)) (entered k apps q pairs) ≡ enter_all ls (func_apps_in n start) none_rewritten
   pub few : k + q ≤ i
   pub sorted : Sorted compare_func_app (func_apps_in k apps)
@@ -101,31 +63,31 @@ pub record Entering (ls : List ℕ) (n : ℕ) (start apps pairs : List (List ℕ
   pub apps_long : length apps ≡ length start
   pub pairs_long : length pairs ≡ max_pairs
 
-pub entering_none : (ls : List ℕ) (n : ℕ) (start pairs : List (List ℕ)) → length pairs ≡ max_pairs → Entering ls n start start pairs 0 0 0
+pub entering_none : (ls : List ℕ) (n : ℕ) (start : List code.FuncApp) (pairs : List Pair) → length pairs ≡ max_pairs → Entering ls n start start pairs 0 0 0
 entering_none ls n start pairs h = record { is = refl; few = omega arith; sorted = tt; rest = refl; apps_long = refl; pairs_long = h }
 
-module _ {ls : List ℕ} {n : ℕ} {start apps pairs : List (List ℕ)} {k q i : ℕ} (so_far : Entering ls n start apps pairs k q i) (there : n ≤ length start) where
+module _ {ls : List ℕ} {n : ℕ} {start apps : List code.FuncApp} {pairs : List Pair} {k q i : ℕ} (so_far : Entering ls n start apps pairs k q i) (there : n ≤ length start) where
   -- the application i, as roots, is z
-  module _ (h : i < n) (z : FuncApp) (z-is : z ≡ canonical_func_app ls (func_app_in (get_or apps i []))) where
+  module _ (d : code.FuncApp) (h : i < n) (z : FuncApp) (z-is : z ≡ canonical_func_app ls (func_app_of (get_or apps i d))) where
     on : {next : closing.Rewritten} → enter z (entered k apps q pairs) ≡ next
         → enter_all ls (drop (i + 1) (func_apps_in n start)) next ≡ enter_all ls (func_apps_in n start) none_rewritten
     unfolding enter_all
     on e =
         ap (enter_all ls (drop (i + 1) (func_apps_in n start)))
         (sym e ∙ ap (λ (w : FuncApp). enter w (entered k apps q pairs))
-        (z-is ∙ ap (λ (r : List ℕ). canonical_func_app ls (func_app_in r)) (get_d_rest apps start i [] so_far.rest)))
-        ∙ ap (λ (l : List FuncApp). enter_all ls l (entered k apps q pairs)) (sym (view_cons func_app_in n start i [] h (omega arith)))
+        (z-is ∙ ap (λ (r : code.FuncApp). canonical_func_app ls (func_app_of r)) (get_d_rest apps start i d so_far.rest)))
+        ∙ ap (λ (l : List FuncApp). enter_all ls l (entered k apps q pairs)) (sym (view_cons func_app_of n start i d h (omega arith)))
         ∙ so_far.is
 
     later : drop (i + 1) apps ≡ drop (i + 1) start
     later = drop_later apps start i (i + 1) (omega arith) so_far.rest
 
     -- its key is new
-    pub entering_placed : (at : ℕ) {row : List ℕ} {after : List (List ℕ)} → position_from compare_func_app z 0 (func_apps_in k apps) ≡ Before at
-        → func_app_in row ≡ z → RowPlaced k at row apps after → Entering ls n start after pairs (k + 1) q (i + 1)
+    pub entering_placed : (at : ℕ) {row : code.FuncApp} {after : List code.FuncApp} → position_from compare_func_app z 0 (func_apps_in k apps) ≡ Before at
+        → func_app_of row ≡ z → RowPlaced k at row apps after → Entering ls n start after pairs (k + 1) q (i + 1)
     entering_placed at {row} {after} e row_is p =
-        let put : Inserted compare_func_app func_app_in z k apps after (k + 1) =
-        inserted_before compare_func_app func_app_in z k apps (omega (arith, so_far.few, so_far.apps_long)) (sym e) refl row_is p in
+        let put : Inserted compare_func_app func_app_of z k apps after (k + 1) =
+        inserted_before compare_func_app func_app_of z k apps (omega (arith, so_far.few, so_far.apps_long)) (sym e) refl row_is p in
         record {
           is = on (enter_new z (entered k apps q pairs) (before_none compare_func_app z z at (func_apps_in k apps) e)
               ∙ ap (λ (l : List FuncApp). rewriting l (pairs_in q pairs) (ltb 0 q)) (sym put.is));
@@ -137,9 +99,9 @@ module _ {ls : List ℕ} {n : ℕ} {start apps pairs : List (List ℕ)} {k q i :
         }
 
     -- y has it
-    module _ (at : ℕ) (y : FuncApp) (e : position_from compare_func_app z 0 (func_apps_in k apps) ≡ At at) (y-is : y ≡ func_app_in (get_or apps at [])) where
+    module _ (at : ℕ) (y : FuncApp) (e : position_from compare_func_app z 0 (func_apps_in k apps) ≡ At at) (y-is : y ≡ func_app_of (get_or apps at d)) where
       met : lookup_of compare_func_app z (func_apps_in k apps) ≡ some y
-      met = row_found compare_func_app func_app_in z k apps [] e y-is
+      met = row_found compare_func_app func_app_of z k apps d e y-is
 
       pub entering_same : y.result ≡ z.result → Entering ls n start apps pairs k q (i + 1)
       entering_same same = record {
@@ -152,12 +114,11 @@ module _ {ls : List ℕ} {n : ℕ} {start apps pairs : List (List ℕ)} {k q i :
       }
 
       pub entering_other : (y.result ≡ z.result → ⊥) → q < max_pairs
-          → Entering ls n start apps (set pairs q (y.result ∷ z.result ∷ [])) k (q + 1) (i + 1)
-      unfolding pair_in
-      entering_other differ room =
-          let row : List ℕ = y.result ∷ z.result ∷ [] in
+          → (row : Pair) → pair_of row ≡ pair y.result z.result → Entering ls n start apps (set pairs q row) k (q + 1) (i + 1)
+      entering_other differ room row says =
           let queued : pairs_in (q + 1) (set pairs q row) ≡ pair y.result z.result ∷ pairs_in q pairs =
-          ap reverse (view_pushed pair_in q pairs row (omega (arith, so_far.pairs_long))) ∙ reverse-append (map pair_in (take q pairs)) (pair_in row ∷ []) in
+          ap reverse (view_pushed pair_of q pairs row (omega (arith, so_far.pairs_long))) ∙ reverse-append (map pair_of (take q pairs)) (pair_of row ∷ [])
+          ∙ ap (λ (p : model.Pair). p ∷ pairs_in q pairs) says in
           record {
             is = on (enter_other z (entered k apps q pairs) y met differ
                 ∙ (λ j. rewriting (func_apps_in k apps) (sym queued j) (sym (lt-ltb 0 (q + 1) (omega arith)) j)));
@@ -171,7 +132,7 @@ module _ {ls : List ℕ} {n : ℕ} {start apps pairs : List (List ℕ)} {k q i :
   -- all are
   pub entering_all : n ≤ i → entered k apps q pairs ≡ enter_all ls (func_apps_in n start) none_rewritten
   unfolding enter_all
-  entering_all h = ap (λ (l : List FuncApp). enter_all ls l (entered k apps q pairs)) (sym (view_nil func_app_in n start i h)) ∙ so_far.is
+  entering_all h = ap (λ (l : List FuncApp). enter_all ls l (entered k apps q pairs)) (sym (view_nil func_app_of n start i h)) ∙ so_far.is
 
 -- a slot with its element by h
 abbrev pub slot_by : (ℕ → ℕ) → Slot → Slot

@@ -1,6 +1,6 @@
 -- Laws of the rounds.
 use mathlib.Core.Path.{◌≡◌, refl, sym, ap, ◌∙◌}
-use mathlib.Core.Bool.{Bool, true, false, ◌&&◌}
+use mathlib.Core.Bool.{Bool, true, false, not, ◌&&◌}
 use mathlib.Core.List.{List}
 use Prim.Native.Nat.{ℕ, zero, suc, ◌+◌, ◌*◌, ◌-◌, ◌≤◌, ◌<◌}
 use native.Mathlib.Omega.{arith}
@@ -10,9 +10,21 @@ use Rattle.semantics.specs.Structure.{FuncApp, PredApp, max_facts, max_func_apps
 use Rattle.semantics.specs.Types as types
 use Rattle.semantics.specs.Close as closing
 use Rattle.semantics.specs.Close.{fuel, rounds_made, is_none, last_round, one_more, rounds_from}
-use Rattle.app_rows.specs.View.{func_apps_in, pred_apps_in}
 use Rattle.merging.specs.View.{Lent, core_of, met_of, work_of}
 use Rattle.rounds.specs.View.{one_round, LentAgain, RoundIs, RoundsAre}
+use Rattle.std.specs.Option.{is_some}
+use Rattle.std.specs.declared.option.Option as option
+use Rattle.std.specs.declared.option.Option.TheVariants.{None, Some}
+use Rattle.apps.specs.declared.FuncApp as code
+use Rattle.rows.specs.View.{func_apps_in}
+
+-- whether no number is met
+pub none_met : (m : option.Option ℕ) (b : Bool) → is_some m ≡ not b → b ≡ is_none (met_of m)
+unfolding is_none
+none_met None true e = refl
+none_met None false e = e
+none_met (Some n) true e = e
+none_met (Some n) false e = refl
 
 -- The rounds.
 
@@ -88,34 +100,26 @@ module _ (g : Sig) (preds : List PredApp) where
         regroup x = omega arith
 
 -- The same on the tables: from `before` with the applications `apps` to `now` with `apps'`.
-pub record RoundsSoFar (g : Sig) (preds : List (List ℕ)) (before : Lent) (apps : List (List ℕ)) (now : Lent) (apps' : List (List ℕ)) (again : Bool) (count : ℕ) : Type 0 where
-  pub going : Going g (pred_apps_in before.counts.pred_apps preds)
-      (closing.rounds g (pred_apps_in before.counts.pred_apps preds) (func_apps_in before.counts.func_apps apps) (core_of before))
+pub record RoundsSoFar (g : Sig) (preds : List PredApp) (before : Lent) (apps : List code.FuncApp) (now : Lent) (apps' : List code.FuncApp) (again : Bool) (count : ℕ) : Type 0 where
+  pub going : Going g preds (closing.rounds g preds (func_apps_in before.counts.func_apps apps) (core_of before))
       (core_of now) (func_apps_in now.counts.func_apps apps') again count
-  pub ready : LentAgain before.counts now apps'
+  pub ready : LentAgain now apps'
   pub count_most : work_of now.counts ≤ count * one_round + work_of before.counts
 
-module _ {g : Sig} {preds : List (List ℕ)} {before : Lent} {apps : List (List ℕ)} {now : Lent} {apps' : List (List ℕ)} {again : Bool} {count : ℕ}
+module _ {g : Sig} {preds : List PredApp} {before : Lent} {apps : List code.FuncApp} {now : Lent} {apps' : List code.FuncApp} {again : Bool} {count : ℕ}
     (so_far : RoundsSoFar g preds before apps now apps' again count) where
   -- one more
-  pub ran_more : again ≡ true → count ≤ fuel → {next : Lent} {apps'' : List (List ℕ)} {worked then : Bool}
-      → RoundIs g (pred_apps_in now.counts.pred_apps preds) now apps' next apps'' worked
+  pub ran_more : again ≡ true → count ≤ fuel → {next : Lent} {apps'' : List code.FuncApp} {worked then : Bool}
+      → RoundIs g preds now apps' next apps'' worked
       → then ≡ (worked && is_none (met_of next.counts.met)) → RoundsSoFar g preds before apps next apps'' then (count + 1)
   ran_more h l e t = record {
-    going =
-        takes g (pred_apps_in before.counts.pred_apps preds) so_far.going h l
-        (e.is ∙ ap (λ (n : ℕ). closing.round g (pred_apps_in n preds) (func_apps_in now.counts.func_apps apps') (core_of now)) so_far.ready.preds_same) t;
-    ready = record {
-      holds = e.ready.holds;
-      apps_used = e.ready.apps_used;
-      els_same = e.ready.els_same ∙ so_far.ready.els_same;
-      preds_same = e.ready.preds_same ∙ so_far.ready.preds_same;
-    };
+    going = takes g preds so_far.going h l e.is t;
+    ready = e.ready;
     count_most = omega (arith, e.count_most, so_far.count_most);
   }
 
   -- the last
   pub ran_all : rounds_made (core_of now) (func_apps_in now.counts.func_apps apps') count
-      ≡ closing.rounds g (pred_apps_in before.counts.pred_apps preds) (func_apps_in before.counts.func_apps apps) (core_of before)
-      → RoundsAre g (pred_apps_in before.counts.pred_apps preds) before apps now apps' count
+      ≡ closing.rounds g preds (func_apps_in before.counts.func_apps apps) (core_of before)
+      → RoundsAre g preds before apps now apps' count
   ran_all e = record { is = e; ready = so_far.ready; ran_most = so_far.going.few; count_most = so_far.count_most }

@@ -1,21 +1,19 @@
 // The rounds of a close (structure.rs, `Structure::close`), until one that is idle or meets a number, on the tables that a close lends.
 #![tactic(auto)]
 
-ghost use Rattle.std.specs.Prelude.{◌≡◌, ◌&&◌, ◌+◌, ltb};
+ghost use Rattle.std.specs.Prelude.{◌≡◌, ◌&&◌, ◌+◌, ◌≤◌, length, map, ltb};
 ghost use Rattle.signature.specs.Model.{sig_of};
-ghost use Rattle.semantics.specs.Structure.{max_func_apps, max_pred_apps};
+ghost use Rattle.semantics.specs.Structure.{max_pred_apps};
 ghost use Rattle.semantics.specs.Close.{is_none};
-ghost use Rattle.app_rows.specs.View.{pred_apps_in};
+ghost use Rattle.apps.specs.View.{pred_app_of};
 ghost use Rattle.merging.specs.View.{lent, met_of, LentHeld, RoomToCount, work_of};
-ghost use Rattle.typing.specs.Rows.{Used};
-ghost use Rattle.rounds.specs.View.{one_round, all_rounds, RoundIs, RoundsAre};
+ghost use Rattle.rounds.specs.View.{one_round, all_rounds, AppsUsed, RoundIs, RoundsAre};
 
-use app_rows::AppRow;
-use apps::FuncApps;
-use el_rows::ElRow;
-use fact_rows::FactRow;
-use facts::Facts;
-use merging::{PairRow, Tally};
+use apps::{FuncApp, FuncApps, PredApp};
+use el_rows::El;
+use equalities::Pair;
+use facts::{Fact, Facts};
+use merging::Tally;
 use operations::Turn;
 use signature::Signature;
 use unification::Unification;
@@ -44,75 +42,80 @@ pub fn grew(before: Tally, after: Tally) -> bool
 
 // Drain, `functionality`, `typing`, the laws of identities and composites.
 fn round(
-    els: &mut [ElRow],
-    facts: &mut [FactRow],
-    pairs: &mut [PairRow],
-    apps: &mut [AppRow],
-    preds: &[AppRow],
+    els: &mut [El],
+    facts: &mut [Fact],
+    pairs: &mut [Pair],
+    apps: &mut [FuncApp],
+    preds: &[PredApp],
     signature: Signature,
     counts: Tally,
 ) -> Turn
     requires { LentHeld (lent els.old facts.old pairs.old counts) × (RoomToCount one_round counts
-        × (Used counts.func_apps apps.old max_func_apps × Used counts.pred_apps preds.now max_pred_apps)) }
-    ensures { RoundIs (sig_of signature) (pred_apps_in counts.pred_apps preds.now)
+        × (AppsUsed apps.old counts × (length preds.now ≤ max_pred_apps))) }
+    ensures { RoundIs (sig_of signature) (map pred_app_of preds.now)
         (lent els.old facts.old pairs.old counts) apps.old
         (lent els.new facts.new pairs.new result.counts) apps.new result.worked }
 {
     let drained = merging::drain_equalities(els, facts, pairs, counts);
     let rewritten = rewriting::functionality(els, apps, pairs, drained);
-    let typed = typing::typing(els, facts, pairs, rewritten, signature, apps, preds);
+    let known = rewritten.func_apps as usize;
+    let typed = typing::typing(
+        els,
+        facts,
+        pairs,
+        rewritten,
+        signature,
+        &apps[..known],
+        preds,
+    );
     let merged = counts.merges < drained.merges;
     let queued = 0 < rewritten.pairs;
-    let early = ids::or(merged, queued);
     let late = grew(rewritten, typed);
     let turn = Turn {
         counts: typed,
-        worked: ids::or(early, late),
+        worked: merged | queued | late,
     };
     operations::morphism_operation_constraints(els, apps, pairs, turn, signature)
 }
 
 // Whether another round follows: this one reported work, and no number is met that refuses the close.
-fn goes_on(worked: bool, met: u16) -> bool
+fn goes_on(worked: bool, met: Option<u16>) -> bool
     ensures { result ≡ (worked && is_none (met_of met)) }
 {
-    if met != 0 {
-        return false;
-    }
-    worked
+    worked && met.is_none()
 }
 
 // Rounds until one that is idle or meets a number.
 pub fn rounds(
-    els: &mut [ElRow],
-    facts: &mut [FactRow],
-    pairs: &mut [PairRow],
-    apps: &mut [AppRow],
-    preds: &[AppRow],
+    els: &mut [El],
+    facts: &mut [Fact],
+    pairs: &mut [Pair],
+    apps: &mut [FuncApp],
+    preds: &[PredApp],
     signature: Signature,
     counts: Tally,
 ) -> RoundsMade
     requires { LentHeld (lent els.old facts.old pairs.old counts) × (RoomToCount all_rounds counts
-        × (Used counts.func_apps apps.old max_func_apps × Used counts.pred_apps preds.now max_pred_apps)) }
-    ensures { RoundsAre (sig_of signature) (pred_apps_in counts.pred_apps preds.now)
+        × (AppsUsed apps.old counts × (length preds.now ≤ max_pred_apps))) }
+    ensures { RoundsAre (sig_of signature) (map pred_app_of preds.now)
         (lent els.old facts.old pairs.old counts) apps.old
         (lent els.new facts.new pairs.new result.counts) apps.new result.rounds }
 {
     let mut now = counts;
     let mut again = true;
-    let mut rounds: u64 = 0;
-    while rounds <= RoundsMade::FUEL {
+    for ran in 0..RoundsMade::FUEL + 1 {
         if !again {
-            break;
+            return RoundsMade {
+                counts: now,
+                rounds: ran,
+            };
         }
         let turn = round(els, facts, pairs, apps, preds, signature, now);
-        let next = turn.counts;
-        again = goes_on(turn.worked, next.met);
-        now = next;
-        rounds += 1;
+        now = turn.counts;
+        again = goes_on(turn.worked, now.met);
     }
     RoundsMade {
         counts: now,
-        rounds,
+        rounds: RoundsMade::FUEL + 1,
     }
 }

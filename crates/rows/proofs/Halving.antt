@@ -1,18 +1,20 @@
--- A search by halving among the first n rows of an array, which are in order, over any type of rows and any order.
+-- A search by halving in a list that is in order, over any type of rows and any order.
 use mathlib.Core.Path.{◌≡◌, refl, sym, ap, ◌∙◌}
 use mathlib.Core.Bool.{Bool, true, false}
 use mathlib.Core.List.{List, [], ◌∷◌, map}
-use Prim.Native.Nat.{ℕ, zero, suc, ◌+◌, ◌-◌, ◌≤◌, ◌<◌}
-use native.Mathlib.Nat.{not-suc-le-zero, le_of_suc-le-suc, add-suc, suc-add, zero-add}
+use Prim.Native.Nat.{ℕ, zero, suc, ◌+◌, ◌-◌, ◌≤◌, ◌<◌, zero-le, suc-le-suc}
+use mathlib.Core.Logic.{inl, inr}
+use native.Mathlib.Nat.{eq-or-lt_of_le, not-suc-le-zero, le_of_suc-le-suc, add-suc, suc-add, zero-add, add-zero}
 use native.Mathlib.Numerals.{add-one}
 use native.Mathlib.Omega.{arith}
-use lib.ListN.{length, take, drop, get_or}
+use lib.ListN.{length, drop, get_or, drop_of_length-le}
+use lib.Seq.{drop-cons}
+use Rattle.std.specs.List.Sorted.{IsPartitionedBy, IsPartitionPoint}
 use Rattle.ids.specs.declared.Ordering.{Ordering}
 use Rattle.ids.specs.declared.Ordering.TheVariants.{Less, Equal, Greater}
 use Rattle.ids.specs.declared.Place.TheVariants.{Before, At}
 use Rattle.ids.specs.Table.{position_from}
 use Rattle.ids.specs.Sorted.{All, Sorted}
-use Rattle.ids.proofs.Views.{length_view, view_at, view_cons, view_nil}
 use Rattle.ids.proofs.Sorted.{Ordered, swapped, no_test}
 use Rattle.rows.specs.Table.{is_less}
 
@@ -30,114 +32,87 @@ equal_told Less u f e g = no_test refl e
 equal_told Equal u f e g = refl
 equal_told Greater u f e g = no_test (ap is_less f) g
 
-module _ {A : Type 0} {cmp : A → A → Ordering} (o : Ordered cmp) (x d : A) where
-  all_nth : (P : A → Type 0) (ys : List A) (k : ℕ) → All P ys → k < length ys → P (get_or ys k d)
-  all_nth P [] k h p = absurd (not-suc-le-zero p)
-  all_nth P (y ∷ ys) zero h p = h.0
-  all_nth P (y ∷ ys) (suc k) h p = all_nth P ys k h.1 (le_of_suc-le-suc p)
+-- What the rows from an index on say.
+module _ {A B : Type 0} (view : A → B) (ys : List A) (i : ℕ) where
+  pub items_next : (d : A) → i < length ys → map view (drop i ys) ≡ view (get_or ys i d) ∷ map view (drop (i + 1) ys)
+  items_next d h = rw (add-one, drop-cons ys i d h) refl
 
-  skip : (i : ℕ) (ys : List A) (k : ℕ) → Sorted cmp ys → k < length ys → cmp (get_or ys k d) x ≡ Less
-      → position_from cmp x (i + suc k) (drop (suc k) ys) ≡ position_from cmp x i ys
+  pub items_done : length ys ≤ i → map view (drop i ys) ≡ []
+  items_done h = ap (map view) (drop_of_length-le ys {i = i} h)
+
+module _ {A B : Type 0} {cmp : B → B → Ordering} (o : Ordered cmp) (view : A → B) (x : B) where
+  -- whether a row is smaller than x
+  abbrev pub precedes : A → Bool
+  precedes y = is_less (cmp (view y) x)
+
+  all_nth : (P : B → Type 0) (ys : List A) (k : ℕ) (d : A) → All P (map view ys) → k < length ys → P (view (get_or ys k d))
+  all_nth P [] k d h p = absurd (not-suc-le-zero p)
+  all_nth P (y ∷ ys) zero d h p = h.0
+  all_nth P (y ∷ ys) (suc k) d h p = all_nth P ys k d h.1 (le_of_suc-le-suc p)
+
+  -- no row that is smaller comes after one that is not
+  pub halved : (ys : List A) → Sorted cmp (map view ys) → IsPartitionedBy precedes ys
+  unfolding is_less
+  halved [] s i j d h p e = absurd (not-suc-le-zero p)
+  halved (y ∷ ys) s zero zero d h p e = e
+  halved (y ∷ ys) s zero (suc j) d h p e =
+      ap is_less (o.trans (view y) (view (get_or ys j d)) x (all_nth (λ z. cmp (view y) z ≡ Less) ys j d s.0 (le_of_suc-le-suc p)) (less_told _ e))
+  halved (y ∷ ys) s (suc i) zero d h p e = absurd (not-suc-le-zero h)
+  halved (y ∷ ys) s (suc i) (suc j) d h p e = halved ys s.1 i j d (le_of_suc-le-suc h) (le_of_suc-le-suc p) e
+
+  -- past k rows that are smaller
+  past : (i k : ℕ) (ys : List A) (d : A) → ((j : ℕ) → j < k → precedes (get_or ys j d) ≡ true) → k ≤ length ys
+      → position_from cmp x i (map view ys) ≡ position_from cmp x (i + k) (map view (drop k ys))
   unfolding position_from
-  skip i [] k s h e = absurd (not-suc-le-zero h)
-  skip i (y ∷ ys) zero s h e = rw (e, position_from, add-one)
-  skip i (y ∷ ys) (suc k) s h e =
-      let less : cmp y x ≡ Less = o.trans y (get_or ys k d) x (all_nth (λ z. cmp y z ≡ Less) ys k s.0 (le_of_suc-le-suc h)) e in
-      rw (less, position_from, add-suc i (suc k)) (rw (suc-add i (suc k)) at (skip (suc i) ys k s.1 (le_of_suc-le-suc h) e))
+  past i zero ys d h p = rw (add-zero i) refl
+  past i (suc k) [] d h p = absurd (not-suc-le-zero p)
+  past i (suc k) (y ∷ ys) d h p =
+      rw (less_told (cmp (view y) x) (h 0 (suc-le-suc zero-le)), position_from, add-suc i k)
+      (rw (suc-add i k) at (past (suc i) k ys d (λ j q. h (suc j) (suc-le-suc q)) (le_of_suc-le-suc p)))
 
-  -- past an entry that is smaller, so are all before it
-  past : (ys : List A) (k : ℕ) → Sorted cmp ys → k < length ys → cmp (get_or ys k d) x ≡ Less
-      → position_from cmp x (k + 1) (drop (k + 1) ys) ≡ position_from cmp x 0 ys
-  past ys k s h e = rw add-one (rw (zero-add (suc k)) at (skip 0 ys k s h e))
-
--- x is searched among the first n rows, which are in order; d stands for a row past the last
-pub record HalvingSearch {A B : Type 0} (cmp : B → B → Ordering) (view : A → B) (n : ℕ) (rows : List A) (x : B) (d : A) : Type 0 where
-  pub ordered : Ordered cmp
-  pub there : n ≤ length rows
-  pub sorted : Sorted cmp (map view (take n rows))
-
--- the search is between low and high: the rows before low are smaller than x, and that at high is not
-pub record Halving {A B : Type 0} (cmp : B → B → Ordering) (view : A → B) (n : ℕ) (rows : List A) (x : B) (d : A) (low high : ℕ) : Type 0 where
-  pub sought : HalvingSearch cmp view n rows x d
-  pub from : position_from cmp x low (drop low (map view (take n rows))) ≡ position_from cmp x 0 (map view (take n rows))
-  pub above : is_less (cmp (view (get_or rows high d)) x) ≡ false
-  pub fits : low ≤ high
-  pub within : high < n
-
-module _ {A B : Type 0} {cmp : B → B → Ordering} {view : A → B} {n : ℕ} {rows : List A} {x : B} {d : A} (s : HalvingSearch cmp view n rows x d) where
   -- there is none
-  pub halving_none : n ≡ 0 → Before 0 ≡ position_from cmp x 0 (map view (take n rows))
+  pub none_there : (ys : List A) → length ys ≡ 0 → Before 0 ≡ position_from cmp x 0 (map view ys)
   unfolding position_from
-  halving_none e = rw e refl
+  none_there [] e = refl
+  none_there (y ∷ ys) e = absurd (omega (arith, e))
 
-  -- y is the row k, and b whether it is smaller than x
-  module _ (k : ℕ) {y : B} {b : Bool} (is : y ≡ view (get_or rows k d)) (test : b ≡ is_less (cmp y x)) where
-    told : {t : Bool} → b ≡ t → is_less (cmp (view (get_or rows k d)) x) ≡ t
-    told e = ap (λ (z : B). is_less (cmp z x)) (sym is) ∙ sym test ∙ e
-
-    passed : k < n → b ≡ true → position_from cmp x (k + 1) (drop (k + 1) (map view (take n rows))) ≡ position_from cmp x 0 (map view (take n rows))
-    passed h e =
-        let inside : k < length (map view (take n rows)) = omega (arith, length_view view n rows, s.there) in
-        past s.ordered x (view d) (map view (take n rows)) k s.sorted inside
-        (ap (λ (z : B). cmp z x) (view_at view n rows k d inside) ∙ less_told (cmp (view (get_or rows k d)) x) (told e))
-
-    -- the last is smaller
-    pub halving_last : 0 < n → k ≡ n - 1 → b ≡ true → Before n ≡ position_from cmp x 0 (map view (take n rows))
+  module _ (ys : List A) (d : A) (s : Sorted cmp (map view ys)) where
+    -- the last is smaller, and so are all
+    pub past_all : 0 < length ys → precedes (get_or ys (length ys - 1) d) ≡ true → Before (length ys) ≡ position_from cmp x 0 (map view ys)
     unfolding position_from
-    halving_last h last e =
-        let end : k + 1 ≡ n = omega arith in
-        rw (view_nil view n rows n (omega arith), position_from) at (rw end at (passed (omega arith) e))
+    past_all some e =
+        let n = length ys in
+        let none : drop n ys ≡ [] = drop_of_length-le ys {i = n} (omega arith) in
+        sym (past 0 n ys d (λ j q. halved ys s j (n - 1) d (omega arith) (omega arith) e) (omega arith) ∙ rw (zero-add n, none) refl)
 
-    -- it is not: the search starts
-    pub halving_start : 0 < n → k ≡ n - 1 → b ≡ false → Halving cmp view n rows x d 0 k
-    halving_start h last e = record { sought = s; from = refl; above = told e; fits = omega arith; within = omega arith }
+    -- k rows are smaller, those from there on are not, and there is one
+    module _ (k : ℕ) (point : IsPartitionPoint (λ y. precedes y ≡ true) (λ y. precedes y ≡ false) ys k) (there : k < length ys) where
+      abbrev here : B
+      here = view (get_or ys k d)
 
-module _ {A B : Type 0} {cmp : B → B → Ordering} {view : A → B} {n : ℕ} {rows : List A} {x : B} {d : A} {low high : ℕ}
-    (so_far : Halving cmp view n rows x d low high) where
-  abbrev s : HalvingSearch cmp view n rows x d
-  s = so_far.sought
+      head : position_from cmp x 0 (map view ys) ≡ position_from cmp x k (here ∷ map view (drop (suc k) ys))
+      head =
+          past 0 k ys d (λ j q. point.0 j d zero-le q) (omega arith)
+          ∙ rw (zero-add k) (ap (λ (l : List A). position_from cmp x k (map view l)) (drop-cons ys k d there))
 
-  -- y is a row k in the middle, and b whether it is smaller than x
-  module _ (k : ℕ) {y : B} {b : Bool} (is : y ≡ view (get_or rows k d)) (test : b ≡ is_less (cmp y x)) (after : low ≤ k) (before : k < high) where
-    -- it is
-    pub halving_low : b ≡ true → Halving cmp view n rows x d (k + 1) high
-    halving_low e = record {
-      sought = s;
-      from = passed s k is test (omega (arith, so_far.within)) e;
-      above = so_far.above;
-      fits = omega arith;
-      within = so_far.within;
-    }
+      -- x is smaller than it
+      pub found_before : is_less (cmp x here) ≡ true → Before k ≡ position_from cmp x 0 (map view ys)
+      unfolding position_from
+      found_before e =
+          let g : cmp here x ≡ Greater = o.flip x here ∙ ap swapped (less_told (cmp x here) e) in
+          sym (rw (g, position_from) at head)
 
-    -- it is not
-    pub halving_high : b ≡ false → Halving cmp view n rows x d low k
-    halving_high e = record { sought = s; from = so_far.from; above = told s k is test e; fits = after; within = omega (arith, so_far.within) }
+      -- x is not, so that they are equal
+      pub found_at : is_less (cmp x here) ≡ false → At k ≡ position_from cmp x 0 (map view ys)
+      unfolding position_from
+      found_at e =
+          let g : cmp here x ≡ Equal = equal_told (cmp here x) (cmp x here) (o.flip here x) (point.1 k d (omega arith) there) e in
+          sym (rw (g, position_from) at head)
 
-  -- one is left, y; b is whether x is smaller
-  module _ (end : high ≤ low) {y : B} {b : Bool} (is : y ≡ view (get_or rows low d)) (test : b ≡ is_less (cmp x y)) where
-    abbrev here : B
-    here = view (get_or rows low d)
-
-    head : position_from cmp x 0 (map view (take n rows)) ≡ position_from cmp x low (here ∷ drop (low + 1) (map view (take n rows)))
-    head =
-        let inside : low < n = omega (arith, so_far.fits, so_far.within) in
-        sym so_far.from ∙ ap (position_from cmp x low) (view_cons view n rows low d inside (omega (arith, s.there)))
-
-    answer : {t : Bool} → b ≡ t → is_less (cmp x here) ≡ t
-    answer e = ap (λ (z : B). is_less (cmp x z)) (sym is) ∙ sym test ∙ e
-
-    -- it is
-    pub halving_before : b ≡ true → Before low ≡ position_from cmp x 0 (map view (take n rows))
-    unfolding position_from
-    halving_before e =
-        let g : cmp here x ≡ Greater = s.ordered.flip x here ∙ ap swapped (less_told (cmp x here) (answer e)) in
-        sym (rw (g, position_from) at head)
-
-    -- it is not, so that they are equal
-    pub halving_at : b ≡ false → At low ≡ position_from cmp x 0 (map view (take n rows))
-    unfolding position_from
-    halving_at e =
-        let same : high ≡ low = omega (arith, so_far.fits) in
-        let above : is_less (cmp here x) ≡ false = rw same at so_far.above in
-        let g : cmp here x ≡ Equal = equal_told (cmp here x) (cmp x here) (s.ordered.flip here x) above (answer e) in
-        sym (rw (g, position_from) at head)
+  -- where the last is not smaller, one is not
+  pub below_last : (ys : List A) (d : A) (k : ℕ) → 0 < length ys → k ≤ length ys → ((j : ℕ) (e : A) → 0 ≤ j → j < k → precedes (get_or ys j e) ≡ true)
+      → precedes (get_or ys (length ys - 1) d) ≡ false → k < length ys
+  below_last ys d k some h before e = elim (eq-or-lt_of_le h) [
+    | inl all ↦ no_test (before (length ys - 1) d zero-le (omega arith)) e
+    | inr less ↦ less
+  ]

@@ -9,7 +9,7 @@ use Rattle.ids.specs.declared.Ordering.{Ordering}
 use Rattle.ids.specs.Table.{Sized}
 use Rattle.ids.specs.Sorted.{Sorted}
 use Rattle.ids.proofs.Views.{length_view}
-use Rattle.ids.proofs.Sorted.{Ordered}
+use Rattle.ids.proofs.Sorted.{Ordered, placed_sorted}
 use Rattle.ids.proofs.Appending.{AppendTurn, turned_none, turned_placed, turned_all}
 use Rattle.rows.specs.Table.{Inserted, InPlaceRewritten}
 
@@ -73,3 +73,24 @@ module _ {A B : Type 0} {cmp : B → B → Ordering} (o : Ordered cmp) (view : A
       most = omega (arith, so_far.few);
       long = so_far.long;
     }
+
+-- the same without what f does: k rows in order are done, of the first i, and those from i on are as they were
+pub record Going {A B : Type 0} (cmp : B → B → Ordering) (view : A → B) (before now : List A) (i k : ℕ) : Type 0 where
+  pub few : k ≤ i
+  pub sorted : Sorted cmp (map view (take k now))
+  pub rest : drop i now ≡ drop i before
+  pub long : length now ≡ length before
+
+module _ {A B : Type 0} {cmp : B → B → Ordering} (o : Ordered cmp) (view : A → B) (before : List A) where
+  pub going_none : Going cmp view before before 0 0
+  going_none = record { few = omega arith; sorted = tt; rest = refl; long = refl }
+
+  -- one more is done, and x inserted
+  pub going_next : {now after : List A} {i k r : ℕ} {x : B} → Going cmp view before now i k → Inserted cmp view x k now after r
+      → Going cmp view before after (i + 1) r
+  going_next {now} {after} {i} {k} {r} {x} so_far put = record {
+    few = omega (arith, so_far.few, put.most);
+    sorted = rw put.is (placed_sorted o x (map view (take k now)) so_far.sorted);
+    rest = drop_later after now (k + 1) (i + 1) (omega (arith, so_far.few)) put.rest ∙ drop_later now before i (i + 1) (omega arith) so_far.rest;
+    long = put.long ∙ so_far.long;
+  }

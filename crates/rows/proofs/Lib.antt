@@ -1,6 +1,5 @@
 pub mod Copying
 pub mod InPlace
-pub mod Four
 pub mod Halving
 pub mod Shifting
 pub mod Adjacent

@@ -1,60 +1,55 @@
--- A row more among the first n of an array, over any type of rows: those from an index on are moved up by one, the last first.
-use mathlib.Core.Path.{◌≡◌, refl, sym, ◌∙◌}
-use mathlib.Core.List.{List, map}
-use Prim.Native.Nat.{ℕ, ◌+◌, ◌-◌, ◌≤◌, ◌<◌}
+-- A row more among the first n of an array, over any type of rows: those from an index on are moved up by one.
+use mathlib.Core.Path.{◌≡◌, refl, sym, ap, ◌∙◌}
+use mathlib.Core.List.{List, [], ◌∷◌, ◌++◌, map, append_assoc}
+use Prim.Native.Nat.{ℕ, suc, ◌+◌, ◌-◌, ◌≤◌, ◌<◌}
 use native.Mathlib.Omega.{arith}
-use lib.ListN.{length, take, drop, get_or, set, length-set}
-use lib.Seq.{drop-set-lt}
+use lib.ListN.{length, take, drop, set, length-set, length-drop, drop_of_length-le}
+use lib.Seq.{drop-set-lt, take-set-lt, set-append_left, set_split, take-take, length-take-le, take-paste, drop-paste, length-paste}
 use Rattle.ids.specs.declared.Ordering.{Ordering}
 use Rattle.ids.specs.declared.Place.{Place}
 use Rattle.ids.specs.declared.Place.TheVariants.{Before, At}
 use Rattle.ids.specs.Table.{position_from}
 use Rattle.ids.proofs.Views.{length_view, view_placed}
-use Rattle.ids.proofs.Shift.{Shifted, shift_start, shift_turn, shift_done}
+use Rattle.std.specs.List.{copy_within}
+use Rattle.std.proofs.lemmas.List.{drop-take}
 use Rattle.ids.proofs.Sorted.{placed_present}
 use Rattle.ids.proofs.Tables.{at_present, before_spot}
 use Rattle.rows.specs.Table.{RowPlaced, Inserted}
 
--- ys is xs, but that the rows from i to n stand one place higher; this goes on down to the index `at`
-pub record Shifting {A : Type 0} (xs ys : List A) (n at i : ℕ) : Type 0 where
-  pub moved : Shifted xs ys n i
-  pub rest : drop (n + 1) ys ≡ drop (n + 1) xs
-  pub above : at ≤ i
-  pub few : i ≤ n
-  pub room : n < length xs
+-- The rows from an index on are copied one place higher, and the new row is stored.
+module _ {A : Type 0} (xs : List A) (n at : ℕ) (x : A) (h : at ≤ n) (room : n < length xs) where
+  abbrev pub copied : List A
+  copied = copy_within xs at n (at + 1)
 
-module _ {A : Type 0} {xs : List A} {n at : ℕ} where
-  pub shifting_start : at ≤ n → n < length xs → Shifting xs xs n at n
-  shifting_start h room = record { moved = shift_start xs n; rest = refl; above = h; few = omega arith; room = room }
+  end : at + 1 + (n - at) ≡ n + 1
+  end = omega arith
 
-  module _ {ys : List A} {i : ℕ} (so_far : Shifting xs ys n at i) where
-    -- the row i is there
-    pub shifting_there : i < length ys
-    shifting_there = omega (arith, so_far.few, so_far.room, so_far.moved.long)
+  many : n - at ≤ length (drop at xs)
+  many = omega (arith, length-drop at xs)
 
-    kept : (x : A) → drop (n + 1) (set ys i x) ≡ drop (n + 1) xs
-    kept x = drop-set-lt (n + 1) ys i x (omega (arith, so_far.few)) ∙ so_far.rest
+  -- those before the index, and the new one
+  front : set (take (at + 1) xs) at x ≡ take at xs ++ x ∷ []
+  front =
+      let short : length (take (at + 1) xs) ≡ at + 1 = length-take-le (at + 1) xs (omega arith) in
+      let none : drop (suc at) (take (at + 1) xs) ≡ [] = drop_of_length-le (take (at + 1) xs) {i = suc at} (omega (arith, short)) in
+      let same : take at (take (at + 1) xs) ≡ take at xs = take-take at (at + 1) xs (omega arith) in
+      set_split (take (at + 1) xs) at x (omega (arith, short)) ∙ rw (none, same) refl
 
-    -- the row below i moves to i
-    pub shifting_turn : (d : A) → at < i → Shifting xs (set ys i (get_or ys (i - 1) d)) n at (i - 1)
-    shifting_turn d h = record {
-      moved = shift_turn d xs ys n i so_far.moved (omega arith) so_far.few so_far.room;
-      rest = kept (get_or ys (i - 1) d);
-      above = omega arith;
-      few = omega (arith, so_far.few);
-      room = so_far.room;
-    }
+  used : take (n + 1) (set copied at x) ≡ take at xs ++ x ∷ drop at (take n xs)
+  used =
+      let whole : at + (n - at) ≡ n = omega arith in
+      let moved : take (n - at) (drop at xs) ≡ drop at (take n xs) = sym (rw whole at (drop-take at (n - at) xs)) in
+      take-set-lt (n + 1) copied at x (omega arith)
+      ∙ ap (λ (l : List A). set l at x) (ap (λ (m : ℕ). take m copied) (sym end) ∙ take-paste xs (at + 1) (drop at xs) (n - at) (omega arith) many)
+      ∙ set-append_left (take (at + 1) xs) (take (n - at) (drop at xs)) at x (omega (arith, length-take-le (at + 1) xs (omega arith)))
+      ∙ (λ k. front k ++ moved k) ∙ append_assoc (take at xs) (x ∷ []) (drop at (take n xs))
 
-    -- the new row is stored at its place
-    pub shifting_done : (x : A) → i ≤ at → RowPlaced n at x xs (set ys at x)
-    shifting_done x h =
-        let e : i ≡ at = omega (arith, so_far.above) in
-        let put : RowPlaced n i x xs (set ys i x) = record {
-          is = shift_done xs ys n i x so_far.moved so_far.few so_far.room;
-          rest = kept x;
-          long = length-set ys i x ∙ so_far.moved.long;
-        } in
-        rw e at put
+  pub row_placed : RowPlaced n at x xs (set copied at x)
+  row_placed = record {
+    is = used;
+    rest = drop-set-lt (n + 1) copied at x (omega arith) ∙ ap (λ (m : ℕ). drop m copied) (sym end) ∙ drop-paste xs (at + 1) (drop at xs) (n - at) (omega arith) many ∙ ap (λ (m : ℕ). drop m xs) end;
+    long = length-set copied at x ∙ length-paste xs (at + 1) (drop at xs) (n - at) (omega arith) many;
+  }
 
 -- An entry inserted where it was found to stand, or to go.
 module _ {A B : Type 0} (cmp : B → B → Ordering) (view : A → B) (x : B) (n : ℕ) (rows : List A) (room : n < length rows) {p : Place}

@@ -2,12 +2,12 @@
 -- three passes one after the other.
 use mathlib.Core.Path.{◌≡◌, refl, sym, ap, subst, ◌∙◌}
 use mathlib.Core.List.{List, [], ◌∷◌, ◌++◌, map, append-nil}
-use Prim.Native.Nat.{ℕ, suc, ◌+◌, ◌*◌, ◌≤◌, ◌<◌}
+use Prim.Native.Nat.{ℕ, ◌+◌, ◌*◌, ◌≤◌, ◌<◌}
 use native.Mathlib.Numerals.{add-one}
-use native.Mathlib.Nat.{mul-le-mul_right}
+use native.Mathlib.Nat.{add-mul, mul-le-mul_right}
 use native.Mathlib.Omega.{arith}
-use lib.ListN.{length, take, drop, get_or, length-take, drop_of_length-le}
-use lib.Seq.{take-take, take_all, drop-cons, get_or-take}
+use lib.ListN.{length, take, drop, get_or, drop_of_length-le}
+use lib.Seq.{take-take, take_all, drop-cons}
 use Rattle.ids.specs.declared.ElId.{ElId}
 use Rattle.ids.specs.declared.TypeId.{TypeId}
 use Rattle.ids.specs.declared.ElIds.{ElIds}
@@ -18,19 +18,19 @@ use Rattle.signature.specs.declared.Typed.{Typed}
 use Rattle.signature.specs.declared.Typed.TheVariants.{At, Absent}
 use Rattle.signature.specs.Model.{Sig, TypeM, sig, func_at}
 use Rattle.signature.specs.Calls.{TypedM, typed_of, concrete_type_at}
-use Rattle.semantics.specs.Structure.{Fact, fact}
+use Rattle.semantics.specs.Structure.{Fact, fact, max_func_apps, max_pred_apps}
 use Rattle.semantics.specs.Types as types
 use Rattle.semantics.specs.Types.{impose, impose_all}
 use Rattle.semantics.specs.Close.{demanded, demanded_at, demanded_args, func_args, pred_args, func_results, demands}
 use Rattle.semantics.proofs.Imposed.{impose_all_none, impose_all_append}
-use Rattle.app_rows.specs.View.{func_app_in, func_apps_in, pred_apps_in}
-use Rattle.merging.specs.View.{Lent, core_of, Toward, Passes}
-use Rattle.merging.proofs.Laws.{stays, counts_as, follows, turn, idle_turn, func_apps_kept, pred_apps_kept}
-use Rattle.typing.specs.Bounds.{all_funcs, all_preds, all_demands}
-use Rattle.typing.specs.Rows.{DemandM, demand_of, asked_of, all_asked}
-use Rattle.typing.specs.declared.DemandKind.{DemandKind}
-use Rattle.typing.specs.declared.DemandKind.TheVariants.{FuncArgs, PredArgs, FuncResults}
+use Rattle.merging.specs.View.{Lent, core_of, frame, work_of, LentHeld, RoomToCount, Toward, Passes}
+use Rattle.merging.proofs.Laws.{stays, follows, turn, idle_turn, does}
+use Rattle.typing.specs.Bounds.{one_demand, all_demands}
+use Rattle.typing.specs.Rows.{DemandM, demand_of, of_func_args, of_pred_args, of_func_result, all_asked}
 use Rattle.typing.specs.declared.Demand.{Demand}
+use Rattle.apps.specs.declared.FuncApp as code
+use Rattle.apps.specs.declared.PredApp as pred
+use Rattle.apps.specs.View.{func_app_of, pred_app_of}
 
 -- a list whose length is cut, or is not
 pub cut : (l : ElIds) (n : ℕ) → n ≤ l.len → map el_of (take n l.ids) ≡ take n (els_of l)
@@ -121,65 +121,76 @@ pub asked_by_types : (g : Sig) {ms : List TypeM} → g.types ≡ ms → (d : Dem
 asked_by_types g e d {before} {now} {most} =
     subst (λ (l : List Fact). Passes before now most (impose_all l)) (sym (by_types g e d.expected d.parents d.els))
 
--- The applications of a table, one after the other.
+-- Some applications, one after the other.
 
-none_asked : (g : Sig) (a : DemandKind) → all_asked g a [] ≡ []
-unfolding func_args pred_args func_results
-none_asked g FuncArgs = refl
-none_asked g PredArgs = refl
-none_asked g FuncResults = refl
+-- what a pass in progress keeps, whatever it does
+pub record Going (before now : Lent) (most : ℕ) : Type 0 where
+  pub holds : LentHeld now
+  pub kept : frame now.counts ≡ frame before.counts
+  pub count_most : work_of now.counts ≤ most + work_of before.counts
 
-next_asked : (g : Sig) (a : DemandKind) (row : List ℕ) (rows : List (List ℕ))
-    → all_asked g a (row ∷ rows) ≡ asked g (asked_of g.funcs g.preds a row) ++ all_asked g a rows
-unfolding func_args pred_args func_results demanded_args
-next_asked g FuncArgs row rows = refl
-next_asked g PredArgs row rows = refl
-next_asked g FuncResults row rows =
-    let x = func_app_in row in
-    ap (λ (l : List Fact). l ++ func_results g (map func_app_in rows)) (sym (append-nil (demanded_at g (func_at g x.func).codomain x.parents x.result)))
+module _ {before now : Lent} (per i : ℕ) (going : Going before now (i * per)) where
+  -- there is room for a turn, where there was for n of them
+  pub room_here : {n : ℕ} → RoomToCount (n * per) before.counts → i + 1 ≤ n → RoomToCount per now.counts
+  room_here {n} r h = omega (arith, r, going.count_most, add-mul i 1 per, mul-le-mul_right per h)
 
-drop_next : (n : ℕ) (rows : List (List ℕ)) (i : ℕ) (row : List ℕ) → i < n → i < length rows
-    → drop i (take n rows) ≡ get_or rows i row ∷ drop (i + 1) (take n rows)
-drop_next n rows i row hn hl =
-    rw add-one (drop-cons (take n rows) i row (omega (arith, length-take n rows))
-    ∙ ap (λ (r : List ℕ). r ∷ drop (suc i) (take n rows)) (get_or-take n rows i row hn))
+  -- a turn is made
+  pub goes_on : {next : Lent} {g : types.Core → types.Core} → Passes now next per g → Going before next ((i + 1) * per)
+  goes_on p = record {
+    holds = p.holds;
+    kept = p.kept ∙ going.kept;
+    count_most = omega (arith, p.count_most, going.count_most, add-mul i 1 per);
+  }
 
-module _ (g : Sig) (a : DemandKind) where
-  -- none is there
-  pub none_used : (rows : List (List ℕ)) {n : ℕ} → n ≡ 0 → (w : types.Core) → w ≡ impose_all (all_asked g a (take n rows)) w
-  none_used rows e w =
-      sym (ap (λ (k : ℕ). impose_all (all_asked g a (take k rows)) w) e ∙ ap (λ (l : List Fact). impose_all l w) (none_asked g a) ∙ impose_all_none w)
+-- there is none
+pub none_asked : (g : Sig) {A : Type 0} (ask : A → DemandM) (xs : List A) → length xs ≡ 0 → (w : types.Core) → w ≡ impose_all (all_asked g ask xs) w
+none_asked g ask [] e w = sym (impose_all_none w)
+none_asked g ask (x ∷ xs) e w = absurd (omega (arith, e))
 
-  -- a loop over the first n rows, at row i
-  module _ (n : ℕ) (rows : List (List ℕ)) {before now : Lent} (per i : ℕ) {whole : types.Core → types.Core}
-      (so_far : Toward before now (i * per) (impose_all (all_asked g a (drop i (take n rows)))) whole) where
-    pub app_imposed : {after : Lent} (d : Demand) (row : List ℕ) → i < n → i < length rows → demand_of d ≡ asked_of g.funcs g.preds a (get_or rows i row)
-        → Passes now after per (impose_all (asked g (demand_of d)))
-        → Toward before after ((i + 1) * per) (impose_all (all_asked g a (drop (i + 1) (take n rows)))) whole
-    app_imposed d row hn hl e p =
-        let next = drop (i + 1) (take n rows) in
-        imposes per i so_far (asked g (demand_of d)) (all_asked g a next)
-        (ap (all_asked g a) (drop_next n rows i row hn hl) ∙ next_asked g a (get_or rows i row) next ∙ ap (λ (x : DemandM). asked g x ++ all_asked g a next) (sym e)) p
+module _ (g : Sig) {A : Type 0} (ask : A → DemandM) (xs : List A) {before now : Lent} (per i : ℕ) {whole : types.Core → types.Core}
+    (so_far : Toward before now (i * per) (impose_all (all_asked g ask (drop i xs))) whole) where
+  pub app_imposed : {after : Lent} (d : Demand) (x : A) → i < length xs → demand_of d ≡ ask (get_or xs i x)
+      → Passes now after per (impose_all (asked g (demand_of d)))
+      → Toward before after ((i + 1) * per) (impose_all (all_asked g ask (drop (i + 1) xs))) whole
+  app_imposed d x h e p =
+      let next = drop (i + 1) xs in
+      imposes per i so_far (asked g (demand_of d)) (all_asked g ask next)
+      (rw add-one (ap (all_asked g ask) (drop-cons xs i x h)) ∙ ap (λ (m : DemandM). asked g m ++ all_asked g ask next) (sym e)) p
 
-    pub apps_imposed : {most : ℕ} → n ≤ i → i ≤ most → Passes before now (most * per) whole
-    apps_imposed h k =
-        imposed_all per i so_far (ap (all_asked g a) (drop_of_length-le (take n rows) {i = i} (omega (arith, length-take n rows))) ∙ none_asked g a) k
+  pub apps_imposed : length xs ≤ i → i ≤ length xs → Passes before now (length xs * per) whole
+  apps_imposed h k = imposed_all per i so_far (ap (all_asked g ask) (drop_of_length-le xs {i = i} h)) k
 
--- Passes keep the numbers of applications, so that the three are told by those at the start.
+-- What the three passes ask.
 
-pub all_demanded : (g : Sig) (apps preds : List (List ℕ)) {start first second after : Lent}
-    → Passes start first all_funcs (impose_all (func_args g (func_apps_in start.counts.func_apps apps)))
-    → Passes first second all_preds (impose_all (pred_args g (pred_apps_in first.counts.pred_apps preds)))
-    → Passes second after all_funcs (impose_all (func_results g (func_apps_in second.counts.func_apps apps)))
-    → Passes start after all_demands (impose_all (demands g (func_apps_in start.counts.func_apps apps) (pred_apps_in start.counts.pred_apps preds)))
+func_args_asked : (g : Sig) (xs : List code.FuncApp) → all_asked g (λ x. of_func_args g.funcs (func_app_of x)) xs ≡ func_args g (map func_app_of xs)
+unfolding func_args
+func_args_asked g [] = refl
+func_args_asked g (x ∷ xs) = ap (λ (l : List Fact). asked g (of_func_args g.funcs (func_app_of x)) ++ l) (func_args_asked g xs)
+
+pred_args_asked : (g : Sig) (xs : List pred.PredApp) → all_asked g (λ x. of_pred_args g.preds (pred_app_of x)) xs ≡ pred_args g (map pred_app_of xs)
+unfolding pred_args
+pred_args_asked g [] = refl
+pred_args_asked g (x ∷ xs) = ap (λ (l : List Fact). asked g (of_pred_args g.preds (pred_app_of x)) ++ l) (pred_args_asked g xs)
+
+func_results_asked : (g : Sig) (xs : List code.FuncApp) → all_asked g (λ x. of_func_result g.funcs (func_app_of x)) xs ≡ func_results g (map func_app_of xs)
+unfolding func_results demanded_args
+func_results_asked g [] = refl
+func_results_asked g (x ∷ xs) =
+    let y = func_app_of x in
+    (λ i. append-nil (demanded_at g (func_at g y.func).codomain y.parents y.result) i ++ func_results_asked g xs i)
+
+pub all_demanded : (g : Sig) (apps : List code.FuncApp) (preds : List pred.PredApp) {n m : ℕ} {start first second after : Lent}
+    → n ≤ max_func_apps → m ≤ max_pred_apps
+    → Passes start first (n * one_demand) (impose_all (all_asked g (λ x. of_func_args g.funcs (func_app_of x)) apps))
+    → Passes first second (m * one_demand) (impose_all (all_asked g (λ x. of_pred_args g.preds (pred_app_of x)) preds))
+    → Passes second after (n * one_demand) (impose_all (all_asked g (λ x. of_func_result g.funcs (func_app_of x)) apps))
+    → Passes start after all_demands (impose_all (demands g (map func_app_of apps) (map pred_app_of preds)))
 unfolding demands
-all_demanded g apps preds {start} p q r =
-    let n = start.counts.func_apps in
-    let xs = func_args g (func_apps_in n apps) in
-    let ys = pred_args g (pred_apps_in start.counts.pred_apps preds) in
-    let zs = func_results g (func_apps_in n apps) in
+all_demanded g apps preds {start = start} h k p q r =
+    let xs = func_args g (map func_app_of apps) in
+    let ys = pred_args g (map pred_app_of preds) in
+    let zs = func_results g (map func_app_of apps) in
     let args = impose_all xs (core_of start) in
-    let funcs = func_apps_kept q ∙ func_apps_kept p in
-    counts_as (follows (follows p q) r)
-    ((λ k. impose_all (func_results g (func_apps_in (funcs k) apps)) (impose_all (pred_args g (pred_apps_in (pred_apps_kept p k) preds)) args))
+    does (follows (follows p q) r) (omega (arith, mul-le-mul_right one_demand h, mul-le-mul_right one_demand k))
+    ((λ i. impose_all (func_results_asked g apps i) (impose_all (pred_args_asked g preds i) (impose_all (func_args_asked g apps i) (core_of start))))
     ∙ sym (impose_all_append ys zs args) ∙ sym (impose_all_append xs (ys ++ zs) (core_of start)))

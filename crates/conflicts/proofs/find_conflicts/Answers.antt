@@ -1,31 +1,33 @@
 -- `find_conflicts` meets its contract.
 use mathlib.Core.Path.{◌≡◌, refl, sym, ap, ◌∙◌}
-use mathlib.Core.List.{[]}
-use Prim.Native.Nat.{ℕ, ◌≤◌, ◌<◌}
+use mathlib.Core.List.{map}
+use Prim.Native.Nat.{ℕ, ◌-◌, ◌≤◌, ◌<◌}
 use native.Mathlib.Omega.{arith}
-use lib.ListN.{length, get_or}
+use lib.ListN.{length, drop, get_or, length-take, length-drop, length-map}
+use lib.Seq.{take-length}
 use Rattle.ids.specs.declared.ElId.{ElId}
 use Rattle.ids.specs.declared.ElIds.{ElIds}
 use Rattle.ids.specs.Ids.{whole}
-use Rattle.ids.proofs.Views.{length_view}
 use Rattle.unification.specs.Roots.{max_els, root_of}
 use Rattle.semantics.specs.Structure.{Structure}
 use Rattle.semantics.specs.Types.{facts_at}
 use Rattle.semantics.specs.Conflicts.{conflicts_below, type_conflicts_of, finds_below, conflict_finds}
-use Rattle.fact_rows.specs.View.{facts_in}
 use Rattle.el_rows.specs.View.{link_in, links_in}
-use Rattle.conflicts.specs.View.{Span, conflicts_in, finds_in}
+use Rattle.conflicts.specs.View.{Span, conflicts_in, finds_in, no_span}
+use Rattle.conflicts.proofs.Spans.{span_sliced}
 use Rattle.conflicts.proofs.Laws.{bare, parents_done, parents_past, parents_match_lem, parents_differ, other_type, other_parents, all_alike}
 use Rattle.conflicts.proofs.Laws.{no_root, few_facts, unsearched, second_fact}
 use Rattle.conflicts.proofs.Laws.{still_alike, class_done, class_conflict, next_fact}
 use Rattle.conflicts.proofs.find_conflicts.Goals as goal
 use Rattle.conflicts.proofs.find_conflicts.Goals.{At-classes, At-paired, Else-root-el}
+use Rattle.facts.specs.View.{fact_of, no_fact}
+use Rattle.rows.specs.View.{facts_in}
 
 -- The places of the loops.
 -- the structure whose conflicts are searched for
 abbrev given : At-classes → Structure
 given c =
-    bare (links_in c.args.n c.args.els.now) (facts_in c.args.m c.args.facts.now)
+    bare (links_in c.args.els.now) (facts_in (length c.args.facts.now) c.args.facts.now)
 
 pub classes-init : goal.classes-init
 unfolding conflicts_below finds_below
@@ -46,16 +48,16 @@ classes-preserved-then-root-el c =
 
 -- an element that is a root, below the most that there can be
 root : (c : Else-root-el) →
-    root_of (given c.before.before.before.before.before).links c.classes.e ≡ c.classes.e
+    root_of (links_in c.args.els.now) c.classes.e ≡ c.classes.e
 root c = sym c.find-root.ensures ∙ c.if-root-el.false
 
 below_most : (c : Else-root-el) → c.classes.e < max_els
 below_most c =
-    omega (arith, c.classes-test.true, c.requires.1.0)
+    omega (arith, c.classes-test.true, c.requires.0)
 
 -- where its facts stand
 span_of : (c : Else-root-el) →
-    Span c.args.facts.now c.args.m c.classes.e (get_or c.spans_of-spans.result c.classes.e [])
+    Span c.args.facts.now (length c.args.facts.now) c.classes.e (get_or c.spans_of-spans.result c.classes.e no_span)
 span_of c = c.spans_of-spans.ensures.each _ (below_most c)
 
 pub bounds-spans-e : goal.bounds-spans-e
@@ -72,21 +74,11 @@ classes-preserved-then-span-lt2 c =
     }
 
 -- A class that is searched.
-pub slice_bounds-concrete_types_of-end : goal.slice_bounds-concrete_types_of-end
-slice_bounds-concrete_types_of-end c = sym c.classes.invariant.long
-
-pub overflow_cast-from : goal.overflow_cast-from
-overflow_cast-from c =
-    record { fits = omega (arith, (span_of (goal.at.overflow_cast-from c).Else-root-el).first_within, c.requires.1.1.1) }
-
-pub overflow_cast-to : goal.overflow_cast-to
-overflow_cast-to c =
-    record { fits = omega (arith, (span_of (goal.at.overflow_cast-to c).Else-root-el).last_within, c.requires.1.1.1) }
-
 pub concrete_types_of-k-requires : goal.concrete_types_of-k-requires
 concrete_types_of-k-requires c =
-    let to = (span_of (goal.at.concrete_types_of-k-requires c).Else-root-el).last_within in
-    (c.requires.0, (omega (arith, to, c.requires.1.1.0), (omega (arith, to, c.requires.1.1.1), c.classes.invariant.long)))
+    let span = get_or c.spans_of-spans.result c.classes.e no_span in
+    let facts = c.args.facts.now in
+    (omega (arith, length-take (span.end - span.first) (drop span.first facts), length-drop span.first facts, c.requires.1), c.classes.invariant.long)
 
 pub overflow_add-finds : goal.overflow_add-finds
 overflow_add-finds c =
@@ -100,8 +92,8 @@ stored-init c =
       refl,
       (
         refl,
-        second_fact s _ l.e c.concrete_types_of-k.ensures (root (goal.at.stored-init c).Else-root-el) many (span_of (goal.at.stored-init c).Else-root-el).between c.classes-test.true
-            (below_most (goal.at.stored-init c).Else-root-el) c.fact_of-a.ensures c.find_parents-first.ensures l.invariant.so_far,
+        second_fact s _ l.e no_fact c.concrete_types_of-k.ensures (root (goal.at.stored-init c).Else-root-el) many (ap (facts_at l.e) (span_sliced c.args.facts.now _ _ (span_of (goal.at.stored-init c).Else-root-el).ordered) ∙ (span_of (goal.at.stored-init c).Else-root-el).between) c.classes-test.true
+            (below_most (goal.at.stored-init c).Else-root-el) c.find_parents-first.ensures l.invariant.so_far,
       ),
     )
 
@@ -124,7 +116,7 @@ classes-smaller-then-a-b c =
 pub classes-preserved-then-a-b : goal.classes-preserved-then-a-b
 classes-preserved-then-a-b c =
     let l = c.stored in
-    class_conflict l.invariant.1.1 [] c.fact_of-b.ensures c.stored-test.true l.invariant.0 l.invariant.1.0 c.push-conflicts.ensures
+    class_conflict l.invariant.1.1 no_fact c.stored-test.true l.invariant.0 l.invariant.1.0 c.push-conflicts.ensures
     (other_type _ _ _ c.if-a-b.true)
 
 pub paired-init : goal.paired-init
@@ -135,7 +127,7 @@ abbrev no_el : ElId
 no_el = record { 0 = 0 }
 
 abbrev qs_of : At-paired → ElIds
-qs_of c = c.fact_of-b.result.ct.parents
+qs_of c = (get_or c.concrete_types_of-k.new.types c.stored.j no_fact).ct.parents
 
 abbrev rs_of : At-paired → ElIds
 rs_of c = c.find_parents-first.result.roots
@@ -144,10 +136,6 @@ pub paired-preserved-then-other-i : goal.paired-preserved-then-other-i
 paired-preserved-then-other-i c =
     let l = c.paired in
     (l.invariant.0, (l.invariant.1.0, parents_past _ (rs_of (goal.at.paired-preserved-then-other-i c).At-paired) (qs_of (goal.at.paired-preserved-then-other-i c).At-paired) l.i l.invariant.1.1 (omega (arith, c.size-other.ensures.is, c.if-other-i.true))))
-
-pub find-q-requires : goal.find-q-requires
-find-q-requires c =
-    c.requires.0
 
 pub push-conflicts-requires-then-ps-i : goal.push-conflicts-requires-then-ps-i
 push-conflicts-requires-then-ps-i c =
@@ -170,7 +158,7 @@ classes-preserved-then-ps-i c =
     let differ =
     parents_differ _ (rs_of (goal.at.classes-preserved-then-ps-i c).At-paired) (qs_of (goal.at.classes-preserved-then-ps-i c).At-paired) c.paired.i c.paired.invariant.1.1 no_el (omega (arith, c.size-length.ensures.is, c.paired-test.true))
     (omega (arith, c.size-other.ensures.is, c.if-other-i.false)) (λ h. c.if-ps-i.true (h ∙ sym c.find-q.ensures)) in
-    class_conflict l.invariant.1.1 [] c.fact_of-b.ensures c.stored-test.true (c.paired.invariant.0 ∙ l.invariant.0)
+    class_conflict l.invariant.1.1 no_fact c.stored-test.true (c.paired.invariant.0 ∙ l.invariant.0)
     (c.paired.invariant.1.0 ∙ l.invariant.1.0) c.push-conflicts-then-ps-i.ensures (other_parents _ _ _ c.if-a-b.false l.invariant.1.1.roots_are differ)
 
 pub paired-preserved : goal.paired-preserved
@@ -187,7 +175,7 @@ stored-preserved c =
       c.paired.invariant.0 ∙ l.invariant.0,
       (
         c.paired.invariant.1.0 ∙ l.invariant.1.0,
-        next_fact l.invariant.1.1 [] c.fact_of-b.ensures c.stored-test.true
+        next_fact l.invariant.1.1 no_fact c.stored-test.true
             (all_alike _ _ _ c.if-a-b.false l.invariant.1.1.roots_are all),
       ),
     )
@@ -207,8 +195,12 @@ pub returns : goal.returns
 unfolding conflicts_in type_conflicts_of finds_in conflict_finds
 returns c =
     let l = c.classes in
-    let links = links_in c.args.n c.args.els.now in
-    let all : l.e ≡ length links = omega (arith, l.invariant.within, c.classes-test.false, length_view link_in c.args.n c.args.els.now, c.requires.0) in (
-      l.invariant.so_far.conflicts_are ∙ ap (λ (k : ℕ). whole (conflicts_below (given (goal.at.returns c).At-classes) k)) all,
-      l.invariant.so_far.finds_are ∙ ap (finds_below (given (goal.at.returns c).At-classes)) all,
+    let links = links_in c.args.els.now in
+    let facts = c.args.facts.now in
+    let every = ap (map fact_of) (take-length facts) in
+    let all : l.e ≡ length links = omega (arith, l.invariant.within, c.classes-test.false, length-map c.args.els.now link_in) in (
+      l.invariant.so_far.conflicts_are ∙ ap (λ (k : ℕ). whole (conflicts_below (given (goal.at.returns c).At-classes) k)) all
+          ∙ (λ i. whole (conflicts_in links (every i))),
+      l.invariant.so_far.finds_are ∙ ap (finds_below (given (goal.at.returns c).At-classes)) all
+          ∙ (λ i. finds_in links (every i)),
     )

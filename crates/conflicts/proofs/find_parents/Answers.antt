@@ -25,7 +25,7 @@ loop-i-preserved c =
       omega (arith, l.invariant.1),
       l.invariant.2,
       length-set l.roots.ids _ _ ∙ l.invariant.3,
-      filled_more el_of (root_of (links_in c.args.n c.args.els.now)) ps.ids l.roots.ids l.i (record { 0 = 0 }) _ l.invariant.4 at
+      filled_more el_of (root_of (links_in c.args.els.now)) ps.ids l.roots.ids l.i (record { 0 = 0 }) _ l.invariant.4 at
           (omega (arith, at, l.invariant.3)) c.find-root.ensures,
     )
 
@@ -36,7 +36,7 @@ returns c =
     let all : l.i ≡ c.size-k.result = omega (arith, l.invariant.0, c.loop-i-test.false) in
     record {
       are = rw l.invariant.2
-          (filled_all el_of (root_of (links_in c.args.n c.args.els.now)) ps.ids l.roots.ids ps.len l.i
+          (filled_all el_of (root_of (links_in c.args.els.now)) ps.ids l.roots.ids ps.len l.i
           (all ∙ c.size-k.ensures.is) l.invariant.3 l.invariant.4);
       each = l.invariant.1 ∙ all ∙ c.size-k.ensures.is;
       few = omega (arith, l.invariant.1, all, c.size-k.ensures.most);

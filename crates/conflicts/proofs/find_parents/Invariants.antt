@@ -9,7 +9,7 @@ use Rattle.conflicts.proofs.find_parents.Given as goal
 
 abbrev pub invariant-loop-i : goal.invariant-loop-i
 invariant-loop-i l = (l.i ≤ l.k) × (l.finds ≡ l.i) × (l.roots.len ≡ l.parents.len) × (length l.roots.ids ≡ length l.parents.ids)
-    × (map el_of (take l.i l.roots.ids) ≡ map (root_of (links_in l.n l.els)) (map el_of (take l.i l.parents.ids)))
+    × (map el_of (take l.i l.roots.ids) ≡ map (root_of (links_in l.els)) (map el_of (take l.i l.parents.ids)))
 
 abbrev pub decreases-loop-i : goal.decreases-loop-i
 decreases-loop-i l = l.k - l.i

@@ -1,17 +1,16 @@
 -- `type_conflicts` meets its contract: links and facts are read into rows, and searched there.
-use mathlib.Core.Path.{◌≡◌, ap, ◌∙◌}
-use mathlib.Core.List.{List}
+use mathlib.Core.Path.{◌≡◌, sym, ap, ◌∙◌}
+use mathlib.Core.List.{List, map}
 use native.Mathlib.Omega.{arith}
-use lib.ListN.{length-take}
+use lib.ListN.{length, take, length-take}
+use lib.Seq.{length-take-le}
 use Rattle.ids.specs.Answers.{first_of, decided}
 use Rattle.ids.specs.Ids.{whole}
-use Rattle.ids.proofs.Views.{take_same, length_view, view_clamped}
-use Rattle.rows.proofs.Copying.{copied_none, copied_next, copied_all}
+use Rattle.ids.proofs.Views.{take_same, view_clamped}
 use Rattle.unification.specs.Roots.{links_of}
 use Rattle.semantics.specs.Conflicts.{Conflict}
 use Rattle.semantics.specs.Calls.{conflicting, Step, answers, rule, settled_by, leaves, acceptance, step_by, step}
-use Rattle.facts.specs.View.{fact_of, facts_of, no_fact}
-use Rattle.fact_rows.specs.View.{facts_in}
+use Rattle.facts.specs.View.{fact_of, facts_of}
 use Rattle.el_rows.specs.View.{links_in}
 use Rattle.structure.specs.declared.Structure as code
 use Rattle.structure.specs.View.{structure_of}
@@ -21,35 +20,28 @@ use borrow.Author.Rules.{rules}
 use Rattle.conflicts.proofs.type_conflicts.Goals as goal
 use Rattle.conflicts.proofs.type_conflicts.Goals.{After-find_conflicts-searched}
 
-pub loop-i-init : goal.loop-i-init
-loop-i-init c = copied_none _ _ _ _ _ _ (search rules)
-
-pub loop-i-preserved : goal.loop-i-preserved
-loop-i-preserved c =
-    let t = c.args.structure.els in
-    copied_next _ _ _ _ _ c.loop-i.invariant no_fact c.loop-i-test.true (omega (arith, c.size-m.ensures.is, length_view fact_of t.len t.items))
-    c.size-m.ensures.most c.row_of.ensures
-
 pub find_conflicts-searched-requires : goal.find_conflicts-searched-requires
 find_conflicts-searched-requires c =
-    let n = c.size-n.ensures.most in
-    let m = c.size-m.ensures.most in
-    (omega (arith, n, c.fill_els.ensures.long), (n, (omega (arith, m, c.loop-i.invariant.long), m)))
+    let m = c.size-m in
+    let many = c.fill_els.ensures.long ∙ length-take-le c.size-n.result _ (search (rules, c.size-n.ensures.most)) in
+    (omega (arith, many, c.size-n.ensures.most), omega (arith, length-take m.result c.args.structure.els.items, m.ensures.most))
 
 -- what is read
 module _ (c : After-find_conflicts-searched) where
   abbrev given : code.Structure
   given = c.args.structure
 
-  links_are : links_in c.size-n.result c.fill_els.new.els ≡ links_of given.unification
+  many : length c.fill_els.new.els ≡ c.size-n.result
+  many = c.fill_els.ensures.long ∙ length-take-le c.size-n.result _ (search (rules, c.size-n.ensures.most))
+
+  links_are : links_in c.fill_els.new.els ≡ links_of given.unification
   links_are =
       let u = given.unification in
-      c.fill_els.ensures.links_are ∙ take_same c.size-n.result u.len u.links (omega (arith, c.size-n.ensures.is, length-take u.len u.links))
+      c.fill_els.ensures.links_are
+      ∙ take_same _ u.len u.links (omega (arith, sym c.fill_els.ensures.long ∙ many, c.size-n.ensures.is, length-take u.len u.links))
 
-  facts_are : facts_in c.size-m.result c.loop-i.facts ≡ facts_of given.els
-  facts_are =
-      copied_all _ _ _ _ _ c.loop-i.invariant c.loop-i-test.false
-      ∙ view_clamped fact_of given.els.len c.size-m.result given.els.items c.size-m.ensures.is
+  facts_are : map fact_of (take c.size-m.result given.els.items) ≡ facts_of given.els
+  facts_are = view_clamped fact_of given.els.len c.size-m.result given.els.items c.size-m.ensures.is
 
 pub returns : goal.returns
 unfolding step step_by rule acceptance leaves settled_by first_of decided

@@ -7,4 +7,4 @@ use Rattle.el_rows.proofs.canonical_fact.Goals as goal
 pub returns : goal.returns
 returns c =
     let a = c.args in
-    fact_roots (links_in a.n a.els.now) (fact_of a.fact) c.find-el.ensures c.roots-parents.ensures
+    fact_roots (links_in a.els.now) (fact_of a.fact) c.find-el.ensures c.roots-parents.ensures

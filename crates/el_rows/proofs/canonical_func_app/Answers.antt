@@ -7,4 +7,4 @@ use Rattle.el_rows.proofs.canonical_func_app.Goals as goal
 pub returns : goal.returns
 returns c =
     let a = c.args in
-    app_roots (links_in a.n a.els.now) (func_app_of a.app) c.roots-parents.ensures c.roots-args.ensures c.find-result.ensures
+    app_roots (links_in a.els.now) (func_app_of a.app) c.roots-parents.ensures c.roots-args.ensures c.find-result.ensures

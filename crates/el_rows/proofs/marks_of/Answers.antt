@@ -1,10 +1,12 @@
 -- `marks_of` meets its contract.
-use mathlib.Core.Path.{refl, sym, ◌∙◌}
-use mathlib.Core.List.{[], map-id}
+use mathlib.Core.Path.{refl, sym, ap, ◌∙◌}
+use mathlib.Core.List.{map, map-id}
 use native.Mathlib.Omega.{arith}
-use lib.ListN.{take}
-use Rattle.el_rows.specs.View.{mark_in}
+use lib.ListN.{length, take}
+use lib.Seq.{take-length}
 use Rattle.rows.proofs.Copying.{copied_none, copied_next, copied_all}
+use Rattle.el_rows.specs.View.{mark_in}
+use Rattle.el_rows.proofs.Laws.{no_el}
 use borrow.Author.Rules.{rules}
 use Rattle.el_rows.proofs.marks_of.Goals as goal
 
@@ -12,12 +14,10 @@ pub loop-i-init : goal.loop-i-init
 loop-i-init c = copied_none _ _ _ _ _ _ (search rules)
 
 pub loop-i-preserved : goal.loop-i-preserved
-unfolding mark_in
-loop-i-preserved c =
-    let pre = c.requires in
-    copied_next _ _ _ _ _ c.loop-i.invariant [] c.loop-i-test.true (omega (arith, pre.0, pre.1)) pre.0 refl
+loop-i-preserved c = copied_next _ _ _ _ _ c.loop-i.invariant no_el c.loop-i-test.true (omega arith) c.requires refl
 
 pub returns : goal.returns
 returns c =
     let l = c.loop-i in
-    sym (map-id (take c.args.n l.out)) ∙ copied_all _ _ _ _ _ l.invariant c.loop-i-test.false
+    let n = length c.args.els.now in
+    sym (map-id (take n l.out)) ∙ copied_all _ _ _ _ _ l.invariant c.loop-i-test.false ∙ ap (map mark_in) (take-length c.args.els.now)

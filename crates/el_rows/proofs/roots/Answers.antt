@@ -20,8 +20,8 @@ loop-i-preserved c =
       omega arith,
       l.invariant.1,
       length-set l.out.ids _ _ ∙ l.invariant.2,
-      filled_more el_of (root_of (links_in a.n a.els.now)) a.list.ids l.out.ids l.i (record { 0 = 0 }) _ l.invariant.3 at
-          (omega (arith, at, l.invariant.2)) c.find-root.ensures,
+      filled_more el_of (root_of (links_in a.els.now)) a.list.ids l.out.ids l.i (record { 0 = 0 }) _ l.invariant.3 at
+          (omega (arith, at, l.invariant.2)) c.find.ensures,
     )
 
 pub returns : goal.returns
@@ -30,5 +30,5 @@ returns c =
     let a = c.args in
     let all : l.i ≡ c.size-k.result = omega (arith, l.invariant.0, c.loop-i-test.false) in
     rw l.invariant.1
-    (filled_all el_of (root_of (links_in a.n a.els.now)) a.list.ids l.out.ids a.list.len l.i
+    (filled_all el_of (root_of (links_in a.els.now)) a.list.ids l.out.ids a.list.len l.i
     (all ∙ c.size-k.ensures.is) l.invariant.2 l.invariant.3)

@@ -9,7 +9,7 @@ use Rattle.el_rows.proofs.roots.Given as goal
 
 abbrev pub invariant-loop-i : goal.invariant-loop-i
 invariant-loop-i l = (l.i ≤ l.k) × (l.out.len ≡ l.list.len) × (length l.out.ids ≡ length l.list.ids)
-    × (map el_of (take l.i l.out.ids) ≡ map (root_of (links_in l.n l.els)) (map el_of (take l.i l.list.ids)))
+    × (map el_of (take l.i l.out.ids) ≡ map (root_of (links_in l.els)) (map el_of (take l.i l.list.ids)))
 
 abbrev pub decreases-loop-i : goal.decreases-loop-i
 decreases-loop-i l = l.k - l.i

@@ -13,11 +13,6 @@ pub refine_types-refined-requires : goal.refine_types-refined-requires
 refine_types-refined-requires c =
     (c.requires.0, omega (arith, c.requires.1))
 
-pub canonical_fact-entry-requires : goal.canonical_fact-entry-requires
-canonical_fact-entry-requires c =
-    let held = c.refine_types-refined.ensures.holds.els_held in
-    omega (arith, held.few, held.long)
-
 pub insert_fact-requires : goal.insert_fact-requires
 insert_fact-requires c =
     (c.refine_types-refined.ensures.holds.facts_held, room_left c.refine_types-refined.ensures 1 c.requires.1 (omega arith))

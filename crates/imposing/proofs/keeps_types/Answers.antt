@@ -1,101 +1,77 @@
 -- `keeps_types` meets its contract.
 use mathlib.Core.Path.{◌≡◌, sym, ap, subst, ◌∙◌}
-use mathlib.Core.List.{[], ◌∷◌}
-use Prim.Native.Nat.{ℕ, ◌+◌}
+use mathlib.Core.List.{[], ◌∷◌, map}
+use Prim.Native.Nat.{ℕ, ◌+◌, ◌-◌}
+use native.Mathlib.Nat.{add-zero, add_assoc}
 use native.Mathlib.Omega.{arith}
-use lib.ListN.{drop}
+use lib.ListN.{length, take, drop, get_or, length-take, length-drop, length-map}
 use Rattle.ids.specs.Ids.{els_of}
-use Rattle.ids.proofs.Views.{length_view, view_next}
 use Rattle.semantics.specs.Structure as model
 use Rattle.semantics.specs.Structure.{fact}
-use Rattle.facts.specs.View.{fact_of}
-use Rattle.fact_rows.specs.View.{fact_in, facts_in}
+use Rattle.facts.specs.View.{fact_of, no_fact}
 use Rattle.el_rows.specs.View.{links_in, marks_in}
 use Rattle.imposing.specs.View.{FirstOf}
-use Rattle.imposing.proofs.Kept.{kept, look_start, look_kept, look_refined, look_other, look_past, look_done}
+use Rattle.imposing.proofs.Kept.{kept, look_start, look_kept, look_refined, look_other, look_past, look_done, slice_next}
 use Rattle.imposing.proofs.keeps_types.Goals as goal
 use Rattle.imposing.proofs.keeps_types.Goals.{After-first_of-first, After-is_of}
 
-pub find-root-requires : goal.find-root-requires
-find-root-requires c = omega (arith, c.requires.0.few, c.requires.0.long)
-
 -- what was found of the key: it has no parents
 found : (c : After-first_of-first) →
-    FirstOf c.args.counts.is_sorted (fact c.find-root.result.0 c.args.fact.ct.typ.0 [])
-    (facts_in c.args.counts.facts c.args.facts.now) c.first_of-first.result
+    FirstOf c.args.is_sorted (fact c.find-root.result.0 c.args.fact.ct.typ.0 []) (map fact_of c.args.facts.now) c.first_of-first.result
 found c =
     let key : fact_of c.new-2.result ≡ fact c.find-root.result.0 c.args.fact.ct.typ.0 [] =
     ap fact_of c.new-2.ensures ∙ ap (fact c.find-root.result.0 c.args.fact.ct.typ.0) c.new.ensures in
-    subst (λ (k : model.Fact). FirstOf c.args.counts.is_sorted k (facts_in c.args.counts.facts c.args.facts.now) c.first_of-first.result) key c.first_of-first.ensures
+    subst (λ (k : model.Fact). FirstOf c.args.is_sorted k (map fact_of c.args.facts.now) c.first_of-first.result) key c.first_of-first.ensures
 
-pub loop-i-init : goal.loop-i-init
-loop-i-init c =
-    let a = c.args in (
-      omega arith,
-      λ x. look_start (links_in a.counts.els a.els.now) (marks_in a.counts.els a.els.now) c.find-root.result.0
-          (fact x a.fact.ct.typ.0 (els_of a.fact.ct.parents)) (facts_in a.counts.facts a.facts.now) (found (goal.at.loop-i-init c).After-first_of-first),
-    )
-
-pub bounds-facts-i : goal.bounds-facts-i
-bounds-facts-i c =
-    omega (arith, c.requires.1.few, c.requires.1.long, c.loop-i-test.true)
+pub loop-here-init : goal.loop-here-init
+loop-here-init c =
+    let a = c.args in
+    λ x. rw (add-zero c.first_of-first.result)
+    (look_start (links_in a.els.now) (marks_in a.els.now) c.find-root.result.0 (fact x a.fact.ct.typ.0 (els_of a.fact.ct.parents)) (map fact_of a.facts.now)
+    (found (goal.at.loop-here-init c).After-first_of-first))
 
 -- the fact at which the look is
 here : (c : After-is_of) →
-    let a = c.args in
-    drop c.loop-i.i (facts_in a.counts.facts a.facts.now) ≡ fact_of c.fact_of-here.result ∷ drop (c.loop-i.i + 1) (facts_in a.counts.facts a.facts.now)
-here c =
-    let a = c.args in
-    view_next fact_in a.counts.facts a.facts.now c.loop-i.i []
-    (omega (arith, c.requires.1.few, c.requires.1.long, c.loop-i-test.true, length_view fact_in a.counts.facts a.facts.now))
-    ∙ ap (λ (g : model.Fact). g ∷ drop (c.loop-i.i + 1) (facts_in a.counts.facts a.facts.now)) (sym c.fact_of-here.ensures)
-
-pub keeps_parents-requires : goal.keeps_parents-requires
-keeps_parents-requires c =
-    omega (arith, c.requires.0.few, c.requires.0.long)
+    let fs = map fact_of c.args.facts.now in
+    let i = c.first_of-first.result + c.loop-here.here-index in
+    drop i fs ≡ fact_of (get_or (take (length c.args.facts.now - c.first_of-first.result) (drop c.first_of-first.result c.args.facts.now)) c.loop-here.here-index no_fact) ∷ drop (i + 1) fs
+here c = slice_next fact_of c.args.facts.now c.first_of-first.result c.loop-here.here-index no_fact c.loop-here-test.true
 
 pub returns-then-not-keeps_parents : goal.returns-then-not-keeps_parents
 returns-then-not-keeps_parents c =
     let a = c.args in
-    look_refined (links_in a.counts.els a.els.now) (marks_in a.counts.els a.els.now) c.find-root.result.0 (fact_of a.fact)
-    (facts_in a.counts.facts a.facts.now) c.loop-i.i (c.loop-i.invariant.1 a.fact.el.0) (fact_of c.fact_of-here.result) (here (goal.at.returns-then-not-keeps_parents c).After-is_of)
+    look_refined (links_in a.els.now) (marks_in a.els.now) c.find-root.result.0 (fact_of a.fact)
+    (map fact_of a.facts.now) _ (c.loop-here.invariant a.fact.el.0) _ (here (goal.at.returns-then-not-keeps_parents c).After-is_of)
     (sym c.is_of.ensures ∙ c.if-is_of.true) (sym c.keeps_parents.ensures ∙ c.if-not-keeps_parents.true)
-    ∙ ap (λ (r : ℕ). kept (links_in a.counts.els a.els.now) (marks_in a.counts.els a.els.now) r (fact_of a.fact) (facts_in a.counts.facts a.facts.now))
-    c.find-root.ensures
+    ∙ ap (λ (r : ℕ). kept (links_in a.els.now) (marks_in a.els.now) r (fact_of a.fact) (map fact_of a.facts.now)) c.find-root.ensures
 
-pub loop-i-preserved-then-is_of : goal.loop-i-preserved-then-is_of
-loop-i-preserved-then-is_of c =
-    let a = c.args in (
-      omega (arith, c.loop-i.invariant.0),
-      λ x. look_kept (links_in a.counts.els a.els.now) (marks_in a.counts.els a.els.now) c.find-root.result.0
-          (fact x a.fact.ct.typ.0 (els_of a.fact.ct.parents)) (facts_in a.counts.facts a.facts.now) c.loop-i.i (c.loop-i.invariant.1 x)
-          (fact_of c.fact_of-here.result) (here (goal.at.loop-i-preserved-then-is_of c).After-is_of) (sym c.is_of.ensures ∙ c.if-is_of.true)
-          (sym c.keeps_parents.ensures ∙ c.if-not-keeps_parents.false),
-    )
-
-pub returns-then-counts : goal.returns-then-counts
-returns-then-counts c =
+pub loop-here-preserved-then-is_of : goal.loop-here-preserved-then-is_of
+loop-here-preserved-then-is_of c =
     let a = c.args in
-    look_past (links_in a.counts.els a.els.now) (marks_in a.counts.els a.els.now) c.find-root.result.0 (fact_of a.fact)
-    (facts_in a.counts.facts a.facts.now) c.loop-i.i (c.loop-i.invariant.1 a.fact.el.0) (fact_of c.fact_of-here.result) (here (goal.at.returns-then-counts c).After-is_of)
-    (sym c.is_of.ensures ∙ c.if-is_of.false) (found (goal.at.returns-then-counts c).After-first_of-first) c.if-counts.true c.loop-i.invariant.0 (c.requires.1.sorted c.if-counts.true)
-    ∙ ap (λ (r : ℕ). kept (links_in a.counts.els a.els.now) (marks_in a.counts.els a.els.now) r (fact_of a.fact) (facts_in a.counts.facts a.facts.now))
-    c.find-root.ensures
+    λ x. rw (sym (add_assoc c.first_of-first.result c.loop-here.here-index 1))
+    (look_kept (links_in a.els.now) (marks_in a.els.now) c.find-root.result.0 (fact x a.fact.ct.typ.0 (els_of a.fact.ct.parents)) (map fact_of a.facts.now) _
+    (c.loop-here.invariant x) _ (here (goal.at.loop-here-preserved-then-is_of c).After-is_of) (sym c.is_of.ensures ∙ c.if-is_of.true)
+    (sym c.keeps_parents.ensures ∙ c.if-not-keeps_parents.false))
 
-pub loop-i-preserved : goal.loop-i-preserved
-loop-i-preserved c =
-    let a = c.args in (
-      omega (arith, c.loop-i.invariant.0),
-      λ x. look_other (links_in a.counts.els a.els.now) (marks_in a.counts.els a.els.now) c.find-root.result.0
-          (fact x a.fact.ct.typ.0 (els_of a.fact.ct.parents)) (facts_in a.counts.facts a.facts.now) c.loop-i.i (c.loop-i.invariant.1 x)
-          (fact_of c.fact_of-here.result) (here (goal.at.loop-i-preserved c).After-is_of) (sym c.is_of.ensures ∙ c.if-is_of.false),
-    )
+pub returns-then-is_sorted : goal.returns-then-is_sorted
+returns-then-is_sorted c =
+    let a = c.args in
+    look_past (links_in a.els.now) (marks_in a.els.now) c.find-root.result.0 (fact_of a.fact)
+    (map fact_of a.facts.now) _ (c.loop-here.invariant a.fact.el.0) _ (here (goal.at.returns-then-is_sorted c).After-is_of)
+    (sym c.is_of.ensures ∙ c.if-is_of.false) (found (goal.at.returns-then-is_sorted c).After-first_of-first) c.if-is_sorted.true (omega arith) (c.requires c.if-is_sorted.true)
+    ∙ ap (λ (r : ℕ). kept (links_in a.els.now) (marks_in a.els.now) r (fact_of a.fact) (map fact_of a.facts.now)) c.find-root.ensures
+
+pub loop-here-preserved : goal.loop-here-preserved
+loop-here-preserved c =
+    let a = c.args in
+    λ x. rw (sym (add_assoc c.first_of-first.result c.loop-here.here-index 1))
+    (look_other (links_in a.els.now) (marks_in a.els.now) c.find-root.result.0 (fact x a.fact.ct.typ.0 (els_of a.fact.ct.parents)) (map fact_of a.facts.now) _
+    (c.loop-here.invariant x) _ (here (goal.at.loop-here-preserved c).After-is_of) (sym c.is_of.ensures ∙ c.if-is_of.false))
 
 pub returns : goal.returns
 returns c =
     let a = c.args in
-    look_done (links_in a.counts.els a.els.now) (marks_in a.counts.els a.els.now) c.find-root.result.0 (fact_of a.fact)
-    (facts_in a.counts.facts a.facts.now) c.loop-i.i (c.loop-i.invariant.1 a.fact.el.0)
-    (omega (arith, c.loop-i-test.false, length_view fact_in a.counts.facts a.facts.now))
-    ∙ ap (λ (r : ℕ). kept (links_in a.counts.els a.els.now) (marks_in a.counts.els a.els.now) r (fact_of a.fact) (facts_in a.counts.facts a.facts.now))
-    c.find-root.ensures
+    look_done (links_in a.els.now) (marks_in a.els.now) c.find-root.result.0 (fact_of a.fact)
+    (map fact_of a.facts.now) (c.first_of-first.result + c.loop-here.here-index) (c.loop-here.invariant a.fact.el.0)
+    (omega (arith, c.loop-here-test.false, length-take (length a.facts.now - c.first_of-first.result) (drop c.first_of-first.result a.facts.now), length-drop c.first_of-first.result a.facts.now, length-map a.facts.now fact_of))
+    ∙ ap (λ (r : ℕ). kept (links_in a.els.now) (marks_in a.els.now) r (fact_of a.fact) (map fact_of a.facts.now)) c.find-root.ensures

@@ -1,9 +1,10 @@
 -- `refine_all` meets its contract.
-use mathlib.Core.Path.{refl, sym, ◌∙◌}
+use mathlib.Core.Path.{refl}
 use Prim.Native.Nat.{◌+◌, ◌≤◌}
 use native.Mathlib.Omega.{arith}
+use lib.ListN.{length-take}
 use Rattle.semantics.specs.Structure.{max_facts}
-use Rattle.facts.specs.View.{fact_of}
+use Rattle.facts.specs.View.{fact_of, no_fact}
 use Rattle.merging.specs.View.{lent, core_of}
 use Rattle.merging.proofs.Laws.{begins, stays, counts_as, turn, idle_turn, room_turn}
 use Rattle.imposing.specs.Bounds.{one_list}
@@ -11,57 +12,38 @@ use Rattle.imposing.proofs.Laws.{all_same, all_other, all_done, types_refined}
 use Rattle.imposing.proofs.refine_all.Goals as goal
 
 pub slice_bounds-concrete_types_of-end : goal.slice_bounds-concrete_types_of-end
-slice_bounds-concrete_types_of-end c = refl
+slice_bounds-concrete_types_of-end c = let held = c.requires.0.facts_held in omega (arith, held.few, held.long)
 
 pub concrete_types_of-n-requires : goal.concrete_types_of-n-requires
 concrete_types_of-n-requires c =
-    let held = c.requires.0 in (
-      omega (arith, held.els_held.few, held.els_held.long),
-      (omega (arith, held.facts_held.few, held.facts_held.long), (held.facts_held.few, refl)),
-    )
+    (omega (arith, length-take c.args.counts.facts c.args.facts.now, c.requires.0.facts_held.few), refl)
 
-pub loop-i-init : goal.loop-i-init
-loop-i-init c =
-    (omega arith, begins _ c.requires.0 _)
+pub loop-here-init : goal.loop-here-init
+loop-here-init c = begins _ c.requires.0 _
 
-pub loop-i-preserved-then-here-fact : goal.loop-i-preserved-then-here-fact
-loop-i-preserved-then-here-fact c =
-    let l = c.loop-i in
-    let there = c.concrete_types_of-n.ensures in
-    let f = fact_of c.args.fact in (
-      omega (arith, c.loop-i-test.true),
-      idle_turn one_list l.i l.invariant.1
-          (all_other _ _ l.i _ c.fact_of-here.ensures c.loop-i-test.true (omega (arith, there.most, there.long)) f c.if-here-fact.true),
-    )
+pub loop-here-preserved-then-here-fact : goal.loop-here-preserved-then-here-fact
+loop-here-preserved-then-here-fact c =
+    let l = c.loop-here in
+    idle_turn one_list l.here-index l.invariant (all_other _ l.here-index (fact_of c.args.fact) no_fact c.loop-here-test.true c.if-here-fact.true)
 
-pub refine_parents-next-requires : goal.refine_parents-next-requires
-refine_parents-next-requires c =
-    let l = c.loop-i in
-    let most : l.i + 1 ≤ max_facts = omega (arith, c.loop-i-test.true, c.concrete_types_of-n.ensures.most) in
-    (l.invariant.1.holds, room_turn one_list l.i l.invariant.1 c.requires.1 most)
+pub refine_parents-now-requires : goal.refine_parents-now-requires
+refine_parents-now-requires c =
+    let l = c.loop-here in
+    let most : l.here-index + 1 ≤ max_facts = omega (arith, c.loop-here-test.true, length-take c.concrete_types_of-n.result c.concrete_types_of-n.new.types, c.concrete_types_of-n.ensures.most) in
+    (l.invariant.holds, room_turn one_list l.here-index l.invariant c.requires.1 most)
 
-pub loop-i-preserved : goal.loop-i-preserved
-loop-i-preserved c =
-    let l = c.loop-i in
-    let there = c.concrete_types_of-n.ensures in
-    let f = fact_of c.args.fact in (
-      omega (arith, c.loop-i-test.true),
-      turn one_list l.i l.invariant.1 c.refine_parents-next.ensures
-          (all_same _ _ l.i _ c.fact_of-here.ensures c.loop-i-test.true (omega (arith, there.most, there.long)) f c.if-here-fact.false),
-    )
-
-pub shape_of-els : goal.shape_of-els
-shape_of-els c =
-    c.loop-i.invariant.1.holds.els_held.long ∙ sym c.requires.0.els_held.long
-
-pub shape_of-facts : goal.shape_of-facts
-shape_of-facts c =
-    c.loop-i.invariant.1.holds.facts_held.long ∙ sym c.requires.0.facts_held.long
+pub loop-here-preserved : goal.loop-here-preserved
+loop-here-preserved c =
+    let l = c.loop-here in
+    turn one_list l.here-index l.invariant c.refine_parents-now.ensures
+    (all_same _ l.here-index (fact_of c.args.fact) no_fact c.loop-here-test.true c.if-here-fact.false)
 
 pub returns : goal.returns
 returns c =
     let a = c.args in
-    let l = c.loop-i in
+    let l = c.loop-here in
     let there = c.concrete_types_of-n.ensures in
     let whole = types_refined (fact_of a.fact) (core_of (lent a.els.now a.facts.now a.pairs.now a.counts)) there.is in
-    stays (counts_as l.invariant.1 whole) (omega (arith, l.invariant.0, there.most)) (all_done _ _ l.i c.loop-i-test.false (fact_of a.fact))
+    stays (counts_as l.invariant whole)
+    (omega (arith, l.auto.here-index-end, length-take c.concrete_types_of-n.result c.concrete_types_of-n.new.types, there.most))
+    (all_done _ l.here-index (fact_of a.fact) c.loop-here-test.false)

@@ -1,5 +1,4 @@
 -- `refine_parents` meets its contract.
-use mathlib.Core.Path.{sym, ◌∙◌}
 use Prim.Native.Nat.{◌+◌, ◌≤◌, ◌<◌}
 use native.Mathlib.Omega.{arith}
 use lib.ListN.{length}
@@ -21,8 +20,8 @@ loop-i-preserved-then-k-i c =
     let past : length (els_of a.qs) ≤ l.i = omega (arith, c.size-k.ensures.is, c.if-k-i.true) in
     (omega (arith, c.loop-i-test.true), idle_turn one_pair l.i l.invariant.1 (parents_short a.ps a.qs l.i past))
 
-pub refine-next-requires : goal.refine-next-requires
-refine-next-requires c =
+pub refine-now-requires : goal.refine-now-requires
+refine-now-requires c =
     let l = c.loop-i in
     let most : l.i + 1 ≤ max_list = omega (arith, c.loop-i-test.true, c.size-n.ensures.most) in
     (l.invariant.1.holds, room_turn one_pair l.i l.invariant.1 c.requires.1 most)
@@ -34,16 +33,8 @@ loop-i-preserved c =
     let at : l.i < length (els_of a.ps) = omega (arith, c.size-n.ensures.is, c.loop-i-test.true) in
     let at2 : l.i < length (els_of a.qs) = omega (arith, c.size-k.ensures.is, c.if-k-i.false) in (
       omega (arith, c.loop-i-test.true),
-      turn one_pair l.i l.invariant.1 c.refine-next.ensures (parents_next a.ps a.qs l.i _ _ at at2),
+      turn one_pair l.i l.invariant.1 c.refine-now.ensures (parents_next a.ps a.qs l.i _ _ at at2),
     )
-
-pub shape_of-els : goal.shape_of-els
-shape_of-els c =
-    c.loop-i.invariant.1.holds.els_held.long ∙ sym c.requires.0.els_held.long
-
-pub shape_of-facts : goal.shape_of-facts
-shape_of-facts c =
-    c.loop-i.invariant.1.holds.facts_held.long ∙ sym c.requires.0.facts_held.long
 
 pub returns : goal.returns
 returns c =

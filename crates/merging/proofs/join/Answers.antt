@@ -1,13 +1,6 @@
 -- `join` meets its contract.
-use native.Mathlib.Omega.{arith}
 use Rattle.merging.proofs.Merged.{joined_less, joined_more, joined_same}
 use Rattle.merging.proofs.join.Goals as goal
-
-pub find-a-requires : goal.find-a-requires
-find-a-requires c = let e = c.requires.0 in omega (arith, e.long, e.few)
-
-pub find-b-requires : goal.find-b-requires
-find-b-requires c = let e = c.requires.0 in omega (arith, e.long, e.few)
 
 pub merge-requires : goal.merge-requires
 merge-requires c =

@@ -21,8 +21,8 @@ loop-i-preserved c =
       omega (arith, c.loop-i-test.true),
       l.invariant.1,
       simp length-set l.invariant.2,
-      filled_more fact_of (canonical_fact (links_in a.n a.els.now)) a.impositions.items l.done.items l.i no_fact _ l.invariant.3
-          (omega (arith, n.most, c.loop-i-test.true)) (omega (arith, n.most, l.invariant.2, c.loop-i-test.true)) c.canonical_fact-entry.ensures,
+      filled_more fact_of (canonical_fact (links_in a.els.now)) a.impositions.items l.done.items l.i no_fact _ l.invariant.3
+          (omega (arith, n.most, c.loop-i-test.true)) (omega (arith, n.most, l.invariant.2, c.loop-i-test.true)) c.canonical_fact.ensures,
     )
 
 pub returns : goal.returns
@@ -31,5 +31,5 @@ returns c =
     let a = c.args in
     let n = c.size-size in
     let all : l.i ≡ n.result = omega (arith, l.invariant.0, c.loop-i-test.false) in
-    rw l.invariant.1 (filled_all fact_of (canonical_fact (links_in a.n a.els.now)) a.impositions.items l.done.items a.impositions.len l.i
+    rw l.invariant.1 (filled_all fact_of (canonical_fact (links_in a.els.now)) a.impositions.items l.done.items a.impositions.len l.i
     (all ∙ n.ensures.is) l.invariant.2 l.invariant.3)

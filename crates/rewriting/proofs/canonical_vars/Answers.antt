@@ -20,9 +20,9 @@ loop-i-preserved c =
     let a = c.args in
     let all : length a.vars.slots ≡ max_vars = search (rules, long) in
     let slot = get_or a.vars.slots l.i none_slot in
-    let root = c.find-el.ensures in (
+    let root = c.find.ensures in (
       simp length-set l.invariant.0,
-      filled_next (slot_by (root_of (links_in a.n a.els.now))) a.vars.slots l.done.slots l.i none_slot _ l.invariant.1
+      filled_next (slot_by (root_of (links_in a.els.now))) a.vars.slots l.done.slots l.i none_slot _ l.invariant.1
           (omega (arith, c.loop-i-test.true)) (omega (arith, l.invariant.0, c.loop-i-test.true))
           (λ k. record { given = slot.given; el = record { 0 = root k } }),
     )
@@ -33,5 +33,5 @@ returns c =
     let l = c.loop-i in
     let a = c.args in
     let all : length a.vars.slots ≡ max_vars = search (rules, long) in
-    slots_all variable (canonical_var (links_in a.n a.els.now)) (root_of (links_in a.n a.els.now)) (λ k e. refl) a.vars.slots l.done.slots l.i
+    slots_all variable (canonical_var (links_in a.els.now)) (root_of (links_in a.els.now)) (λ k e. refl) a.vars.slots l.done.slots l.i
     (omega (arith, c.loop-i-test.false)) (omega (arith, l.invariant.0, c.loop-i-test.false)) l.invariant.1

@@ -10,7 +10,7 @@ use Rattle.rewriting.proofs.canonical_vars.Given as goal
 
 abbrev pub invariant-loop-i : goal.invariant-loop-i
 invariant-loop-i l = (length l.done.slots ≡ length l.vars.slots)
-    × (take l.i l.done.slots ≡ map (slot_by (root_of (links_in l.n l.els))) (take l.i l.vars.slots))
+    × (take l.i l.done.slots ≡ map (slot_by (root_of (links_in l.els))) (take l.i l.vars.slots))
 
 abbrev pub decreases-loop-i : goal.decreases-loop-i
 decreases-loop-i l = max_vars - l.i

@@ -39,8 +39,8 @@ loop-i-preserved-in_default c =
           c.size-given.ensures.is c.in_default.is),
     )
 
-pub impose_concrete_type-next-requires : goal.impose_concrete_type-next-requires
-impose_concrete_type-next-requires c =
+pub impose_concrete_type-now-requires : goal.impose_concrete_type-now-requires
+impose_concrete_type-now-requires c =
     let l = c.loop-i in (
       l.invariant.1.holds,
       room_turn one_imposed l.i l.invariant.1 {n = max_list} c.requires.1
@@ -57,18 +57,8 @@ loop-i-preserved c =
       imposes_one one_imposed l.i l.invariant.1 _ _
           (type_at _ d.expected (els_of d.parents) d.els l.i (record { 0 = 0 }) (record { 0 = 0 }) ht hx c.concrete_type_at.ensures
           c.size-given.ensures.is c.in-At.is c.leading.ensures)
-          c.impose_concrete_type-next.ensures.passes,
+          c.impose_concrete_type-now.ensures.passes,
     )
-
-pub shape_of-els : goal.shape_of-els
-shape_of-els c =
-    let l = c.loop-i in
-    l.invariant.1.holds.els_held.long ∙ sym c.requires.0.els_held.long
-
-pub shape_of-facts : goal.shape_of-facts
-shape_of-facts c =
-    let l = c.loop-i in
-    l.invariant.1.holds.facts_held.long ∙ sym c.requires.0.facts_held.long
 
 pub returns : goal.returns
 returns c =

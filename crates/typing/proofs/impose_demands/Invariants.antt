@@ -1,19 +1,17 @@
 use mathlib.Core.Path.{◌≡◌}
-use Prim.Native.Nat.{◌*◌, ◌≤◌, ◌-◌}
-use lib.ListN.{take, drop}
-use Rattle.signature.specs.Model.{Sig, view_types, view_funcs, view_preds}
+use Prim.Native.Nat.{◌*◌}
+use lib.ListN.{drop}
+use Rattle.signature.specs.Model.{sig_of}
 use Rattle.semantics.specs.Types.{impose_all}
 use Rattle.merging.specs.View.{lent, Toward}
 use Rattle.typing.specs.Bounds.{one_demand}
-use Rattle.typing.specs.Rows.{all_asked}
+use Rattle.typing.specs.Rows.{DemandM, demand_of, all_asked}
+use Rattle.typing.proofs.Laws.{Going}
 use Rattle.typing.proofs.impose_demands.Given as goal
 
--- for every signature with the types, functions and predicates that are copied out of it
-abbrev pub invariant-loop-i : goal.invariant-loop-i
-invariant-loop-i l = (l.i ≤ l.n)
-    × ((g : Sig) → g.types ≡ view_types l.types → g.funcs ≡ view_funcs l.funcs → g.preds ≡ view_preds l.preds
-    → Toward (lent l.initial.els l.initial.facts l.pairs l.initial.now) (lent l.els l.facts l.pairs l.now) (l.i * one_demand)
-    (impose_all (all_asked g l.asked (drop l.i (take l.n l.apps)))) (impose_all (all_asked g l.asked (take l.n l.apps))))
-
-abbrev pub decreases-loop-i : goal.decreases-loop-i
-decreases-loop-i l = l.n - l.i
+abbrev pub invariant-loop-app : goal.invariant-loop-app
+invariant-loop-app g l =
+    Going (lent l.initial.els l.initial.facts l.pairs l.initial.now) (lent l.els l.facts l.pairs l.now) (l.app-index * one_demand)
+    × ((asked : g.row.A.Denot → DemandM) → ((app : g.row.A.Denot) (r : _) → g.F.Fn.post l.ask (app, tt) r → demand_of r ≡ asked app)
+    → Toward (lent l.initial.els l.initial.facts l.pairs l.initial.now) (lent l.els l.facts l.pairs l.now) (l.app-index * one_demand)
+    (impose_all (all_asked (sig_of l.fn.signature) asked (drop l.app-index l.apps))) (impose_all (all_asked (sig_of l.fn.signature) asked l.apps)))
