@@ -142,11 +142,6 @@ module _ {before now : Lent} (per i : ℕ) (going : Going before now (i * per)) 
     count_most = omega (arith, p.count_most, going.count_most, add-mul i 1 per);
   }
 
--- there is none
-pub none_asked : (g : Sig) {A : Type 0} (ask : A → DemandM) (xs : List A) → length xs ≡ 0 → (w : types.Core) → w ≡ impose_all (all_asked g ask xs) w
-none_asked g ask [] e w = sym (impose_all_none w)
-none_asked g ask (x ∷ xs) e w = absurd (omega (arith, e))
-
 module _ (g : Sig) {A : Type 0} (ask : A → DemandM) (xs : List A) {before now : Lent} (per i : ℕ) {whole : types.Core → types.Core}
     (so_far : Toward before now (i * per) (impose_all (all_asked g ask (drop i xs))) whole) where
   pub app_imposed : {after : Lent} (d : Demand) (x : A) → i < length xs → demand_of d ≡ ask (get_or xs i x)

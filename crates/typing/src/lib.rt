@@ -3,7 +3,7 @@
 
 ghost use Rattle.std.specs.Prelude.{◌≡◌, ◌*◌, ◌≤◌, length, map, take};
 ghost use Rattle.ids.specs.Ids.{els_of};
-ghost use Rattle.signature.specs.Model.{sig_of, view_funcs, view_preds};
+ghost use Rattle.signature.specs.Model.{Sig, sig_of, view_types, view_funcs, view_preds};
 ghost use Rattle.semantics.specs.Structure.{max_func_apps, max_pred_apps};
 ghost use Rattle.semantics.specs.Types.{impose_all};
 ghost use Rattle.semantics.specs.Close.{demands};
@@ -135,24 +135,19 @@ fn impose_demands<A: Copy, F: Fn(A) -> Demand>(
     facts: &mut [Fact],
     pairs: &[Pair],
     counts: Tally,
-    signature: Signature,
+    types: &Types,
     apps: &[A],
     ask: F,
 ) -> Tally
     requires callable { F.IsAlwaysCallable ask }
     requires held { LentHeld (lent els.old facts.old pairs.now counts) × RoomToCount (length apps.now * one_demand) counts }
-    ensures { (asked : A → DemandM) → ((app : A) (r : _) → F.post ask app r → demand_of r ≡ asked app)
+    ensures { (g : Sig) → g.types ≡ view_types types.now → (asked : A → DemandM) → ((app : A) (r : _) → F.post ask app r → demand_of r ≡ asked app)
         → Passes (lent els.old facts.old pairs.now counts) (lent els.new facts.new pairs.now result)
-        (length apps.now * one_demand) (impose_all (all_asked (sig_of signature) asked apps.now)) }
+        (length apps.now * one_demand) (impose_all (all_asked g asked apps.now)) }
 {
-    // Where there is none the types of the signature are not copied.
-    if apps.is_empty() {
-        return counts;
-    }
-    let types = signature.types;
     let mut now = counts;
     for app in apps {
-        now = impose_demand(els, facts, pairs, now, types, ask(*app));
+        now = impose_demand(els, facts, pairs, now, *types, ask(*app));
     }
     now
 }
@@ -176,7 +171,8 @@ pub fn typing(
     let args_demand = |app: FuncApp| func_args(signature.funcs, app);
     let pred_demand = |app: PredApp| pred_args(signature.preds, app);
     let result_demand = |app: FuncApp| func_result(signature.funcs, app);
-    let first = impose_demands(els, facts, pairs, counts, signature, apps, args_demand);
-    let second = impose_demands(els, facts, pairs, first, signature, preds, pred_demand);
-    impose_demands(els, facts, pairs, second, signature, apps, result_demand)
+    let types = &signature.types;
+    let first = impose_demands(els, facts, pairs, counts, types, apps, args_demand);
+    let second = impose_demands(els, facts, pairs, first, types, preds, pred_demand);
+    impose_demands(els, facts, pairs, second, types, apps, result_demand)
 }

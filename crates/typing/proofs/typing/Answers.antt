@@ -1,4 +1,5 @@
 -- `typing` meets its contract.
+use mathlib.Core.Path.{refl}
 use Prim.Native.Nat.{◌*◌}
 use native.Mathlib.Nat.{mul-le-mul_right}
 use native.Mathlib.Omega.{arith}
@@ -19,14 +20,14 @@ first : (c : After-impose_demands-first) →
     let a = c.args in
     Passes (lent a.els.now a.facts.now a.pairs.now a.counts) (lent c.impose_demands-first.new.els c.impose_demands-first.new.facts a.pairs.now c.impose_demands-first.result)
     (length a.apps.now * one_demand) (impose_all (all_asked (sig_of a.signature) (λ x. of_func_args (view_funcs a.signature.funcs) (func_app_of x)) a.apps.now))
-first c = c.impose_demands-first.ensures (λ x. of_func_args (view_funcs c.args.signature.funcs) (func_app_of x)) (λ x r k. search (rules, of_calls))
+first c = c.impose_demands-first.ensures (sig_of c.args.signature) refl (λ x. of_func_args (view_funcs c.args.signature.funcs) (func_app_of x)) (λ x r k. search (rules, of_calls))
 
 second : (c : After-impose_demands-second) →
     let a = c.args in
     Passes (lent c.impose_demands-first.new.els c.impose_demands-first.new.facts a.pairs.now c.impose_demands-first.result)
     (lent c.impose_demands-second.new.els c.impose_demands-second.new.facts a.pairs.now c.impose_demands-second.result)
     (length a.preds.now * one_demand) (impose_all (all_asked (sig_of a.signature) (λ x. of_pred_args (view_preds a.signature.preds) (pred_app_of x)) a.preds.now))
-second c = c.impose_demands-second.ensures (λ x. of_pred_args (view_preds c.args.signature.preds) (pred_app_of x)) (λ x r k. search (rules, of_calls))
+second c = c.impose_demands-second.ensures (sig_of c.args.signature) refl (λ x. of_pred_args (view_preds c.args.signature.preds) (pred_app_of x)) (λ x r k. search (rules, of_calls))
 
 pub impose_demands-first-requires-clause-held : goal.impose_demands-first-requires-clause-held
 impose_demands-first-requires-clause-held c =
@@ -51,4 +52,4 @@ returns c =
     let a = c.args in
     let at = goal.at.returns c in
     all_demanded (sig_of a.signature) a.apps.now a.preds.now c.requires.1.1.0 c.requires.1.1.1 (first at.After-impose_demands-first) (second at.After-impose_demands-second)
-    (c.impose_demands.ensures (λ x. of_func_result (view_funcs a.signature.funcs) (func_app_of x)) (λ x r k. search (rules, of_calls)))
+    (c.impose_demands.ensures (sig_of a.signature) refl (λ x. of_func_result (view_funcs a.signature.funcs) (func_app_of x)) (λ x r k. search (rules, of_calls)))
