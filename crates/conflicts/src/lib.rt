@@ -196,6 +196,7 @@ fn find_conflicts(els: &[El], facts: &[Fact]) -> Searched
     let mut types = [none; Structure::MAX_FACTS];
     let mut conflicts = TypeConflicts::new();
     let mut finds: u16 = 0;
+    // By numbers: the search leaves its loops by their labels.
     'classes: for e in 0..els.len() {
         let number = e as u16;
         let el = ElId(number);

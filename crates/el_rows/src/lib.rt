@@ -105,6 +105,7 @@ pub fn roots(els: &[El], list: ElIds) -> ElIds
 {
     let k = list.size();
     let mut out = list;
+    // By the index: the proof of a loop over a part of the copy did not close.
     for i in 0..k {
         out.ids[i] = find(els, list.ids[i]);
     }

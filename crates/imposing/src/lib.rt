@@ -37,6 +37,7 @@ fn keeps_parents(els: &[El], ps: ElIds, qs: ElIds) -> bool
 {
     let size = ps.size();
     let k = qs.size();
+    // Paired by the index, up to the shorter list.
     for i in 0..size {
         if k <= i {
             return true;
@@ -136,6 +137,7 @@ fn refine_parents(
     let n = ps.size();
     let k = qs.size();
     let mut now = counts;
+    // Paired by the index, up to the shorter list.
     for i in 0..n {
         if k <= i {
             continue;

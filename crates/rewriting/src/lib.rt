@@ -27,6 +27,7 @@ pub fn functionality(els: &[El], apps: &mut [FuncApp], pairs: &mut [Pair], count
     let mut k: usize = 0;
     // The drain before it has left the queue empty.
     let mut queued: usize = 0;
+    // By the index: applications are written in the slice that is read.
     for i in 0..counts.func_apps as usize {
         let entry = el_rows::canonical_func_app(els, apps[i]);
         match rows::position(&apps[..k], entry) {

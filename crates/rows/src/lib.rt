@@ -166,6 +166,7 @@ pub fn rewrite<T: Keyed, F: Fn(T) -> T>(rows: &mut [T], n: usize, f: F) -> usize
         → InPlaceRewritten T.order T.seen by n rows.old rows.new result }
 {
     let mut k = 0;
+    // By the index: rows are written in the slice that is read.
     for i in 0..n {
         let entry = f(rows[i]);
         k = insert(rows, k, entry);

@@ -109,6 +109,7 @@ fn impose_demand(
     let k = listed.size();
     let given = parents.size() as u16;
     let mut now = counts;
+    // Paired by the index, up to the shorter list.
     for i in 0..n {
         if k <= i {
             continue;
