@@ -2,7 +2,7 @@
 // their lines.
 #![tactic(auto)]
 
-ghost use Rattle.std.specs.Prelude.{take, OnOk, OnErr};
+ghost use Rattle.std.specs.Prelude.{OnOk, OnErr};
 ghost use Rattle.std.specs.Io.KnownBytes.{Appends};
 ghost use Rattle.sheet.specs.Pieces.{start_of};
 ghost use Rattle.resuming.specs.Resuming.{waiting_of};
@@ -16,18 +16,17 @@ use std::fs::Files;
 use std::io;
 use std::io::{Read, Write};
 
-// A sheet of so many bytes, from the file in the first of some bytes: what it prints stands on the output, or a first part where a write failed.
+// A sheet of so many bytes, from a file: what it prints stands on the output, or a first part where a write failed.
 fn print<W: Write>(
     output: &mut W,
     bytes: &[u8; Record::MAX_BYTES],
     length: usize,
     file: &[u8],
-    size: usize,
 ) -> io::Result<()>
-    ensures ok { OnOk result (Appends (W.contents output.old) (W.contents output.new) (waiting_of (take size file.now) bytes.now (start_of length)).printed) }
-    ensures err { OnErr result (AppendsFront (W.contents output.old) (W.contents output.new) (waiting_of (take size file.now) bytes.now (start_of length)).printed) }
+    ensures ok { OnOk result (Appends (W.contents output.old) (W.contents output.new) (waiting_of file.now bytes.now (start_of length)).printed) }
+    ensures err { OnErr result (AppendsFront (W.contents output.old) (W.contents output.new) (waiting_of file.now bytes.now (start_of length)).printed) }
 {
-    let piece = resuming::resume(length, bytes, file, size);
+    let piece = resuming::resume(length, bytes, file, file.len());
     printing::write_line(output, piece.line)?;
     printing::print(output, bytes, piece.progress)
 }
@@ -47,7 +46,7 @@ fn resume_sheet<S: Env + Files, R: Read, W: Write>(
     let mut file = [0u8; File::MAX_BYTES + 1];
     let read = reading::read_file(system, &path, &mut file)?;
     let size = read.unwrap_or(File::MAX_BYTES + 1);
-    print(output, &bytes, length, &file, size).map_err(Failure::Output)
+    print(output, &bytes, length, &file[..size]).map_err(Failure::Output)
 }
 
 fn main(rt: HostRuntime) {
