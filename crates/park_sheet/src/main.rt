@@ -4,107 +4,92 @@
 
 use file_rows::File;
 use lines::Line;
-use reading::Input;
+use reading::{Failure, Path};
 use records::Record;
 use sheet::Piece;
 use std::env::{Env, FillError};
+use std::fs::Files;
+use std::io::{Read, Write};
 use storing::Stored;
 use structure::Structure;
 
-// A refusal, to standard error.
-fn say(rt: &HostRuntime, line: Line) {
-    let _ = printing::write_line(&mut rt.stderr(), line);
+// Why no file is written: the sheet or the file is refused, by this line, or something failed.
+enum Unparked {
+    Refused(Line),
+    Failed(Failure),
 }
 
-fn write_file(rt: &HostRuntime, structure: Structure) {
-    let mut file = [0u8; File::MAX_BYTES];
-    let stored = storing::store(structure, &mut file);
-    match stored {
-        Stored::Bytes(n) => {
-            if let Err(error) = printing::write_front(&mut rt.stdout(), &file, n) {
-                reading::fail(&mut rt.stderr(), b"standard output", &error);
-            }
-        }
-        Stored::Refused(number) => {
-            say(rt, lines::refused_line(number, 0));
-        }
+impl From<Failure> for Unparked {
+    fn from(failure: Failure) -> Self {
+        Unparked::Failed(failure)
     }
 }
 
-// What a sheet comes to from where it stands.
-fn park(rt: &HostRuntime, given: Piece, bytes: &[u8; Record::MAX_BYTES]) {
-    let last = resuming::finish(given, bytes);
-    let line = last.line;
-    let progress = last.progress;
-    let stage = progress.stage;
-    if stage.is_ended() {
-        say(rt, line);
-        return;
-    }
-    let machine = progress.machine;
-    let structure = machine.structure;
-    write_file(rt, structure);
-}
-
-// A sheet of so many bytes, from the empty structure.
-fn run(rt: &HostRuntime, bytes: &[u8; Record::MAX_BYTES], length: usize) {
-    let line = Line::new();
-    let progress = sheet::start(length);
-    let given = Piece { line, progress };
-    park(rt, given, bytes);
-}
-
-// The same, from the file in the first of some bytes.
-fn run_on(
-    rt: &HostRuntime,
+// Where a sheet of so many bytes begins: from the file that the argument names, or, where there is no argument, from the empty structure.
+fn begin<S: Env + Files>(
+    system: &S,
     bytes: &[u8; Record::MAX_BYTES],
     length: usize,
-    file: &[u8],
-    size: usize,
-) {
-    let given = resuming::resume(length, bytes, file, size);
-    park(rt, given, bytes);
-}
-
-// Whether the program was started with an argument.
-fn has_argument(rt: &HostRuntime) -> bool {
-    let mut none = [0u8; 0];
-    let got = rt.arg(1, &mut none);
-    !matches!(got, Err(FillError::NotPresent))
-}
-
-// The same, from the file that the argument names, where there is one.
-fn run_from(rt: &HostRuntime, bytes: &[u8; Record::MAX_BYTES], length: usize) {
-    if !has_argument(rt) {
-        run(rt, bytes, length);
-        return;
-    }
+) -> Result<Piece, Failure> {
+    let path = match Path::argument(system, 1) {
+        Err(FillError::NotPresent) => {
+            return Ok(Piece {
+                line: Line::new(),
+                progress: sheet::start(length),
+            });
+        }
+        argument => argument?,
+    };
     // One byte more than the longest file has, which tells of a longer one.
     let mut file = [0u8; File::MAX_BYTES + 1];
-    let input = reading::read_argument(rt, &mut rt.stderr(), 1, &mut file);
-    match input {
-        Input::Bytes(size) => {
-            run_on(rt, bytes, length, &file, size);
-        }
-        Input::Longer => {
-            run_on(rt, bytes, length, &file, File::MAX_BYTES + 1);
-        }
-        Input::Failed(_) => {}
+    let read = reading::read_file(system, &path, &mut file)?;
+    let size = read.unwrap_or(File::MAX_BYTES + 1);
+    Ok(resuming::resume(length, bytes, &file, size))
+}
+
+// The structure that a sheet leaves, from where it stands.
+fn last_structure(given: Piece, bytes: &[u8; Record::MAX_BYTES]) -> Result<Structure, Unparked> {
+    let last = resuming::finish(given, bytes);
+    if last.progress.stage.is_ended() {
+        return Err(Unparked::Refused(last.line));
     }
+    Ok(last.progress.machine.structure)
+}
+
+// Writes the file in which a structure is parked.
+fn park<W: Write>(output: &mut W, structure: Structure) -> Result<(), Unparked> {
+    let mut file = [0u8; File::MAX_BYTES];
+    match storing::store(structure, &mut file) {
+        Stored::Bytes(n) => {
+            // No file is longer.
+            let n = n.min(File::MAX_BYTES);
+            printing::write_all(output, &file[..n]).map_err(Failure::Output)?;
+            Ok(())
+        }
+        Stored::Refused(number) => Err(Unparked::Refused(lines::refused_line(number, 0))),
+    }
+}
+
+// The sheet that an input has, and the file of the structure at its end.
+fn park_sheet<S: Env + Files, R: Read, W: Write>(
+    system: &S,
+    input: &mut R,
+    output: &mut W,
+) -> Result<(), Unparked> {
+    let mut bytes = [0u8; Record::MAX_BYTES];
+    let read = reading::read_all(input, &mut bytes).map_err(Failure::Input)?;
+    // A sheet that is too long is refused by its length.
+    let length = read.unwrap_or(Record::MAX_BYTES + 1);
+    let given = begin(system, &bytes, length)?;
+    park(output, last_structure(given, &bytes)?)
 }
 
 fn main(rt: HostRuntime) {
-    let mut bytes = [0u8; Record::MAX_BYTES];
-    let input = reading::read_all(&mut rt.stdin(), &mut bytes);
-    match input {
-        Input::Bytes(length) => {
-            run_from(&rt, &bytes, length);
+    match park_sheet(&rt, &mut rt.stdin(), &mut rt.stdout()) {
+        Ok(()) => {}
+        Err(Unparked::Refused(line)) => {
+            let _ = printing::write_line(&mut rt.stderr(), line);
         }
-        Input::Longer => {
-            run_from(&rt, &bytes, Record::MAX_BYTES + 1);
-        }
-        Input::Failed(error) => {
-            reading::fail(&mut rt.stderr(), b"standard input", &error);
-        }
+        Err(Unparked::Failed(failure)) => failure.tell(&mut rt.stderr()),
     }
 }

@@ -3,9 +3,9 @@ use Prim.Native.Nat.{ℕ, ◌+◌, ◌-◌, min}
 use mathlib.Core.Path.{◌≡◌, refl, sym, ap, ◌∙◌, subst}
 use mathlib.Core.List.{List, [], ◌++◌, append-nil, append_assoc}
 use native.Mathlib.Omega.{arith}
-use lib.ListN.{length, take, drop, length-drop}
+use lib.ListN.{length, take, drop, length-drop, take-append-drop}
 use lib.Seq.{take_all}
-use Rattle.std.proofs.Math.Seq.{take-add, take-append-add}
+use Rattle.std.proofs.Math.Seq.{take-append-add}
 use Rattle.std.proofs.lemmas.List.{take-append-le, take_min}
 use Rattle.std.specs.Prelude.{Option, Some, None, Result, Ok, Err, OnErr}
 use Rattle.std.specs.Io.KnownBytes.{Appends, Keeps}
@@ -26,12 +26,6 @@ more (Some os) None new xs ys h k = absurd h
 more (Some os) (Some bs) None xs ys h k = k
 more (Some os) (Some bs) (Some ns) xs ys h k =
     k ∙ ap (λ (l : List ℕ). l ++ ys) h ∙ append_assoc os xs ys
-
--- the first d and n bytes, where n are written of those from d on
-pub next_front : (d n : ℕ) (bytes : List ℕ) → take (d + n) bytes ≡ take d bytes ++ take n (take (length bytes - d) (drop d bytes))
-next_front d n bytes =
-    take-add d n bytes
-    ∙ ap (λ (l : List ℕ). take d bytes ++ take n l) (sym (take_all (length bytes - d) (drop d bytes) (omega (arith, length-drop d bytes))))
 
 -- what was written so far, of what is to be written in all, where some of it is still to come
 pub record Written (old new : Option (List ℕ)) (all rest : List ℕ) : Type 0 where
@@ -69,6 +63,19 @@ module _ {old between : Option (List ℕ)} {all rest : List ℕ} (so_far : Writt
 
   pub all_written : rest ≡ [] → Appends old between all
   all_written e = subst (Appends old between) (sym (so_far.is ∙ ap (λ (l : List ℕ). so_far.done ++ l) e ∙ append-nil so_far.done)) so_far.appends
+
+-- some of the bytes that are to come, written by one write
+module _ {old between : Option (List ℕ)} {all rest : List ℕ} (so_far : Written old between all rest) where
+  -- the rest from there on, as the slice has it
+  pub written_on : {new : Option (List ℕ)} (n : ℕ) → Appends between new (take n rest) → Written old new all (take (length rest - n) (drop n rest))
+  written_on n h =
+      page_written so_far (take n rest) _ (sym (take-append-drop n rest) ∙ ap (λ (l : List ℕ). take n rest ++ l) (sym (take_all (length rest - n) (drop n rest) (omega (arith, length-drop n rest))))) h
+
+  pub begun : {new : Option (List ℕ)} (n : ℕ) → Appends between new (take n rest) → AppendsFront old new all
+  begun {new} n h = page_begun so_far rest [] (sym (append-nil rest)) (record { count = n; appends = h })
+
+  pub none_begun : {new : Option (List ℕ)} → Keeps between new → AppendsFront old new all
+  none_begun {new} h = begun 0 (kept between new h)
 
 -- what holds holds on an error
 pub on_error : {T E : Type 0} {P : Type 0} (r : Result T E) → P → OnErr r P

@@ -1,198 +1,58 @@
-// Reads all that an input has into an array, and tells where it has more, or where a read failed.
+// Reads all that an input has into an array, the file of a path too, and says what of a program's input or output failed.
 #![tactic(auto)]
 
 mod failing;
+mod path;
 
-ghost use Rattle.std.specs.Prelude.{◌≡◌, length, take, IsErr};
-ghost use Rattle.std.specs.Io.{ReadsAtMost};
-ghost use Rattle.reading.specs.declared.Reading.TheVariants as readings;
-ghost use Rattle.reading.specs.Reading.{answer_of, clamp_len, is_negative, after_read, Gave, Reads, reading_of, Took, TookOn, IsInput};
+ghost use Rattle.std.specs.Prelude.{◌≤◌, length, IfOk, IfSome, IfErr};
+ghost use Rattle.reading.specs.Reading.{Reads, IsInput};
+ghost use Rattle.reading.specs.Failing.{IsOfFile};
 
-pub use failing::fail;
-use std::env::{Env, FillError};
+pub use failing::Failure;
+pub use path::Path;
 use std::fs::Files;
-use std::io::{ErrorKind, Read, Write};
+use std::io::{ErrorKind, Read};
 use std::{fs, io};
 
-// What a read came to: so many bytes are there, and there may be more; the input has ended with so many; it has more than
-// there is room for; or the read failed.
-#[derive(Clone, Copy)]
-pub enum Reading {
-    On(usize),
-    Whole(usize),
-    Longer,
-    Failed,
-}
-
-// What was read: so many bytes; more than there is room for; or a read failed, by this error.
-#[derive(Clone, Copy)]
-pub enum Input {
-    Bytes(usize),
-    Longer,
-    Failed(io::Error),
-}
-
-// After a read that failed or gave n bytes, where so many were there before it and there is room for `room`.
-fn after_read(room: usize, at: usize, failed: bool, n: usize) -> Reading
-    ensures { result ≡ after_read room at failed n }
-{
-    if failed {
-        return Reading::Failed;
-    }
-    if n == 0 {
-        return Reading::Whole(at);
-    }
-    if room < at {
-        return Reading::Longer;
-    }
-    if room - at < n {
-        return Reading::Longer;
-    }
-    Reading::On(at + n)
-}
-
-// Whether the answer to a read tells of a failure.
-fn is_failure(got: &io::Result<usize>) -> bool
-    ensures { result ≡ is_negative (answer_of got.now) }
-{
-    got.is_err()
-}
-
-// How many bytes of a part a read gave, by its answer.
-fn count(got: &io::Result<usize>, part: &[u8]) -> usize
-    ensures { result ≡ clamp_len (answer_of got.now) (length part.now) }
-{
-    match got {
-        Ok(n) => (*n).min(part.len()),
-        Err(_) => 0,
-    }
-}
-
-// What a read into a part of the bytes came to, by its answer.
-fn came_to(room: usize, at: usize, got: &io::Result<usize>, part: &[u8]) -> Reading
-    ensures { result ≡ after_read room at (is_negative (answer_of got.now)) (clamp_len (answer_of got.now) (length part.now)) }
-{
-    let failed = is_failure(got);
-    let n = count(got, part);
-    after_read(room, at, failed, n)
-}
-
-// One read, into a part of the bytes: what it came to, and its answer.
-fn read_into<R: Read>(
-    input: &mut R,
-    part: &mut [u8],
-    room: usize,
-    at: usize,
-) -> (Reading, io::Result<usize>)
-    ensures gave { Gave room at result.0 }
-    ensures took { Took (R.remaining input.old) (R.remaining input.new) part.new room at result.0 }
-    ensures failed { result.0 ≡ readings.Failed → IsErr result.1 }
-{
-    let got = input.read(part);
-    let reading = came_to(room, at, &got, part);
-    (reading, got)
-}
-
-// One read, into the bytes from an index on, those before it as they were; past the last, of one byte more.
-fn read_on<R: Read>(input: &mut R, bytes: &mut [u8], at: usize) -> (Reading, io::Result<usize>)
-    ensures gave { Gave (length bytes.old) at result.0 }
-    ensures took { TookOn (R.remaining input.old) (R.remaining input.new) bytes.new at result.0 }
-    ensures failed { result.0 ≡ readings.Failed → IsErr result.1 }
-    ensures bytes_unchanged { take at bytes.new ≡ take at bytes.old }
-{
-    let room = bytes.len();
-    if room <= at {
-        let mut more = [0u8; 1];
-        return read_into(input, &mut more, room, at);
-    }
-    read_into(input, &mut bytes[at..], room, at)
-}
-
-// Reads an input to its end, into the front of the bytes.
-pub fn read_all<R: Read>(input: &mut R, bytes: &mut [u8]) -> Input
-    ensures reads { Reads (length bytes.old) 0 (reading_of result) }
+// Reads an input to its end, into the front of the bytes: gives how many there are, or `None` where it has more than there is room for.
+// The library's `read_to_end` fills a `Vec`, and here is no heap.
+pub fn read_all<R: Read>(input: &mut R, bytes: &mut [u8]) -> io::Result<Option<usize>>
+    ensures reads { Reads (length bytes.old) 0 result }
     ensures input { IsInput (R.remaining input.old) (R.remaining input.new) bytes.new result }
 {
     let mut at: usize = 0;
-    loop {
-        let (reading, got) = read_on(input, bytes, at);
-        match reading {
-            Reading::On(n) => {
-                at = n;
-            }
-            Reading::Whole(n) => {
-                return Input::Bytes(n);
-            }
-            Reading::Longer => {
-                return Input::Longer;
-            }
-            Reading::Failed => {
-                return Input::Failed(got.unwrap_err());
-            }
+    while at < bytes.len() {
+        let n = input.read(&mut bytes[at..])?;
+        if n == 0 {
+            return Ok(Some(at));
         }
+        at += n;
     }
+    // One byte more shows that there are more.
+    let mut more = [0u8; 1];
+    let n = input.read(&mut more)?;
+    if n == 0 { Ok(Some(at)) } else { Ok(None) }
 }
 
-// Opens the file of a path. Only a path that is text has one.
-fn open<F: Files>(files: &F, path: &[u8]) -> io::Result<F::File> {
-    match str::from_utf8(path) {
-        Ok(text) => fs::open(files, text),
-        Err(_) => Err(io::Error::from(ErrorKind::InvalidFilename)),
-    }
-}
-
-fn read_path<F: Files, W: Write>(
-    files: &F,
-    errors: &mut W,
-    path: &[u8],
-    bytes: &mut [u8],
-) -> Input {
-    let mut file = match open(files, path) {
-        Ok(file) => file,
-        Err(error) => {
-            fail(errors, path, &error);
-            return Input::Failed(error);
-        }
-    };
-    let input = read_all(&mut file, bytes);
-    if let Input::Failed(error) = input {
-        fail(errors, path, &error);
-    }
-    input
-}
-
-// The numbers of the system's errors: an argument is missing, or longer than a path.
-const EINVAL: i32 = 22;
-
-const ENAMETOOLONG: i32 = 36;
-
-// The most bytes of a path, with the 0 that ends it.
-const MAX_PATH: usize = 4096;
-
-// The argument at the start of a path, and its length.
-fn argument<E: Env>(env: &E, i: usize, path: &mut [u8]) -> io::Result<usize>
-    ensures { ReadsAtMost result path.new }
+// Only a path that is text has a file.
+fn read_path<F: Files>(files: &F, path: &Path, bytes: &mut [u8]) -> io::Result<Option<usize>>
+    ensures { IfOk result (λ read. IfSome read (λ n. n ≤ length bytes.new)) }
 {
-    match env.arg(i, path) {
-        Ok(n) => Ok(n),
-        Err(FillError::NotPresent) => Err(io::Error::from_raw_os_error(EINVAL)),
-        Err(FillError::TooLong) => Err(io::Error::from_raw_os_error(ENAMETOOLONG)),
-    }
+    let Ok(text) = str::from_utf8(path.as_bytes()) else {
+        return Err(io::Error::from(ErrorKind::InvalidFilename));
+    };
+    let mut file = fs::open(files, text)?;
+    read_all(&mut file, bytes)
 }
 
-// Reads the file that an argument of the program names, and says on `errors` where that failed.
-pub fn read_argument<S: Env + Files, W: Write>(
-    system: &S,
-    errors: &mut W,
-    i: usize,
+// Reads the file of a path, as `read_all` does an input.
+pub fn read_file<F: Files>(
+    files: &F,
+    path: &Path,
     bytes: &mut [u8],
-) -> Input {
-    let mut path = [0u8; MAX_PATH];
-    match argument(system, i, &mut path) {
-        Ok(n) => read_path(system, errors, &path[..n], bytes),
-        Err(error) => {
-            fail(errors, b"argument", &error);
-            Input::Failed(error)
-        }
-    }
+) -> Result<Option<usize>, Failure>
+    ensures ok { IfOk result (λ read. IfSome read (λ n. n ≤ length bytes.new)) }
+    ensures err { IfErr result (λ failure. IsOfFile failure path.now) }
+{
+    read_path(files, path, bytes).map_err(|error| Failure::File(*path, error))
 }

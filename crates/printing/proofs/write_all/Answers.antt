@@ -1,18 +1,13 @@
 -- `write_all` meets its contract.
-use mathlib.Core.Path.{sym, subst}
-use native.Mathlib.Omega.{arith}
-use lib.ListN.{length-drop}
-use Rattle.std.proofs.Common.{ℕ, List}
-use Rattle.std.specs.Io.KnownBytes.{Appends}
-use Rattle.printing.proofs.Laws.{more, next_front}
+use Rattle.printing.proofs.Laws.{begun, none_begun, written_on, on_error}
 use Rattle.printing.proofs.write_all.Goals as goal
 
-pub loop-done-preserved : goal.loop-done-preserved
-loop-done-preserved g c =
-    let l = c.loop-done in
-    let n = c.in_ok-n.n in
-    let bytes = c.args.bytes.now in
-    let W = g.W.Write in (
-      omega (arith, l.invariant.0, c.in_ok-n.ensures.bound, length-drop l.done bytes, c.loop-done-test.true),
-      subst (λ (t : List ℕ). Appends (W.contents c.args.to.now) (W.contents c.write.new.self) t) (sym (next_front l.done n bytes)) (more _ _ _ _ _ l.invariant.1 c.in_ok-n.ensures.bytes),
-    )
+pub returns-in_err-n-clause-err : goal.returns-in_err-n-clause-err
+returns-in_err-n-clause-err g c =
+    on_error c.from_residual.result (none_begun c.loop-rest.invariant c.in_err-n.ensures.bytes)
+
+pub returns-then-n-eq0-clause-err : goal.returns-then-n-eq0-clause-err
+returns-then-n-eq0-clause-err g c = begun c.loop-rest.invariant _ c.in_ok-n.ensures.bytes
+
+pub loop-rest-preserved : goal.loop-rest-preserved
+loop-rest-preserved g c = written_on c.loop-rest.invariant _ c.in_ok-n.ensures.bytes

@@ -1,12 +1,12 @@
 -- The loop of `write_all`.
-use Rattle.std.proofs.Common.{length, ◌-◌, take, ◌≤◌}
-use Rattle.std.specs.Io.KnownBytes.{Appends}
+use Rattle.std.proofs.Common.{length}
+use Rattle.printing.proofs.Laws.{Written}
 use Rattle.printing.proofs.write_all.Given as goal
 
--- what was written so far is a front of the bytes
-abbrev pub invariant-loop-done : goal.invariant-loop-done
-invariant-loop-done g l =
-    (l.done ≤ length l.bytes) × Appends (g.W.Write.contents l.initial.to) (g.W.Write.contents l.to) (take l.done l.bytes)
+-- what was written so far, and what is to be written from here on
+abbrev pub invariant-loop-rest : goal.invariant-loop-rest
+invariant-loop-rest g l =
+    Written (g.W.Write.contents l.initial.to) (g.W.Write.contents l.to) l.bytes l.rest
 
-abbrev pub decreases-loop-done : goal.decreases-loop-done
-decreases-loop-done g l = length l.bytes - l.done
+abbrev pub decreases-loop-rest : goal.decreases-loop-rest
+decreases-loop-rest g l = length l.rest
