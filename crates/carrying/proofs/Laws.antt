@@ -1,11 +1,14 @@
 -- Laws of the lists that a record gives, of conflicts beside an answer, of kinds, and of what a record answers where it fits and where not.
-use Prim.Native.Nat.{ℕ, ◌≤◌, ◌<◌, min}
+use Prim.Native.Nat.{ℕ, zero, suc, ◌≤◌, min}
 use mathlib.Core.Path.{◌≡◌, refl, sym, ap, ◌∙◌}
 use mathlib.Core.Bool.{true, false}
-use mathlib.Core.List.{List, [], ◌∷◌}
+use mathlib.Core.List.{List, [], map}
 use mathlib.Core.Option.{Option, none, some}
 use native.Mathlib.Omega.{arith}
-use lib.ListN.{length, take, get_or, get_or-eq_default}
+use lib.ListN.{length, take, get_or-eq_default, get_or-map, length-map}
+use denote.Param.Members.{Called, Mut}
+use Rattle.std.specs.Array.{IsMapOf}
+use Rattle.std.proofs.lemmas.List.{ext_get_or}
 use Rattle.ids.specs.Limits.{max_list}
 use Rattle.ids.specs.Ids.{given_of}
 use Rattle.ids.proofs.Lists.{given_held}
@@ -20,22 +23,19 @@ use Rattle.structure.specs.View.{answer_of}
 use Rattle.carrying.specs.declared.Carried.{Carried}
 use Rattle.carrying.specs.View.{carried_step, conflicts_beside, CarriedM, carried_of, with_conflicts, form_step}
 
--- the four slots of a list
-abbrev pub slots_of : List ℕ → List ℕ
-slots_of xs = get_or xs 0 0 ∷ get_or xs 1 0 ∷ get_or xs 2 0 ∷ get_or xs 3 0 ∷ []
+-- an array of which each entry is made of the one in another
+module _ {F B : Type 0} (g : Mut F (ℕ × Unit {0}) B) (number : B → ℕ)
+    (called : (p : F) (x : ℕ) (y : B) (q : F) → Called g p (x, tt) y q → number y ≡ x) where
+  pub made : (f : F) (xs : List ℕ) (ys : List B) (n : ℕ) (d : B) → length xs ≡ n → IsMapOf g f xs ys n → map number ys ≡ xs
+  made f xs ys n d long m =
+      sym
+      (ext_get_or (number d) xs (map number ys) (omega (arith, long, m.long, length-map ys number)) (λ i h.
+      let (p, q, one) = m.at i (number d) d (omega (arith, h, long)) in
+      sym (get_or-map number ys i d ∙ called p _ _ q one)))
 
-four : (xs : List ℕ) → length xs ≡ max_list → slots_of xs ≡ xs
-four [] h = absurd (omega arith)
-four (a ∷ []) h = absurd (omega arith)
-four (a ∷ b ∷ []) h = absurd (omega arith)
-four (a ∷ b ∷ c ∷ []) h = absurd (omega arith)
-four (a ∷ b ∷ c ∷ d ∷ []) h = refl
-four (a ∷ b ∷ c ∷ d ∷ e ∷ xs) h = absurd (omega arith)
-
--- the first n of the slots, of which there are four, as they are given to a call
-pub slots_given : (xs : List ℕ) (n len : ℕ) → length xs ≡ max_list → len ≡ min n max_list → given_of len (slots_of xs) ≡ take n xs
-slots_given xs n len long h =
-    ap (given_of len) (four xs long) ∙ given_held len xs (omega arith) ∙ take_same len n xs (omega arith)
+-- the first n of the slots, as they are given to a call
+pub slots_given : (xs : List ℕ) (n len : ℕ) → length xs ≡ max_list → len ≡ min n max_list → given_of len xs ≡ take n xs
+slots_given xs n len long h = given_held len xs (omega arith) ∙ take_same len n xs (omega arith)
 
 -- no conflicts stand beside an answer that is given none
 pub none_beside : (a : Answer) → conflicts_beside (answer_of [] a) ≡ []
@@ -53,24 +53,11 @@ carried_step_lem r is = ap (λ (k : CarriedM). k.step) is
 
 -- Kinds by number.
 
-pub from_three : {k : ℕ} → (k ≡ 0 → ⊥) → (k ≡ 1 → ⊥) → (k ≡ 2 → ⊥) → 3 ≤ k
-from_three n0 n1 n2 = omega arith
-
-pub only_five : {k : ℕ} → (1 ≤ k) × (k ≤ 5) → (k ≡ 1 → ⊥) → (k ≡ 2 → ⊥) → (k ≡ 3 → ⊥) → (k ≡ 4 → ⊥) → k ≡ 5
-only_five h n1 n2 n3 n4 = omega arith
-
-pub only_twelve : {k : ℕ} → (6 ≤ k) × (k ≤ 12) → (k ≡ 6 → ⊥) → (k ≡ 7 → ⊥) → (k ≡ 8 → ⊥) → (k ≡ 9 → ⊥) → (k ≡ 10 → ⊥) → (k ≡ 11 → ⊥) → k ≡ 12
-only_twelve h n6 n7 n8 n9 n10 n11 = omega arith
-
--- kind 0 has no form
-pub low : {k : ℕ} → k < 1 → none ≡ form_of k
+-- 0 has no form, nor has a number over 15
+pub formless : (k : ℕ) → (1 ≤ k → k ≤ 15 → ⊥) → none ≡ form_of k
 unfolding form_of forms
-low {k} h = let e : k ≡ 0 = omega arith in ap form_of (sym e)
-
--- nor has one from 16 on
-pub past : {k : ℕ} → 13 ≤ k → (k ≡ 13 → ⊥) → (k ≡ 14 → ⊥) → (k ≡ 15 → ⊥) → none ≡ form_of k
-unfolding form_of forms
-past {k} h n13 n14 n15 = sym (get_or-eq_default forms none {n = k} (omega arith))
+formless zero h = refl
+formless (suc k) h = sym (get_or-eq_default forms none {n = suc k} (omega (arith, h)))
 
 module _ (r : Record) (m : Machine) where
   -- a record is of the form of the kind that it has

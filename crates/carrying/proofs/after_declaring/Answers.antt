@@ -1,20 +1,20 @@
 -- `after_declaring` meets its contract.
-use mathlib.Core.Path.{sym, ap, ◌∙◌}
-use Rattle.signature.specs.declared.Declared.{Declared}
+use mathlib.Core.Path.{◌≡◌, sym, ap, ◌∙◌}
+use mathlib.Core.List.{[]}
 use Rattle.signature.specs.Model.{sig_of}
 use Rattle.semantics.specs.Calls.{answers, machine}
-use Rattle.structure.specs.View.{structure_of}
+use Rattle.structure.specs.View.{structure_of, answer_of}
 use Rattle.declaring.specs.View.{declared_of}
-use Rattle.carrying.specs.View.{CarriedM, with_conflicts}
+use Rattle.carrying.specs.View.{with_conflicts}
 use Rattle.carrying.proofs.after_declaring.Goals as goal
-use Rattle.carrying.proofs.after_declaring.Goals.{Start}
+use Rattle.carrying.proofs.after_declaring.Goals.{in-Number, in-Refused}
 
--- what the record answers, by what the call answers
-abbrev carries : Start → Declared → CarriedM
-carries at x = with_conflicts (answers (declared_of x) (machine (sig_of at.args.d.signature) (structure_of at.args.machine.structure)))
-
-pub returns-in-Number : goal.returns-in-Number
-returns-in-Number c = c.answered.ensures ∙ ap (carries (goal.at.returns-in-Number c).Start) (sym c.in-Number.is)
-
-pub returns-in-Refused : goal.returns-in-Refused
-returns-in-Refused c = c.answered-in-Refused.ensures ∙ ap (carries (goal.at.returns-in-Refused c).Start) (sym c.in-Refused.is)
+pub returns : goal.returns
+returns c =
+    let a = c.args in
+    let answer : answer_of [] c.match-d.answer ≡ declared_of a.d.answer =
+    elim c.match-d.branch [
+      | in-Number w ↦ ap (answer_of []) w.answer-is ∙ ap declared_of (sym w.in-Number.is)
+      | in-Refused w ↦ ap (answer_of []) w.answer-is ∙ ap declared_of (sym w.in-Refused.is)
+    ] in
+    c.answered.ensures ∙ (λ i. with_conflicts (answers (answer i) (machine (sig_of a.d.signature) (structure_of a.machine.structure))))

@@ -1,9 +1,10 @@
 -- `types_in` meets its contract.
-use mathlib.Core.Path.{◌≡◌}
+use mathlib.Core.Path.{◌≡◌, ap, ◌∙◌}
 use lib.ListN.{length}
 use Rattle.ids.specs.Limits.{max_list}
+use Rattle.ids.specs.Ids.{given_of, type_of}
 use Rattle.ids.proofs.Views.{long}
-use Rattle.carrying.proofs.Laws.{slots_given}
+use Rattle.carrying.proofs.Laws.{made, slots_given}
 use borrow.Author.Rules.{rules}
 use Rattle.carrying.proofs.types_in.Goals as goal
 
@@ -11,4 +12,5 @@ pub returns : goal.returns
 returns c =
     let a = c.args in
     let four : length a.slots ≡ max_list = search (rules, long) in
-    slots_given a.slots a.n c.clamped.result four c.clamped.ensures
+    ap (given_of c.min.result) (made _ type_of (λ p x y q h. search rules) _ a.slots c.map.result max_list (record { 0 = 0 }) four c.map.ensures.items)
+    ∙ slots_given a.slots a.n c.min.result four c.min.ensures
