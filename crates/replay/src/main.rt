@@ -365,13 +365,13 @@ fn answer_line(answer: Answer, listed: u16) -> Line {
 }
 
 // The last line of what a call of a list answers.
-fn response_line(response: Response, els: ElIds, listed: u16) -> Line {
+fn response_line(response: Response, listed: u16) -> Line {
     match response {
         Response::Answered(a) => answer_line(a, listed),
         Response::Found(f) => pair_line(b"root", f.root.0, f.count),
-        Response::Typed(t) => type_line(t, els),
+        Response::Typed(t, parents) => type_line(t, parents),
         Response::Absent => Line::new().put_word(b"absent\n"),
-        Response::Els => els_line(b"ambients", els),
+        Response::Els(els) => els_line(b"ambients", els),
     }
 }
 
@@ -381,12 +381,11 @@ fn respond(rt: &HostRuntime, text: &mut [u8; MAX_TEXT], from: Printed, bytes: &[
     let machine = from.machine;
     let responded = driver::run_from(machine, &bytes[..m]);
     let response = responded.response;
-    let els = responded.els;
     let conflicts = responded.conflicts;
     let next = responded.machine;
     let at = put_conflicts(rt, text, from.n, conflicts);
     Printed {
-        n: put_line(rt, text, at, response_line(response, els, conflicts.len)),
+        n: put_line(rt, text, at, response_line(response, conflicts.len)),
         machine: next,
         length: from.length,
     }

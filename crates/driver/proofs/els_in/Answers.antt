@@ -1,0 +1,15 @@
+-- `els_in` meets its contract.
+use mathlib.Core.Path.{◌≡◌, ap}
+use lib.ListN.{length}
+use Rattle.ids.specs.Limits.{max_list}
+use Rattle.ids.specs.Ids.{given_of, el_of}
+use Rattle.ids.proofs.Views.{long}
+use Rattle.carrying.proofs.Laws.{made}
+use borrow.Author.Rules.{rules}
+use Rattle.driver.proofs.els_in.Goals as goal
+
+pub returns : goal.returns
+returns c =
+    let a = c.args in
+    let four : length a.slots ≡ max_list = search (rules, long) in
+    ap (given_of a.len) (made _ el_of (λ p x y q h. search rules) _ a.slots c.map.result max_list (record { 0 = 0 }) four c.map.ensures.items)
