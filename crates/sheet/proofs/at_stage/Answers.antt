@@ -6,4 +6,6 @@ use Rattle.sheet.proofs.at_stage.Goals as goal
 
 pub returns : goal.returns
 returns c =
-    let a = c.args in unlisted a.stage (machine_of a.machine) a.count a.index a.done (as_held c.new.ensures)
+    let a = c.args in
+    let at = a.position in
+    unlisted a.stage (machine_of a.machine) at.count at.index at.done (as_held c.new.ensures)
