@@ -4,7 +4,7 @@ use Rattle.ids.proofs.Tests.{told}
 use Rattle.lines.specs.View.{line_of}
 use Rattle.sheet.specs.Pieces.{piece}
 use Rattle.sheet.specs.View.{progress_of}
-use Rattle.resuming.proofs.Laws.{fewer}
+use Rattle.sheet.proofs.Pieces.{fewer}
 use Rattle.pechunaq.proofs.Laws.{over_ended, taken_line, taken_none, taken_now, taken_on}
 use Rattle.pechunaq.proofs.up_to_line.Goals as goal
 
