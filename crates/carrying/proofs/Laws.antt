@@ -1,5 +1,5 @@
 -- Laws of the lists that a record gives, of conflicts beside an answer, of kinds, and of what a record answers where it fits and where not.
-use Prim.Native.Nat.{ℕ, zero, suc, ◌≤◌, min}
+use Prim.Native.Nat.{ℕ, zero, suc, ◌≤◌, ◌<◌, min}
 use mathlib.Core.Path.{◌≡◌, refl, sym, ap, ◌∙◌}
 use mathlib.Core.Bool.{true, false}
 use mathlib.Core.List.{List, [], map}
@@ -8,7 +8,7 @@ use native.Mathlib.Omega.{arith}
 use lib.ListN.{length, take, get_or-eq_default, get_or-map, length-map}
 use denote.Param.Members.{Called, Mut}
 use Rattle.std.specs.Array.{IsMapOf}
-use Rattle.std.proofs.lemmas.List.{ext_get_or}
+use Rattle.std.proofs.lemmas.List.{ext_get_or, get_or_default}
 use Rattle.ids.specs.Limits.{max_list}
 use Rattle.ids.specs.Ids.{given_of}
 use Rattle.ids.proofs.Lists.{given_held}
@@ -24,14 +24,16 @@ use Rattle.carrying.specs.declared.Carried.{Carried}
 use Rattle.carrying.specs.View.{carried_step, conflicts_beside, CarriedM, carried_of, with_conflicts, form_step}
 
 -- an array of which each entry is made of the one in another
-module _ {F B : Type 0} (g : Mut F (ℕ × Unit {0}) B) (number : B → ℕ)
-    (called : (p : F) (x : ℕ) (y : B) (q : F) → Called g p (x, tt) y q → number y ≡ x) where
-  pub made : (f : F) (xs : List ℕ) (ys : List B) (n : ℕ) (d : B) → length xs ≡ n → IsMapOf g f xs ys n → map number ys ≡ xs
-  made f xs ys n d long m =
-      sym
-      (ext_get_or (number d) xs (map number ys) (omega (arith, long, m.long, length-map ys number)) (λ i h.
-      let (p, q, one) = m.at i (number d) d (omega (arith, h, long)) in
-      sym (get_or-map number ys i d ∙ called p _ _ q one)))
+pub mapped : {F A B C : Type 0} (g : Mut F (A × Unit {0}) B) (f : B → C) (h : A → C) → ((p : F) (x : A) (y : B) (q : F) → Called g p (x, tt) y q → f y ≡ h x)
+    → (made : F) (xs : List A) (ys : List B) (n : ℕ) (d : A) (e : B) → length xs ≡ n → IsMapOf g made xs ys n → map f ys ≡ map h xs
+mapped g f h called made xs ys n d e long m =
+    ext_get_or (f e) (map f ys) (map h xs) (omega (arith, long, m.long, length-map ys f, length-map xs h)) (λ i less.
+    let in_ys : i < n = omega (arith, less, m.long, length-map ys f) in
+    let (p, q, one) = m.at i d e in_ys in
+    get_or-map f ys i e
+    ∙ called p _ _ q one
+    ∙ sym (get_or-map h xs i d)
+    ∙ get_or_default (map h xs) i (h d) (f e) (omega (arith, in_ys, long, length-map xs h)))
 
 -- the first n of the slots, as they are given to a call
 pub slots_given : (xs : List ℕ) (n len : ℕ) → length xs ≡ max_list → len ≡ min n max_list → given_of len xs ≡ take n xs

@@ -1,10 +1,12 @@
 -- `els_in` meets its contract.
-use mathlib.Core.Path.{◌≡◌, ap}
+use mathlib.Core.Path.{◌≡◌, ap, ◌∙◌}
+use mathlib.Core.List.{map-id}
+use Prim.Native.Nat.{ℕ}
 use lib.ListN.{length}
 use Rattle.ids.specs.Limits.{max_list}
 use Rattle.ids.specs.Ids.{given_of, el_of}
 use Rattle.ids.proofs.Views.{long}
-use Rattle.carrying.proofs.Laws.{made}
+use Rattle.carrying.proofs.Laws.{mapped}
 use borrow.Author.Rules.{rules}
 use Rattle.driver.proofs.els_in.Goals as goal
 
@@ -12,4 +14,4 @@ pub returns : goal.returns
 returns c =
     let a = c.args in
     let four : length a.slots ≡ max_list = search (rules, long) in
-    ap (given_of a.len) (made _ el_of (λ p x y q h. search rules) _ a.slots c.map.result max_list (record { 0 = 0 }) four c.map.ensures.items)
+    ap (given_of a.len) (mapped _ el_of (λ (x : ℕ). x) (λ p x y q h. search rules) _ a.slots c.map.result max_list 0 (record { 0 = 0 }) four c.map.ensures.items ∙ map-id a.slots)
