@@ -2,7 +2,7 @@
 use Prim.Native.Nat.{ℕ, zero, suc, ◌≤◌, ◌<◌, min}
 use mathlib.Core.Path.{◌≡◌, refl, sym, ap, ◌∙◌}
 use mathlib.Core.Bool.{true, false}
-use mathlib.Core.List.{List, [], map}
+use mathlib.Core.List.{List, map}
 use mathlib.Core.Option.{Option, none, some}
 use native.Mathlib.Omega.{arith}
 use lib.ListN.{length, take, get_or-eq_default, get_or-map, length-map}
@@ -17,11 +17,8 @@ use Rattle.ids.proofs.Tests.{chosen, unchosen}
 use Rattle.semantics.specs.Calls.{Call, Machine, Step}
 use Rattle.semantics.specs.Sheet.{Record, Form, forms, form_of, call_in, carry_out}
 use Rattle.records.specs.View.{fits_form}
-use Rattle.structure.specs.declared.Answer.{Answer}
-use Rattle.structure.specs.declared.Answer.TheVariants as variants
-use Rattle.structure.specs.View.{answer_of}
 use Rattle.carrying.specs.declared.Carried.{Carried}
-use Rattle.carrying.specs.View.{carried_step, conflicts_beside, CarriedM, carried_of, with_conflicts, form_step}
+use Rattle.carrying.specs.View.{carried_step, CarriedM, carried_of, with_conflicts, form_step}
 
 -- an array of which each entry is made of the one in another
 pub mapped : {F A B C : Type 0} (g : Mut F (A × Unit {0}) B) (f : B → C) (h : A → C) → ((p : F) (x : A) (y : B) (q : F) → Called g p (x, tt) y q → f y ≡ h x)
@@ -38,16 +35,6 @@ mapped g f h called made xs ys n d e long m =
 -- the first n of the slots, as they are given to a call
 pub slots_given : (xs : List ℕ) (n len : ℕ) → length xs ≡ max_list → len ≡ min n max_list → given_of len xs ≡ take n xs
 slots_given xs n len long h = given_held len xs (omega arith) ∙ take_same len n xs (omega arith)
-
--- no conflicts stand beside an answer that is given none
-pub none_beside : (a : Answer) → conflicts_beside (answer_of [] a) ≡ []
-none_beside (variants.Number n) = refl
-none_beside (variants.Says b) = refl
-none_beside variants.Done = refl
-none_beside (variants.Closed c) = refl
-none_beside (variants.Conflicting n) = refl
-none_beside (variants.Summed t) = refl
-none_beside (variants.Refused n) = refl
 
 -- the step of a record that is carried out, with the conflicts as they are held
 pub carried_step_lem : (r : Carried) {s : Step} → carried_of r ≡ with_conflicts s → carried_step r ≡ s

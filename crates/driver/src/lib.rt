@@ -21,7 +21,7 @@ use signature::{TypeLookup, Typed};
 use structure::{Answer, Looked, Machine};
 use unification::{Find, Finding};
 
-// The kinds of the calls that no record of a sheet makes: numbers of the file, as those of sheets.
+// The kinds of the calls that no record of a sheet makes: numbers of the file, as those of sheets. An enum of them would only add a second match.
 const ROOT_KIND: u16 = 101;
 
 const ROOT_CONST_KIND: u16 = 102;

@@ -91,7 +91,7 @@ impl Line {
         self.put(b' ').put_decimal(x)
     }
 
-    // The same, of 16 bits.
+    // The same, of 16 bits: at most 6 bytes, and not 21.
     pub fn put_number(self, x: u16) -> Line
         ensures { Added (line_of self) (x ∷ []) number_bytes (line_of result) }
     {

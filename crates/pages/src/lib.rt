@@ -10,7 +10,7 @@ use lines::Line;
 use records::Record;
 use sheet::Progress;
 
-// A page: the first `len` bytes of a text, and what comes after it.
+// A page: the first `len` bytes of a text, and what comes after it. The caller lends the text: there is no heap, and one text serves all pages.
 #[derive(Clone, Copy)]
 pub struct Page {
     pub len: usize,

@@ -1,5 +1,5 @@
 // The calls of the C library (lib/): a session, which the caller keeps between two calls. No enum can be handed over to C, so a session holds
-// numbers and bools alone: the kind of a type and the stage of a sheet are numbers.
+// numbers and bools alone: the kind of a type and the stage of a sheet are numbers, and so are the answers and refusals that are handed back.
 #![tactic(auto)]
 
 ghost use Rattle.std.specs.Prelude.{◌≡◌};

@@ -1,5 +1,5 @@
 -- `Line::put_els` meets its contract.
-use mathlib.Core.Path.{◌≡◌, refl, ap, ◌∙◌}
+use mathlib.Core.Path.{◌≡◌, ap, ◌∙◌}
 use mathlib.Core.List.{List, [], map}
 use Prim.Native.Nat.{ℕ, ◌+◌}
 use native.Mathlib.Omega.{arith}
@@ -11,15 +11,9 @@ use Rattle.ids.specs.Ids.{el_of}
 use Rattle.ids.proofs.Views.{view_clamped}
 use Rattle.semantics.specs.Sheet.{spaced}
 use Rattle.lines.specs.View.{line_of, put_of}
-use Rattle.lines.proofs.Puts.{put_done, put_short, short}
+use Rattle.lines.proofs.Puts.{put_done, put_short}
 use Rattle.lines.proofs.Decimals.{add_turn, turn_length}
-use borrow.Author.Rules.{rules}
 use Rattle.lines.proofs.Line.put_els.Goals as goal
-
-pub loop-el-init : goal.loop-el-init
-loop-el-init c =
-    let line = c.args.self in
-    (refl, short line.len line.bytes (search rules), omega arith)
 
 pub loop-el-preserved : goal.loop-el-preserved
 loop-el-preserved c =

@@ -1,18 +1,11 @@
 -- `Line::put_word` meets its contract. The rest of the word is still to be added.
-use mathlib.Core.Path.{refl}
 use mathlib.Core.List.{[], ◌∷◌}
 use native.Mathlib.Numerals.{add-one}
 use lib.ListN.{get_or, drop_of_length-le}
 use lib.Seq.{drop-cons}
 use Rattle.lines.specs.View.{line_of}
-use Rattle.lines.proofs.Puts.{put_turn, put_done, put_short, short}
-use borrow.Author.Rules.{rules}
+use Rattle.lines.proofs.Puts.{put_turn, put_done, put_short}
 use Rattle.lines.proofs.Line.put_word.Goals as goal
-
-pub loop-b-init : goal.loop-b-init
-loop-b-init c =
-    let line = c.args.self in
-    (refl, short line.len line.bytes (search rules))
 
 pub loop-b-preserved : goal.loop-b-preserved
 loop-b-preserved c =
