@@ -1,11 +1,14 @@
 -- Laws of the lists that a record gives, of conflicts beside an answer, of kinds, and of what a record answers where it fits and where not.
-use Prim.Native.Nat.{ℕ, ◌≤◌, ◌<◌, min}
+use Prim.Native.Nat.{ℕ, zero, suc, ◌≤◌, ◌<◌, min}
 use mathlib.Core.Path.{◌≡◌, refl, sym, ap, ◌∙◌}
 use mathlib.Core.Bool.{true, false}
-use mathlib.Core.List.{List, [], ◌∷◌}
+use mathlib.Core.List.{List, map}
 use mathlib.Core.Option.{Option, none, some}
 use native.Mathlib.Omega.{arith}
-use lib.ListN.{length, take, get_or, get_or-eq_default}
+use lib.ListN.{length, take, get_or-eq_default, get_or-map, length-map}
+use denote.Param.Members.{Called, Mut}
+use Rattle.std.specs.Array.{IsMapOf}
+use Rattle.std.proofs.lemmas.List.{ext_get_or, get_or_default}
 use Rattle.ids.specs.Limits.{max_list}
 use Rattle.ids.specs.Ids.{given_of}
 use Rattle.ids.proofs.Lists.{given_held}
@@ -14,38 +17,24 @@ use Rattle.ids.proofs.Tests.{chosen, unchosen}
 use Rattle.semantics.specs.Calls.{Call, Machine, Step}
 use Rattle.semantics.specs.Sheet.{Record, Form, forms, form_of, call_in, carry_out}
 use Rattle.records.specs.View.{fits_form}
-use Rattle.structure.specs.declared.Answer.{Answer}
-use Rattle.structure.specs.declared.Answer.TheVariants as variants
-use Rattle.structure.specs.View.{answer_of}
 use Rattle.carrying.specs.declared.Carried.{Carried}
-use Rattle.carrying.specs.View.{carried_step, conflicts_beside, CarriedM, carried_of, with_conflicts, form_step}
+use Rattle.carrying.specs.View.{carried_step, CarriedM, carried_of, with_conflicts, form_step}
 
--- the four slots of a list
-abbrev pub slots_of : List ℕ → List ℕ
-slots_of xs = get_or xs 0 0 ∷ get_or xs 1 0 ∷ get_or xs 2 0 ∷ get_or xs 3 0 ∷ []
+-- an array of which each entry is made of the one in another
+pub mapped : {F A B C : Type 0} (g : Mut F (A × Unit {0}) B) (f : B → C) (h : A → C) → ((p : F) (x : A) (y : B) (q : F) → Called g p (x, tt) y q → f y ≡ h x)
+    → (made : F) (xs : List A) (ys : List B) (n : ℕ) (d : A) (e : B) → length xs ≡ n → IsMapOf g made xs ys n → map f ys ≡ map h xs
+mapped g f h called made xs ys n d e long m =
+    ext_get_or (f e) (map f ys) (map h xs) (omega (arith, long, m.long, length-map ys f, length-map xs h)) (λ i less.
+    let in_ys : i < n = omega (arith, less, m.long, length-map ys f) in
+    let (p, q, one) = m.at i d e in_ys in
+    get_or-map f ys i e
+    ∙ called p _ _ q one
+    ∙ sym (get_or-map h xs i d)
+    ∙ get_or_default (map h xs) i (h d) (f e) (omega (arith, in_ys, long, length-map xs h)))
 
-four : (xs : List ℕ) → length xs ≡ max_list → slots_of xs ≡ xs
-four [] h = absurd (omega arith)
-four (a ∷ []) h = absurd (omega arith)
-four (a ∷ b ∷ []) h = absurd (omega arith)
-four (a ∷ b ∷ c ∷ []) h = absurd (omega arith)
-four (a ∷ b ∷ c ∷ d ∷ []) h = refl
-four (a ∷ b ∷ c ∷ d ∷ e ∷ xs) h = absurd (omega arith)
-
--- the first n of the slots, of which there are four, as they are given to a call
-pub slots_given : (xs : List ℕ) (n len : ℕ) → length xs ≡ max_list → len ≡ min n max_list → given_of len (slots_of xs) ≡ take n xs
-slots_given xs n len long h =
-    ap (given_of len) (four xs long) ∙ given_held len xs (omega arith) ∙ take_same len n xs (omega arith)
-
--- no conflicts stand beside an answer that is given none
-pub none_beside : (a : Answer) → conflicts_beside (answer_of [] a) ≡ []
-none_beside (variants.Number n) = refl
-none_beside (variants.Says b) = refl
-none_beside variants.Done = refl
-none_beside (variants.Closed c) = refl
-none_beside (variants.Conflicting n) = refl
-none_beside (variants.Summed t) = refl
-none_beside (variants.Refused n) = refl
+-- the first n of the slots, as they are given to a call
+pub slots_given : (xs : List ℕ) (n len : ℕ) → length xs ≡ max_list → len ≡ min n max_list → given_of len xs ≡ take n xs
+slots_given xs n len long h = given_held len xs (omega arith) ∙ take_same len n xs (omega arith)
 
 -- the step of a record that is carried out, with the conflicts as they are held
 pub carried_step_lem : (r : Carried) {s : Step} → carried_of r ≡ with_conflicts s → carried_step r ≡ s
@@ -53,24 +42,11 @@ carried_step_lem r is = ap (λ (k : CarriedM). k.step) is
 
 -- Kinds by number.
 
-pub from_three : {k : ℕ} → (k ≡ 0 → ⊥) → (k ≡ 1 → ⊥) → (k ≡ 2 → ⊥) → 3 ≤ k
-from_three n0 n1 n2 = omega arith
-
-pub only_five : {k : ℕ} → (1 ≤ k) × (k ≤ 5) → (k ≡ 1 → ⊥) → (k ≡ 2 → ⊥) → (k ≡ 3 → ⊥) → (k ≡ 4 → ⊥) → k ≡ 5
-only_five h n1 n2 n3 n4 = omega arith
-
-pub only_twelve : {k : ℕ} → (6 ≤ k) × (k ≤ 12) → (k ≡ 6 → ⊥) → (k ≡ 7 → ⊥) → (k ≡ 8 → ⊥) → (k ≡ 9 → ⊥) → (k ≡ 10 → ⊥) → (k ≡ 11 → ⊥) → k ≡ 12
-only_twelve h n6 n7 n8 n9 n10 n11 = omega arith
-
--- kind 0 has no form
-pub low : {k : ℕ} → k < 1 → none ≡ form_of k
+-- 0 has no form, nor has a number over 15
+pub formless : (k : ℕ) → (1 ≤ k → k ≤ 15 → ⊥) → none ≡ form_of k
 unfolding form_of forms
-low {k} h = let e : k ≡ 0 = omega arith in ap form_of (sym e)
-
--- nor has one from 16 on
-pub past : {k : ℕ} → 13 ≤ k → (k ≡ 13 → ⊥) → (k ≡ 14 → ⊥) → (k ≡ 15 → ⊥) → none ≡ form_of k
-unfolding form_of forms
-past {k} h n13 n14 n15 = sym (get_or-eq_default forms none {n = k} (omega arith))
+formless zero h = refl
+formless (suc k) h = sym (get_or-eq_default forms none {n = suc k} (omega (arith, h)))
 
 module _ (r : Record) (m : Machine) where
   -- a record is of the form of the kind that it has

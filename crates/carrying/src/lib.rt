@@ -25,7 +25,8 @@ use signature::{
 };
 use structure::{Answer, Machine, Stepped};
 
-// What a record's call answers; conflicts stand beside it, and none beside another answer.
+// What a record's call answers; conflicts stand beside it, and none beside another answer. `Answer` does not hold them: it is
+// declared below them, and is a few words.
 #[derive(Clone, Copy)]
 pub struct Carried {
     pub answer: Answer,
@@ -33,29 +34,13 @@ pub struct Carried {
     pub machine: Machine,
 }
 
-// A count over the limit counts as the limit.
-fn clamped(n: u16) -> u16
-    ensures { result ≡ min n max_list }
-{
-    if (n as usize) < ElIds::MAX_LEN {
-        n
-    } else {
-        ElIds::MAX_LEN as u16
-    }
-}
-
-// The first n of the slots.
+// The first n of the slots; a count over the limit counts as the limit.
 fn types_in(slots: [u16; TypeIds::MAX_LEN], n: u16) -> TypeIds
     ensures { given_types result ≡ take n slots }
 {
     TypeIds {
-        ids: [
-            TypeId(slots[0]),
-            TypeId(slots[1]),
-            TypeId(slots[2]),
-            TypeId(slots[3]),
-        ],
-        len: clamped(n),
+        ids: slots.map(TypeId),
+        len: n.min(TypeIds::MAX_LEN as u16),
     }
 }
 
@@ -63,13 +48,8 @@ fn els_in(slots: [u16; ElIds::MAX_LEN], n: u16) -> ElIds
     ensures { given_els result ≡ take n slots }
 {
     ElIds {
-        ids: [
-            ElId(slots[0]),
-            ElId(slots[1]),
-            ElId(slots[2]),
-            ElId(slots[3]),
-        ],
-        len: clamped(n),
+        ids: slots.map(ElId),
+        len: n.min(ElIds::MAX_LEN as u16),
     }
 }
 
@@ -101,48 +81,42 @@ fn answered(machine: Machine, answer: Answer) -> Carried
 fn after_declaring(machine: Machine, d: Declaring) -> Carried
     ensures { carried_of result ≡ with_conflicts (declaring_of (structure_of machine.structure) d) }
 {
-    let signature = d.signature;
-    let structure = machine.structure;
-    let next = Machine {
-        signature,
-        structure,
+    let answer = match d.answer {
+        Declared::Number(n) => Answer::Number(n),
+        Declared::Refused(n) => Answer::Refused(n),
     };
-    let answer = d.answer;
-    match answer {
-        Declared::Number(n) => answered(next, Answer::Number(n)),
-        Declared::Refused(n) => answered(next, Answer::Refused(n)),
-    }
+    answered(
+        Machine {
+            signature: d.signature,
+            structure: machine.structure,
+        },
+        answer,
+    )
 }
 
 fn after_step(machine: Machine, stepped: Stepped) -> Carried
     ensures { carried_of result ≡ with_conflicts (step_of (sig_of machine.signature) stepped) }
 {
-    let signature = machine.signature;
-    let structure = stepped.structure;
-    let next = Machine {
-        signature,
-        structure,
-    };
-    let answer = stepped.answer;
-    answered(next, answer)
+    answered(
+        Machine {
+            signature: machine.signature,
+            structure: stepped.structure,
+        },
+        stepped.answer,
+    )
 }
 
 fn after_conflicting(machine: Machine, d: Conflicting) -> Carried
     requires { given_conflicts d.conflicts ≡ conflicts_of d.conflicts }
     ensures { carried_of result ≡ with_conflicts (held_conflicting (sig_of machine.signature) d) }
 {
-    let signature = machine.signature;
-    let structure = d.structure;
-    let conflicts = d.conflicts;
-    let finds = d.finds;
-    let next = Machine {
-        signature,
-        structure,
-    };
     Carried {
-        answer: Answer::Conflicting(finds),
-        conflicts,
-        machine: next,
+        answer: Answer::Conflicting(d.finds),
+        conflicts: d.conflicts,
+        machine: Machine {
+            signature: machine.signature,
+            structure: d.structure,
+        },
     }
 }
 
@@ -152,82 +126,79 @@ fn after_conflicting(machine: Machine, d: Conflicting) -> Carried
 fn push_type(machine: Machine, given: Record) -> Carried
     ensures { carried_of result ≡ with_conflicts (calls.step ((sheet.type_form).call (record_view given)) (machine_of machine)) }
 {
-    let signature = machine.signature;
-    let structure = machine.structure;
-    let slots = given.parents;
     let t = Type {
         kind: type_kind(given.a, given.b),
-        parents: types_in(slots, given.parent_count),
+        parents: types_in(given.parents, given.parent_count),
     };
-    after_declaring(machine, declaring::push_type(structure, signature, t))
+    after_declaring(
+        machine,
+        declaring::push_type(machine.structure, machine.signature, t),
+    )
 }
 
 // Kind 2.
 fn push_pred(machine: Machine, given: Record) -> Carried
     ensures { carried_of result ≡ with_conflicts (calls.step ((sheet.pred_form).call (record_view given)) (machine_of machine)) }
 {
-    let signature = machine.signature;
-    let structure = machine.structure;
-    let slots = given.parents;
-    let arg_slots = given.args;
     let p = Pred {
-        parents: types_in(slots, given.parent_count),
-        arity: types_in(arg_slots, given.arg_count),
+        parents: types_in(given.parents, given.parent_count),
+        arity: types_in(given.args, given.arg_count),
     };
-    after_declaring(machine, declaring::push_pred(structure, signature, p))
+    after_declaring(
+        machine,
+        declaring::push_pred(machine.structure, machine.signature, p),
+    )
 }
 
 // Kind 3.
 fn push_func(machine: Machine, given: Record) -> Carried
     ensures { carried_of result ≡ with_conflicts (calls.step ((sheet.func_form).call (record_view given)) (machine_of machine)) }
 {
-    let signature = machine.signature;
-    let structure = machine.structure;
-    let slots = given.parents;
-    let arg_slots = given.args;
     let f = Func {
-        parents: types_in(slots, given.parent_count),
-        domain: types_in(arg_slots, given.arg_count),
+        parents: types_in(given.parents, given.parent_count),
+        domain: types_in(given.args, given.arg_count),
         codomain: TypeId(given.b),
     };
-    after_declaring(machine, declaring::push_func(structure, signature, f))
+    after_declaring(
+        machine,
+        declaring::push_func(machine.structure, machine.signature, f),
+    )
 }
 
 // Kind 4.
 fn push_model(machine: Machine, given: Record) -> Carried
     ensures { carried_of result ≡ with_conflicts (calls.step ((sheet.model_form).call (record_view given)) (machine_of machine)) }
 {
-    let signature = machine.signature;
-    let structure = machine.structure;
-    let args = given.args;
+    let [dom, cod, id, comp] = given.args;
     let ids = ModelIds {
         type_: TypeId(given.a),
         mor: TypeId(given.b),
-        dom: FuncId(args[0]),
-        cod: FuncId(args[1]),
-        id: FuncId(args[2]),
-        comp: FuncId(args[3]),
+        dom: FuncId(dom),
+        cod: FuncId(cod),
+        id: FuncId(id),
+        comp: FuncId(comp),
     };
-    after_declaring(machine, declaring::push_model(structure, signature, ids))
+    after_declaring(
+        machine,
+        declaring::push_model(machine.structure, machine.signature, ids),
+    )
 }
 
 // Kind 5.
 fn push_mor_app_func(machine: Machine, given: Record) -> Carried
     ensures { carried_of result ≡ with_conflicts (calls.step ((sheet.mor_app_form).call (record_view given)) (machine_of machine)) }
 {
-    let signature = machine.signature;
-    let structure = machine.structure;
-    let args = given.args;
+    let [morphism_type, member_type, ..] = given.args;
     let m = MorAppFunc {
         func: FuncId(given.a),
         types: MorphismMemberTypes {
-            morphism_type: TypeId(args[0]),
-            member_type: TypeId(args[1]),
+            morphism_type: TypeId(morphism_type),
+            member_type: TypeId(member_type),
         },
     };
     after_declaring(
         machine,
-        declaring::push_mor_app_func(structure, signature, m),
+        declaring::push_mor_app_func(machine.structure, machine.signature, m),
     )
 }
 
@@ -235,47 +206,41 @@ fn push_mor_app_func(machine: Machine, given: Record) -> Carried
 fn push_el(machine: Machine, given: Record) -> Carried
     ensures { carried_of result ≡ with_conflicts (calls.step ((sheet.el_form).call (record_view given)) (machine_of machine)) }
 {
-    let structure = machine.structure;
-    let mark = given.a == 1;
-    after_step(machine, structure.push_el(mark))
+    after_step(machine, machine.structure.push_el(given.a == 1))
 }
 
 // Kind 7.
 fn equate(machine: Machine, given: Record) -> Carried
     ensures { carried_of result ≡ with_conflicts (calls.step ((sheet.equality_form).call (record_view given)) (machine_of machine)) }
 {
-    let structure = machine.structure;
-    let a = ElId(given.a);
-    let b = ElId(given.b);
-    after_step(machine, structure.equate(a, b))
+    after_step(
+        machine,
+        machine.structure.equate(ElId(given.a), ElId(given.b)),
+    )
 }
 
 // Kind 8.
 fn impose_type(machine: Machine, given: Record) -> Carried
     ensures { carried_of result ≡ with_conflicts (calls.step ((sheet.imposition_form).call (record_view given)) (machine_of machine)) }
 {
-    let signature = machine.signature;
-    let structure = machine.structure;
-    let slots = given.parents;
-    let parents = els_in(slots, given.parent_count);
+    let parents = els_in(given.parents, given.parent_count);
     let fact = Fact::new(ElId(given.a), TypeId(given.b), parents);
-    after_step(machine, inserting::impose_type(structure, signature, fact))
+    after_step(
+        machine,
+        inserting::impose_type(machine.structure, machine.signature, fact),
+    )
 }
 
 // Kind 9.
 fn apply_func(machine: Machine, given: Record) -> Carried
     ensures { carried_of result ≡ with_conflicts (calls.step ((sheet.func_app_form).call (record_view given)) (machine_of machine)) }
 {
-    let signature = machine.signature;
-    let structure = machine.structure;
-    let slots = given.parents;
-    let arg_slots = given.args;
-    let parents = els_in(slots, given.parent_count);
-    let args = els_in(arg_slots, given.arg_count);
+    let parents = els_in(given.parents, given.parent_count);
+    let args = els_in(given.args, given.arg_count);
     let app = FuncApp::new(FuncId(given.a), parents, args, ElId(given.b));
     after_step(
         machine,
-        inserting::insert_func_app_or_equate(structure, signature, app),
+        inserting::insert_func_app_or_equate(machine.structure, machine.signature, app),
     )
 }
 
@@ -283,16 +248,12 @@ fn apply_func(machine: Machine, given: Record) -> Carried
 fn apply_pred(machine: Machine, given: Record) -> Carried
     ensures { carried_of result ≡ with_conflicts (calls.step ((sheet.pred_app_form).call (record_view given)) (machine_of machine)) }
 {
-    let signature = machine.signature;
-    let structure = machine.structure;
-    let slots = given.parents;
-    let arg_slots = given.args;
-    let parents = els_in(slots, given.parent_count);
-    let args = els_in(arg_slots, given.arg_count);
+    let parents = els_in(given.parents, given.parent_count);
+    let args = els_in(given.args, given.arg_count);
     let app = PredApp::new(PredId(given.a), parents, args);
     after_step(
         machine,
-        inserting::insert_pred_app(structure, signature, app),
+        inserting::insert_pred_app(machine.structure, machine.signature, app),
     )
 }
 
@@ -300,96 +261,74 @@ fn apply_pred(machine: Machine, given: Record) -> Carried
 fn bind_var(machine: Machine, given: Record) -> Carried
     ensures { carried_of result ≡ with_conflicts (calls.step ((sheet.var_form).call (record_view given)) (machine_of machine)) }
 {
-    let structure = machine.structure;
     let v = VarEl {
         key: given.a,
         el: ElId(given.b),
     };
-    after_step(machine, structure.insert_var_el(v))
+    after_step(machine, machine.structure.insert_var_el(v))
 }
 
 // Kind 12.
 fn bind_ambient(machine: Machine, given: Record) -> Carried
     ensures { carried_of result ≡ with_conflicts (calls.step ((sheet.ambient_form).call (record_view given)) (machine_of machine)) }
 {
-    let signature = machine.signature;
-    let structure = machine.structure;
     let a = AmbientEl {
         typ: TypeId(given.a),
         el: ElId(given.b),
     };
-    after_step(machine, structure.insert_ambient_model_el(signature, a))
+    after_step(
+        machine,
+        machine
+            .structure
+            .insert_ambient_model_el(machine.signature, a),
+    )
 }
 
 // Kind 13.
 fn run_close(machine: Machine) -> Carried
     ensures { carried_of result ≡ with_conflicts (calls.step calls.close (machine_of machine)) }
 {
-    let signature = machine.signature;
-    let structure = machine.structure;
-    after_step(machine, close::close(structure, signature))
+    after_step(machine, close::close(machine.structure, machine.signature))
 }
 
 // Kind 14.
 fn find_conflicts(machine: Machine) -> Carried
     ensures { carried_of result ≡ with_conflicts (calls.step calls.type_conflicts (machine_of machine)) }
 {
-    let structure = machine.structure;
-    after_conflicting(machine, conflicts::type_conflicts(structure))
+    after_conflicting(machine, conflicts::type_conflicts(machine.structure))
 }
 
 // Kind 15.
 fn run_settle(machine: Machine) -> Carried
     ensures { carried_of result ≡ with_conflicts (calls.step calls.settle (machine_of machine)) }
 {
-    let signature = machine.signature;
-    let structure = machine.structure;
-    after_step(machine, settle::settle(structure, signature))
-}
-
-// The kinds that declare.
-fn declare(machine: Machine, given: Record) -> Carried
-    requires { (1 ≤ given.kind) × (given.kind ≤ 5) }
-    ensures { carried_of result ≡ with_conflicts (form_step (sheet.form_of given.kind) (record_view given) (machine_of machine)) }
-{
-    let kind = given.kind;
-    match kind {
-        1 => push_type(machine, given),
-        2 => push_pred(machine, given),
-        3 => push_func(machine, given),
-        4 => push_model(machine, given),
-        _ => push_mor_app_func(machine, given),
-    }
-}
-
-// The kinds that state something of elements.
-fn state(machine: Machine, given: Record) -> Carried
-    requires { (6 ≤ given.kind) × (given.kind ≤ 12) }
-    ensures { carried_of result ≡ with_conflicts (form_step (sheet.form_of given.kind) (record_view given) (machine_of machine)) }
-{
-    let kind = given.kind;
-    match kind {
-        6 => push_el(machine, given),
-        7 => equate(machine, given),
-        8 => impose_type(machine, given),
-        9 => apply_func(machine, given),
-        10 => apply_pred(machine, given),
-        11 => bind_var(machine, given),
-        _ => bind_ambient(machine, given),
-    }
+    after_step(
+        machine,
+        settle::settle(machine.structure, machine.signature),
+    )
 }
 
 // A record is carried out by the call of its kind; one that does not fit is refused, and the machine is as it was.
+// The kinds are the file's numbers: an enum of them would only add a second match.
 pub fn carry_out(machine: Machine, given: Record) -> Carried
     ensures { carried_of result ≡ with_conflicts (sheet.carry_out (sheet.call_of (record_view given)) (machine_of machine)) }
 {
     if !given.fits() {
         return answered(machine, Answer::Refused(Refusal::MALFORMED));
     }
-    let kind = given.kind;
-    match kind {
-        1..=5 => declare(machine, given),
-        6..=12 => state(machine, given),
+    match given.kind {
+        1 => push_type(machine, given),
+        2 => push_pred(machine, given),
+        3 => push_func(machine, given),
+        4 => push_model(machine, given),
+        5 => push_mor_app_func(machine, given),
+        6 => push_el(machine, given),
+        7 => equate(machine, given),
+        8 => impose_type(machine, given),
+        9 => apply_func(machine, given),
+        10 => apply_pred(machine, given),
+        11 => bind_var(machine, given),
+        12 => bind_ambient(machine, given),
         13 => run_close(machine),
         14 => find_conflicts(machine),
         15 => run_settle(machine),

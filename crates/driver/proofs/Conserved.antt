@@ -5,7 +5,6 @@ use mathlib.Core.List.{List, [], ◌∷◌, ◌++◌}
 use mathlib.Core.Option.{Option, none, some}
 use mathlib.Core.Bool.{true, false}
 use contract.Lifetimes.{Lfts}
-use Rattle.ids.specs.Ids.{given_els}
 use Rattle.unification.specs.Roots.{links_of}
 use Rattle.signature.specs.declared.Signature.{Signature}
 use Rattle.signature.specs.Model.{sig_of}
@@ -34,7 +33,8 @@ use Rattle.history.proofs.Settled.{by_calls}
 use Rattle.history.proofs.Histories.{after_history, history_next}
 use Rattle.history.proofs.Conservation.{conservation}
 use Rattle.driver.specs.Calls.{list_call_of, whole_records, call_list, calls_before, calls_in, last_answer, list_before}
-use Rattle.driver.specs.View.{response_of, responded_step, RespondedM}
+use Rattle.carrying.specs.View.{CarriedM}
+use Rattle.driver.specs.View.{response_of, responded_step}
 use Rattle.driver.specs.declared.Response.TheVariants as response
 use Rattle.driver.specs.declared.Responded.{Responded}
 use Rattle.driver.proofs.run.Reads as run-fn
@@ -148,7 +148,7 @@ module _ (κs : Lfts 1) (bytes : _) (r : Responded) (ran : run-fn.Learnt κs (by
   stepped : responded_step r ≡ answers (last_answer start bytes.now (whole_records bytes.now)) (history (calls_in bytes.now)).machine
   unfolding list_before
   stepped =
-      ap (λ (x : RespondedM). x.step) ran
+      ap (λ (x : CarriedM). x.step) ran
       ∙ ap (answers (last_answer start bytes.now (whole_records bytes.now))) (after_history (calls_in bytes.now))
 
   -- what `run` leaves is what the calls of the list leave
@@ -169,7 +169,7 @@ module _ (κs : Lfts 1) (bytes : _) (r : Responded) (ran : run-fn.Learnt κs (by
 
   -- what `run` answers is the last answer
   answered : {a : code-answer.Answer} → r.response ≡ response.Answered a → last_answer start bytes.now (whole_records bytes.now) ≡ answer_of (conflicts_of r.conflicts) a
-  answered e = ap (λ (s : Step). s.answer) (sym stepped) ∙ ap (response_of (conflicts_of r.conflicts) (given_els r.els)) e
+  answered e = ap (λ (s : Step). s.answer) (sym stepped) ∙ ap (response_of (conflicts_of r.conflicts)) e
 
   -- The same by what `run` answers: that the last record was an accepted close or settle.
 

@@ -1,17 +1,15 @@
 -- Laws of the lists that a record gives, of a record's call and its answer, of calls one after the other, and of one record more.
-use Prim.Native.Nat.{ℕ, zero, suc, ◌+◌, ◌≤◌, ◌<◌}
+use Prim.Native.Nat.{ℕ, zero, suc, ◌+◌, ◌<◌, min}
 use mathlib.Core.Path.{◌≡◌, refl, sym, ap, ◌∙◌, subst}
 use mathlib.Core.List.{List, [], ◌∷◌, ◌++◌}
 use mathlib.Core.Option.{Option, none, some}
 use native.Mathlib.Omega.{arith}
-use lib.ListN.{length, take}
+use lib.ListN.{take}
 use lib.Seq.{take_all}
 use borrow.Author.Tests.{ne_eqb}
 use Rattle.ids.specs.Answers.{Answered}
-use Rattle.ids.specs.Limits.{max_list}
 use Rattle.ids.specs.Ids.{padded, given_of}
 use Rattle.ids.specs.declared.TypeId.{TypeId}
-use Rattle.ids.proofs.Lists.{given_length}
 use Rattle.signature.specs.declared.Typed.{Typed}
 use Rattle.signature.specs.declared.Typed.TheVariants.{At}
 use Rattle.signature.specs.declared.TypeLookup.{TypeLookup}
@@ -22,45 +20,22 @@ use Rattle.semantics.specs.Sheet as sheet
 use Rattle.semantics.specs.Sheet.{Record, record_at, carry_out}
 use Rattle.records.specs.View.{record_within}
 use Rattle.records.proofs.Laws.{record_within_lem}
-use Rattle.semantics.specs.Conflicts.{Conflict}
-use Rattle.structure.specs.declared.Answer as code
-use Rattle.structure.specs.declared.Answer.TheVariants as codes
-use Rattle.structure.specs.View.{answer_of, els_in}
-use Rattle.carrying.proofs.Laws as carried
-use Rattle.carrying.proofs.Laws.{slots_of}
 use Rattle.driver.specs.Calls.{root_kind, root_const_kind, lookup_type_kind, ambient_parents_kind, call_at, list_call_of, whole_records, call_list}
 use Rattle.driver.specs.Calls.{calls_before, last_answer, list_before}
 
--- the four slots as they are given to a call
-pub slots_given : (xs : List ℕ) (n : ℕ) → length xs ≡ max_list → given_of n (slots_of xs) ≡ given_of n xs
+-- the first n of a list that is given
+pub first_given : (n len k : ℕ) (xs : List ℕ) → k ≡ min len n → given_of k xs ≡ take n (given_of len xs)
 unfolding padded
-slots_given xs n h = ap (given_of n) (carried.slots_given xs max_list max_list h refl ∙ take_all max_list xs (omega arith))
-
--- the first n of a list that is given, which has more, or not
-pub first_given : (n len : ℕ) (xs : List ℕ) → n ≤ len → given_of n xs ≡ take n (given_of len xs)
-unfolding padded
-first_given zero len xs h = refl
-first_given (suc n) zero xs h = absurd (omega arith)
-first_given (suc n) (suc len) [] h = ap (λ (l : List ℕ). 0 ∷ l) (first_given n len [] (omega arith))
-first_given (suc n) (suc len) (x ∷ xs) h = ap (λ (l : List ℕ). x ∷ l) (first_given n len xs (omega arith))
-
-pub all_given : (n len : ℕ) (xs : List ℕ) → len ≤ n → given_of len xs ≡ take n (given_of len xs)
-all_given n len xs h = sym (take_all n (given_of len xs) (omega (arith, given_length len xs)))
+first_given n zero k xs h = let none : k ≡ 0 = omega (arith, h) in ap (λ (j : ℕ). given_of j xs) none ∙ sym (take_all n [] (omega arith))
+first_given zero (suc len) k xs h = let none : k ≡ 0 = omega (arith, h) in ap (λ (j : ℕ). given_of j xs) none
+first_given (suc n) (suc len) zero xs h = absurd (omega (arith, h))
+first_given (suc n) (suc len) (suc k) [] h = ap (λ (l : List ℕ). 0 ∷ l) (first_given n len k [] (omega (arith, h)))
+first_given (suc n) (suc len) (suc k) (x ∷ xs) h = ap (λ (l : List ℕ). x ∷ l) (first_given n len k xs (omega (arith, h)))
 
 -- the type lookup came out as x
 pub looked_up_lem : (m : Machine) (t : ℕ) (ps : List ℕ) {x y : TypeLookup} → y ≡ x → type_looked_of y ≡ lookup_type_of m.sig t ps
     → answers (looked_up ps (type_looked_of x)) m ≡ step (lookup_type t ps) m
 looked_up_lem m t ps e is = ap (λ (x : Answered TypedM). answers (looked_up ps x) m) (ap type_looked_of (sym e) ∙ is) ∙ lookup_steps m t ps
-
--- what a record of a sheet answers lists no elements
-pub lists_none : (cs : List Conflict) (a : code.Answer) → els_in (answer_of cs a) ≡ []
-lists_none cs (codes.Number n) = refl
-lists_none cs (codes.Says b) = refl
-lists_none cs codes.Done = refl
-lists_none cs (codes.Closed c) = refl
-lists_none cs (codes.Conflicting n) = refl
-lists_none cs (codes.Summed t) = refl
-lists_none cs (codes.Refused n) = refl
 
 -- a type came out, with its leading parents
 pub type_found : (m : Machine) (ps : List ℕ) {es : List ℕ} {x : Typed} (t : TypeId) (n : ℕ) → es ≡ take n ps → x ≡ At t n

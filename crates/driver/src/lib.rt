@@ -11,7 +11,8 @@ ghost use Rattle.semantics.specs.Sheet as sheet;
 ghost use Rattle.records.specs.View.{record_view};
 ghost use Rattle.structure.specs.View.{machine_of, found_of};
 ghost use Rattle.driver.specs.Calls.{list_call_of, run_from, run_list};
-ghost use Rattle.driver.specs.View.{response_of, responded_of, responded};
+ghost use Rattle.carrying.specs.View.{with_conflicts};
+ghost use Rattle.driver.specs.View.{response_of, responded_of};
 
 use conflicts::TypeConflicts;
 use ids::{ElId, ElIds, TypeId, TypeIds};
@@ -20,61 +21,47 @@ use signature::{TypeLookup, Typed};
 use structure::{Answer, Looked, Machine};
 use unification::{Find, Finding};
 
-// The kinds of the calls that no record of a sheet makes.
-#[derive(Clone, Copy)]
-pub struct Kind(pub u16);
+// The kinds of the calls that no record of a sheet makes: numbers of the file, as those of sheets. An enum of them would only add a second match.
+const ROOT_KIND: u16 = 101;
 
-impl Kind {
-    pub const ROOT: u16 = 101;
+const ROOT_CONST_KIND: u16 = 102;
 
-    pub const ROOT_CONST: u16 = 102;
+const LOOKUP_TYPE_KIND: u16 = 103;
 
-    pub const LOOKUP_TYPE: u16 = 103;
+const AMBIENT_PARENTS_KIND: u16 = 104;
 
-    pub const AMBIENT_PARENTS: u16 = 104;
-}
-
-// What a call of a list answers; its lists stand beside it, and none beside another answer.
+// What a call of a list answers; conflicts stand beside it, and none beside another answer.
 #[derive(Clone, Copy)]
 pub enum Response {
     // What a record of a sheet answers.
     Answered(Answer),
     Found(Find),
-    // A type, with the elements as its parents.
-    Typed(TypeId),
+    // A type, with its parents.
+    Typed(TypeId, ElIds),
     Absent,
-    Els,
+    Els(ElIds),
 }
 
 #[derive(Clone, Copy)]
 pub struct Responded {
     pub response: Response,
-    pub els: ElIds,
     pub conflicts: TypeConflicts,
     pub machine: Machine,
 }
 
-// A response with elements beside it.
-fn respond_els(machine: Machine, response: Response, els: ElIds) -> Responded
-    ensures { responded_of result ≡ record { step = answers (response_of [] (given_els els) response) (machine_of machine); els = given_els els; conflicts = whole [] } }
+// A response with no conflicts beside it.
+fn respond(machine: Machine, response: Response) -> Responded
+    ensures { responded_of result ≡ record { step = answers (response_of [] response) (machine_of machine); conflicts = whole [] } }
 {
     Responded {
         response,
-        els,
         conflicts: TypeConflicts::new(),
         machine,
     }
 }
 
-// A response with no list beside it.
-fn respond(machine: Machine, response: Response) -> Responded
-    ensures { responded_of result ≡ record { step = answers (response_of [] [] response) (machine_of machine); els = []; conflicts = whole [] } }
-{
-    respond_els(machine, response, ElIds::new())
-}
-
 fn refuse(machine: Machine, number: u16) -> Responded
-    ensures { responded_of result ≡ responded (calls.refusal (machine_of machine) number) }
+    ensures { responded_of result ≡ with_conflicts (calls.refusal (machine_of machine) number) }
 {
     respond(machine, Response::Answered(Answer::Refused(number)))
 }
@@ -84,12 +71,7 @@ fn els_in(slots: [u16; ElIds::MAX_LEN], len: u16) -> ElIds
     ensures { given_els result ≡ given_of len slots }
 {
     ElIds {
-        ids: [
-            ElId(slots[0]),
-            ElId(slots[1]),
-            ElId(slots[2]),
-            ElId(slots[3]),
-        ],
+        ids: slots.map(ElId),
         len,
     }
 }
@@ -98,12 +80,7 @@ fn types_in(slots: [u16; TypeIds::MAX_LEN], len: u16) -> TypeIds
     ensures { given_types result ≡ given_of len slots }
 {
     TypeIds {
-        ids: [
-            TypeId(slots[0]),
-            TypeId(slots[1]),
-            TypeId(slots[2]),
-            TypeId(slots[3]),
-        ],
+        ids: slots.map(TypeId),
         len,
     }
 }
@@ -113,15 +90,12 @@ fn leading(els: ElIds, n: u16) -> ElIds
     ensures { given_els result ≡ take n (given_els els) }
 {
     let mut first = els;
-    if els.len <= n {
-        return first;
-    }
-    first.len = n;
+    first.len = els.len.min(n);
     first
 }
 
 fn after_finding(machine: Machine, finding: Finding) -> Responded
-    ensures { responded_of result ≡ responded (answers (found_of finding) (machine_of machine)) }
+    ensures { responded_of result ≡ with_conflicts (answers (found_of finding) (machine_of machine)) }
 {
     match finding {
         Finding::Found(f) => respond(machine, Response::Found(f)),
@@ -130,94 +104,78 @@ fn after_finding(machine: Machine, finding: Finding) -> Responded
 }
 
 fn find_root(machine: Machine, el: ElId) -> Responded
-    ensures { responded_of result ≡ responded (calls.step (calls.root el.0) (machine_of machine)) }
+    ensures { responded_of result ≡ with_conflicts (calls.step (calls.root el.0) (machine_of machine)) }
 {
-    let signature = machine.signature;
-    let structure = machine.structure;
-    let rooting = structure.root(el);
-    let finding = rooting.find;
-    let shortened = rooting.structure;
-    let next = Machine {
-        signature,
-        structure: shortened,
-    };
-    after_finding(next, finding)
+    let rooting = machine.structure.root(el);
+    after_finding(
+        Machine {
+            signature: machine.signature,
+            structure: rooting.structure,
+        },
+        rooting.find,
+    )
 }
 
 fn find_root_const(machine: Machine, el: ElId) -> Responded
-    ensures { responded_of result ≡ responded (calls.step (calls.root_const el.0) (machine_of machine)) }
+    ensures { responded_of result ≡ with_conflicts (calls.step (calls.root_const el.0) (machine_of machine)) }
 {
-    let structure = machine.structure;
-    after_finding(machine, structure.root_const(el))
+    after_finding(machine, machine.structure.root_const(el))
 }
 
 // A type that was found, with as many of the parents as it has.
 fn after_lookup(machine: Machine, typed: Typed, parents: ElIds) -> Responded
-    ensures { responded_of result ≡ responded (answers (calls.typed (calls.leading (given_els parents) (typed_of typed))) (machine_of machine)) }
+    ensures { responded_of result ≡ with_conflicts (answers (calls.typed (calls.leading (given_els parents) (typed_of typed))) (machine_of machine)) }
 {
     match typed {
-        Typed::At(t, n) => respond_els(machine, Response::Typed(t), leading(parents, n)),
+        Typed::At(t, n) => respond(machine, Response::Typed(t, leading(parents, n))),
         Typed::Absent => respond(machine, Response::Absent),
     }
 }
 
 fn look_up_type(machine: Machine, typ: TypeId, parents: ElIds) -> Responded
-    ensures { responded_of result ≡ responded (calls.step (calls.lookup_type typ.0 (given_els parents)) (machine_of machine)) }
+    ensures { responded_of result ≡ with_conflicts (calls.step (calls.lookup_type typ.0 (given_els parents)) (machine_of machine)) }
 {
-    let signature = machine.signature;
-    let looked = signature.lookup_type(typ, parents);
-    match looked {
+    match machine.signature.lookup_type(typ, parents) {
         TypeLookup::Looked(t) => after_lookup(machine, t, parents),
         TypeLookup::Refused(n) => refuse(machine, n),
     }
 }
 
 fn look_up_ambients(machine: Machine, types: TypeIds) -> Responded
-    ensures { responded_of result ≡ responded (calls.step (calls.ambient_parents (given_types types)) (machine_of machine)) }
+    ensures { responded_of result ≡ with_conflicts (calls.step (calls.ambient_parents (given_types types)) (machine_of machine)) }
 {
-    let signature = machine.signature;
-    let structure = machine.structure;
-    let looked = structure.ambient_parents(signature, types);
-    let answer = looked.answer;
-    let els = looked.els;
-    match answer {
-        Looked::Found => respond_els(machine, Response::Els, els),
+    let looked = machine.structure.ambient_parents(machine.signature, types);
+    match looked.answer {
+        Looked::Found => respond(machine, Response::Els(looked.els)),
         Looked::Refused(n) => refuse(machine, n),
     }
 }
 
 // A record of a kind that sheets have too, or of none.
 fn carry_out_as_sheet(machine: Machine, given: Record) -> Responded
-    ensures { responded_of result ≡ responded (carry_out (sheet.call_of (record_view given)) (machine_of machine)) }
+    ensures { responded_of result ≡ with_conflicts (carry_out (sheet.call_of (record_view given)) (machine_of machine)) }
 {
     let carried = carrying::carry_out(machine, given);
-    let answer = carried.answer;
-    let conflicts = carried.conflicts;
-    let next = carried.machine;
     Responded {
-        response: Response::Answered(answer),
-        els: ElIds::new(),
-        conflicts,
-        machine: next,
+        response: Response::Answered(carried.answer),
+        conflicts: carried.conflicts,
+        machine: carried.machine,
     }
 }
 
 // A record is carried out by the call of its kind; one that does not fit is refused, and the machine is as it was.
 fn carry_out(machine: Machine, given: Record) -> Responded
-    ensures { responded_of result ≡ responded (carry_out (list_call_of (record_view given)) (machine_of machine)) }
+    ensures { responded_of result ≡ with_conflicts (carry_out (list_call_of (record_view given)) (machine_of machine)) }
 {
-    let kind = given.kind;
-    let parents = given.parents;
-    let args = given.args;
-    match kind {
-        Kind::ROOT => find_root(machine, ElId(given.a)),
-        Kind::ROOT_CONST => find_root_const(machine, ElId(given.a)),
-        Kind::LOOKUP_TYPE => look_up_type(
+    match given.kind {
+        ROOT_KIND => find_root(machine, ElId(given.a)),
+        ROOT_CONST_KIND => find_root_const(machine, ElId(given.a)),
+        LOOKUP_TYPE_KIND => look_up_type(
             machine,
             TypeId(given.a),
-            els_in(parents, given.parent_count),
+            els_in(given.parents, given.parent_count),
         ),
-        Kind::AMBIENT_PARENTS => look_up_ambients(machine, types_in(args, given.arg_count)),
+        AMBIENT_PARENTS_KIND => look_up_ambients(machine, types_in(given.args, given.arg_count)),
         _ => carry_out_as_sheet(machine, given),
     }
 }
@@ -225,20 +183,19 @@ fn carry_out(machine: Machine, given: Record) -> Responded
 // The records of a list from a given machine on, whatever each answers: the last one's answer, and what all of them leave.
 // Bytes after the last whole record are not looked at; a list of no records is done.
 pub fn run_from(machine: Machine, bytes: &[u8]) -> Responded
-    ensures { responded_of result ≡ responded (run_from (machine_of machine) bytes.now) }
+    ensures { responded_of result ≡ with_conflicts (run_from (machine_of machine) bytes.now) }
 {
     let count = bytes.len() / Record::BYTES;
     let mut last = respond(machine, Response::Answered(Answer::Done));
     for i in 0..count {
-        let reached = last.machine;
-        last = carry_out(reached, records::record_in(bytes, i));
+        last = carry_out(last.machine, records::record_in(bytes, i));
     }
     last
 }
 
 // The same from fresh values on.
 pub fn run(bytes: &[u8]) -> Responded
-    ensures { responded_of result ≡ responded (run_list bytes.now) }
+    ensures { responded_of result ≡ with_conflicts (run_list bytes.now) }
 {
     run_from(Machine::new(), bytes)
 }

@@ -43,12 +43,6 @@ put_done line rest h e turn = sym (put_none line h) ∙ ap (put_of line) (sym e)
 
 -- A line over an array xs, of which n bytes are in use; n may say more than there are.
 module _ (n : ℕ) (xs : List ℕ) (long : length xs ≡ max_line) where
-  pub size_below : n < max_line → Sized (take n xs) max_line n
-  size_below h = record { is = omega (arith, length-take n xs); most = omega arith }
-
-  pub size_over : max_line ≤ n → Sized (take n xs) max_line max_line
-  size_over h = record { is = omega (arith, length-take n xs); most = omega arith }
-
   pub short : length (take n xs) ≤ max_line
   short = omega (arith, length-take n xs)
 

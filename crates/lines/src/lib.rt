@@ -1,7 +1,7 @@
 // The printed lines of the sheet program, as bytes.
 #![tactic(auto)]
 
-ghost use Rattle.std.specs.Prelude.{◌≡◌, [], ◌∷◌, ◌+◌, ◌<◌};
+ghost use Rattle.std.specs.Prelude.{◌≡◌, [], ◌∷◌, ◌+◌, ◌<◌, length};
 ghost use Rattle.ids.specs.Ids.{els_of};
 ghost use Rattle.ids.specs.Table.{Sized};
 ghost use Rattle.semantics.specs.Close.{report};
@@ -13,7 +13,7 @@ ghost use Rattle.lines.specs.View.{max_line, line_of, put_of, wide_bytes, number
 use facts::Fact;
 use ids::{ElId, ElIds};
 
-// A line as it is written: the first `len` of its bytes.
+// A line as it is written: the first `len` of its bytes. C reads it (lib/), so it is no String.
 #[repr(C)]
 #[derive(Clone, Copy)]
 pub struct Line {
@@ -34,12 +34,20 @@ impl Line {
         }
     }
 
-    // How many bytes there are: a length over the limit counts as the limit.
+    // The bytes that are written: a length over the limit counts as the limit.
+    pub fn as_slice(&self) -> &[u8]
+        ensures bytes { result.now ≡ line_of self.now }
+        ensures size { Sized (line_of self.now) max_line (length result.now) }
+    {
+        let n = self.len as usize;
+        &self.bytes[..n.min(Line::MAX_LEN)]
+    }
+
+    // How many bytes there are.
     pub fn size(self) -> usize
         ensures { Sized (line_of self) max_line result }
     {
-        let n = self.len as usize;
-        if n < Line::MAX_LEN { n } else { Line::MAX_LEN }
+        self.as_slice().len()
     }
 
     // One byte more, where there is room.
@@ -48,11 +56,10 @@ impl Line {
     {
         let mut next = self;
         let n = self.size();
-        if Line::MAX_LEN <= n {
-            return next;
+        if n < Line::MAX_LEN {
+            next.bytes[n] = b;
+            next.len = (n + 1) as u16;
         }
-        next.bytes[n] = b;
-        next.len = (n + 1) as u16;
         next
     }
 
@@ -61,36 +68,34 @@ impl Line {
         ensures { line_of result ≡ put_of (line_of self) word.now }
     {
         let mut line = self;
-        for i in 0..word.len() {
-            line = line.put(word[i]);
+        for b in word {
+            line = line.put(*b);
         }
         line
     }
 
-    // A number's digits.
+    // A number's digits. `itoa` would need a buffer of its own, and a proof that its digits are those of the definition.
     fn put_decimal(self, x: u64) -> Line
         ensures { line_of result ≡ put_of (line_of self) (sheet.decimal x) }
     {
         if x < 10 {
             return self.put(digit(x));
         }
-        let front = self.put_decimal(x / 10);
-        front.put(digit(x % 10))
+        self.put_decimal(x / 10).put(digit(x % 10))
     }
 
     // A space and a number.
     pub fn put_spaced(self, x: u64) -> Line
         ensures { Added (line_of self) (x ∷ []) wide_bytes (line_of result) }
     {
-        let line = self.put(b' ');
-        line.put_decimal(x)
+        self.put(b' ').put_decimal(x)
     }
 
-    // The same, of 16 bits.
+    // The same, of 16 bits: at most 6 bytes, and not 21.
     pub fn put_number(self, x: u16) -> Line
         ensures { Added (line_of self) (x ∷ []) number_bytes (line_of result) }
     {
-        self.put_spaced(x as u64)
+        self.put_spaced(u64::from(x))
     }
 
     // A list of elements, each with a space before it.
@@ -99,8 +104,8 @@ impl Line {
     {
         let n = els.size();
         let mut line = self;
-        for i in 0..n {
-            line = line.put_number(els.ids[i].0);
+        for el in &els.ids[..n] {
+            line = line.put_number(el.0);
         }
         line
     }
@@ -109,9 +114,7 @@ impl Line {
     pub fn put_fact(self, fact: Fact) -> Line
         ensures { Added (line_of self) ((fact_of fact).typ ∷ (fact_of fact).parents) fact_bytes (line_of result) }
     {
-        let line = self.put_number(fact.ct.typ.0);
-        let parents = fact.ct.parents;
-        line.put_els(parents)
+        self.put_number(fact.ct.typ.0).put_els(fact.ct.parents)
     }
 }
 
@@ -125,68 +128,68 @@ fn digit(x: u64) -> u8
 pub fn bit(b: bool) -> u16
     ensures { result ≡ sheet.bit b }
 {
-    if b { 1 } else { 0 }
+    u16::from(b)
 }
 
 // `close C M R F`
 pub fn close_line(changed: bool, merges: u64, rounds: u64, added: u64) -> Line
     ensures { line_of result ≡ sheet.close_line (report changed merges rounds added) }
 {
-    let word = Line::new().put_word(b"close");
-    let first = word.put_number(bit(changed));
-    let second = first.put_spaced(merges);
-    let third = second.put_spaced(rounds);
-    let fourth = third.put_spaced(added);
-    fourth.put(b'\n')
+    Line::new()
+        .put_word(b"close")
+        .put_number(bit(changed))
+        .put_spaced(merges)
+        .put_spaced(rounds)
+        .put_spaced(added)
+        .put(b'\n')
 }
 
 // `conflict E T p.. / U q..`
 pub fn conflict_line(el: ElId, a: Fact, b: Fact) -> Line
     ensures { line_of result ≡ sheet.conflict_line (record { el = el.0; a = fact_of a; b = fact_of b }) }
 {
-    let word = Line::new().put_word(b"conflict");
-    let at = word.put_number(el.0);
-    let one = at.put_fact(a);
-    let slash = one.put_word(b" /");
-    let two = slash.put_fact(b);
-    two.put(b'\n')
+    Line::new()
+        .put_word(b"conflict")
+        .put_number(el.0)
+        .put_fact(a)
+        .put_word(b" /")
+        .put_fact(b)
+        .put(b'\n')
 }
 
 // `conflicts N`, after the conflicts
 pub fn conflicts_line(n: u16) -> Line
     ensures { line_of result ≡ conflicts_end n }
 {
-    let word = Line::new().put_word(b"conflicts");
-    let number = word.put_number(n);
-    number.put(b'\n')
+    Line::new().put_word(b"conflicts").put_number(n).put(b'\n')
 }
 
 // `settle K M`
 pub fn settle_line(closes: u64, merges: u64) -> Line
     ensures { line_of result ≡ sheet.settle_line (totals closes merges) }
 {
-    let word = Line::new().put_word(b"settle");
-    let one = word.put_spaced(closes);
-    let two = one.put_spaced(merges);
-    two.put(b'\n')
+    Line::new()
+        .put_word(b"settle")
+        .put_spaced(closes)
+        .put_spaced(merges)
+        .put(b'\n')
 }
 
 // `refused N at I`
 pub fn refused_line(number: u16, index: u16) -> Line
     ensures { line_of result ≡ sheet.refused_line number index }
 {
-    let word = Line::new().put_word(b"refused");
-    let first = word.put_number(number);
-    let at = first.put_word(b" at");
-    let second = at.put_number(index);
-    second.put(b'\n')
+    Line::new()
+        .put_word(b"refused")
+        .put_number(number)
+        .put_word(b" at")
+        .put_number(index)
+        .put(b'\n')
 }
 
 // `end K`
 pub fn end_line(k: u16) -> Line
     ensures { line_of result ≡ sheet.end_line k }
 {
-    let word = Line::new().put_word(b"end");
-    let number = word.put_number(k);
-    number.put(b'\n')
+    Line::new().put_word(b"end").put_number(k).put(b'\n')
 }

@@ -1,33 +1,14 @@
--- Laws of a text that grows by a line's bytes, and of a page that grows by a piece.
-use Prim.Native.Nat.{ℕ, ◌+◌, ◌-◌, ◌≤◌, ◌<◌}
+-- Laws of a page that grows by a piece.
+use Prim.Native.Nat.{ℕ, ◌-◌, ◌≤◌, ◌<◌}
 use mathlib.Core.Path.{◌≡◌, refl, sym, ap, ◌∙◌}
-use mathlib.Core.Bool.{true, false}
-use mathlib.Core.List.{List, [], ◌∷◌, ◌++◌, append-nil, append_assoc}
-use native.Mathlib.Numerals.{add-one}
+use mathlib.Core.Bool.{true}
+use mathlib.Core.List.{List, ◌++◌, append_assoc}
 use native.Mathlib.Omega.{arith}
-use lib.ListN.{length, take, get_or, set}
-use lib.Seq.{take-suc, take-suc-set, take-length}
+use lib.ListN.{length, take}
 use Rattle.semantics.specs.Sheet.{prints, stops}
 use Rattle.sheet.specs.Pieces.{is_ended, ProgressM, PieceM, next_piece, rest_of, pieces_of}
-use Rattle.sheet.proofs.Pieces.{rest_next, pieces_next, ended_none, some_to_come}
+use Rattle.sheet.proofs.Pieces.{rest_next, pieces_next, ended_none}
 use Rattle.pages.specs.Pages.{Filled, Put}
-
--- a text with no byte of the line yet, one with one more, and one with all of them
-pub none_put : (text line : List ℕ) (n i : ℕ) → i ≡ 0 → take (n + i) text ≡ take n text ++ take i line
-none_put text line n i e =
-    let same : n + i ≡ n = omega (arith, e) in
-    ap (λ (k : ℕ). take k text) same ∙ sym (append-nil (take n text)) ∙ ap (λ (k : ℕ). take n text ++ take k line) (sym e)
-
-pub one_put : (text front line : List ℕ) (n i b : ℕ) → take (n + i) text ≡ front ++ take i line → n + i < length text → i < length line → b ≡ get_or line i 0
-    → take (n + (i + 1)) (set text (n + i) b) ≡ front ++ take (i + 1) line
-one_put text front line n i b e h k is =
-    let next : n + (i + 1) ≡ n + i + 1 = omega arith in
-    ap (λ (j : ℕ). take j (set text (n + i) b)) next
-    ∙ rw (add-one (n + i), add-one i) (take-suc-set text (n + i) b h ∙ ap (λ (l : List ℕ). l ++ (b ∷ [])) e ∙ append_assoc front (take i line) (b ∷ [])
-    ∙ ap (λ (l : List ℕ). front ++ l) (ap (λ (x : ℕ). take i line ++ (x ∷ [])) is ∙ sym (take-suc line i 0 k)))
-
-pub all_put : (text front line : List ℕ) (n i : ℕ) → take (n + i) text ≡ front ++ take i line → i ≡ length line → take (n + i) text ≡ front ++ line
-all_put text front line n i e h = e ∙ ap (λ (k : ℕ). front ++ take k line) h ∙ ap (λ (l : List ℕ). front ++ l) (take-length line)
 
 -- A page under way.
 pub record Growing (bytes : List ℕ) (p : ProgressM) (text : List ℕ) (n : ℕ) (q : ProgressM) : Type 0 where
@@ -63,9 +44,3 @@ module _ {bytes : List ℕ} {p : ProgressM} {text : List ℕ} {n : ℕ} {q : Pro
   ended h =
       let none : pieces_of bytes q ≡ 0 = ended_none bytes q h in
       record { rest = page.rest; less = omega (arith, none); within = page.within }
-
--- each piece leaves fewer
-pub fewer : (bytes : List ℕ) (q : ProgressM) {r : PieceM} → r ≡ next_piece bytes q → is_ended q.stage ≡ false → pieces_of bytes r.progress < pieces_of bytes q
-fewer bytes q {r} e on =
-    let less : pieces_of bytes r.progress ≡ pieces_of bytes q - 1 = ap (λ (x : PieceM). pieces_of bytes x.progress) e ∙ pieces_next bytes q in
-    omega (arith, less, some_to_come bytes q on)

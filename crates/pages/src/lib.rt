@@ -10,7 +10,7 @@ use lines::Line;
 use records::Record;
 use sheet::Progress;
 
-// A page: the first `len` bytes of a text, and what comes after it.
+// A page: the first `len` bytes of a text, and what comes after it. The caller lends the text: there is no heap, and one text serves all pages.
 #[derive(Clone, Copy)]
 pub struct Page {
     pub len: usize,
@@ -27,11 +27,10 @@ fn put_line(text: &mut [u8], n: usize, line: Line) -> usize
     requires { n + max_line ≤ length text.old }
     ensures { Put text.old n (line_of line) text.new result }
 {
-    let size = line.size();
-    for i in 0..size {
-        text[n + i] = line.bytes[i];
-    }
-    n + size
+    let line = line.as_slice();
+    let end = n + line.len();
+    text[n..end].copy_from_slice(line);
+    end
 }
 
 // The next page: pieces as long as there is room for the longest line, up to the last.
@@ -43,17 +42,11 @@ pub fn fill(
     ensures { Filled bytes.now (progress_of progress) text.new result.len (progress_of result.progress) }
 {
     let mut at = progress;
-    let mut n: usize = 0;
-    while n <= Page::MAX_LEN - Line::MAX_LEN {
-        let stage = at.stage;
-        if stage.is_ended() {
-            break;
-        }
+    let mut n = 0;
+    while n <= Page::MAX_LEN - Line::MAX_LEN && !at.stage.is_ended() {
         let piece = sheet::advance(at, bytes);
-        let line = piece.line;
-        let next = piece.progress;
-        at = next;
-        n = put_line(text, n, line);
+        n = put_line(text, n, piece.line);
+        at = piece.progress;
     }
     Page {
         len: n,

@@ -1,14 +1,16 @@
 -- Laws of what a session stands for, by the parts of the code.
-use Prim.Native.Nat.{ℕ, zero, suc, ◌*◌, ◌/◌, ◌<◌}
+use Prim.Native.Nat.{ℕ, zero, suc, ◌*◌, ◌/◌, ◌<◌, min}
 use mathlib.Core.Path.{◌≡◌, refl, sym, ap, ◌∙◌}
 use mathlib.Core.Bool.{Bool, true, false, true≢false}
-use mathlib.Core.List.{List, [], ◌∷◌}
+use mathlib.Core.List.{List, [], ◌∷◌, map}
+use mathlib.Core.Logic.{◌⊎◌, inl, inr}
 use native.Mathlib.Omega.{arith}
-use lib.ListN.{length, length-take}
+use lib.ListN.{length, take, length-take}
 use lib.Dec.{ltb}
 use borrow.Author.Tests.{ltb-true}
 use Rattle.ids.specs.Ids.{types_of}
 use Rattle.ids.proofs.Tests.{chosen, unchosen}
+use Rattle.ids.proofs.Views.{map_take, take_same}
 use Rattle.signature.specs.declared.TypeKind.{TypeKind}
 use Rattle.signature.specs.declared.Type as code
 use Rattle.signature.specs.Model.{TypeM, type_entry, kind_of, type_of}
@@ -43,6 +45,11 @@ use Rattle.pechunaq.specs.Session.{ReplyM, numbers_of, counted, having, HandedIn
 pub by_kind : (t : code.Type) {k : TypeKind} {x : TypeM} → t.kind ≡ k → x ≡ type_entry (kind_of k) (types_of t.parents) → x ≡ type_of t
 by_kind t e h = h ∙ ap (λ (k : TypeKind). type_entry (kind_of k) (types_of t.parents)) (sym e)
 
+-- the leading entries of an array, each made of one in another
+pub viewed : {A B C : Type 0} (f : B → C) (h : A → C) (k n : ℕ) (xs : List A) (ys : List B) → map f ys ≡ map h xs → min k (length xs) ≡ min n (length xs)
+    → map f (take k ys) ≡ map h (take n xs)
+viewed f h k n xs ys e m = map_take f k ys ∙ ap (take k) e ∙ sym (map_take h k xs) ∙ ap (map h) (take_same k n xs m)
+
 -- the numbers of an answer, by the answer
 pub by_answer : (s : Carried) {a : Answer} {x : ReplyM} → s.answer ≡ a → x ≡ numbers_of (answer_of (conflicts_of s.conflicts) a)
     → x ≡ numbers_of (carried_step s).answer
@@ -70,10 +77,10 @@ module _ (bytes : List ℕ) (q : PieceM) (p : Progress) {r : Record} (k : Carrie
         let read : r ≡ record_at bytes 0 = record_is ∙ record_within_lem bytes 0 (omega (arith, whole)) in
         ap (λ (x : CarriedM). x.step) carried-is ∙ (λ i. carry_out (call_of (read i)) (open_is i).machine)
 
-    pub hands : {a : ReplyM} {d : ℕ} {r' : PieceM} {s : PieceM} → a ≡ numbers_of (carried_step k).answer → d ≡ counted p.done → r' ≡ step_piece (carried_step k) p.done 0 0 d
+    pub hands : {a : ReplyM} {d : ℕ} {r' : PieceM} {s : PieceM} → a ≡ numbers_of (carried_step k).answer → d ≡ counted p.position.done → r' ≡ step_piece (carried_step k) p.position.done 0 0 d
         → s ≡ having d r' → ◌≡◌ {A = HandedInM} (record { answer = a; session = s }) (handed_in (record_at bytes 0) q)
     hands {d = d} numbers done lines kept =
-        let at : p.done ≡ q.progress.done = ap (λ (x : ProgressM). x.done) open_is in
+        let at : p.position.done ≡ q.progress.done = ap (λ (x : ProgressM). x.done) open_is in
         let counts : d ≡ counted q.progress.done = done ∙ ap counted at in
         let answer : numbers_of (carried_step k).answer ≡ numbers_of (carry_out (call_of (record_at bytes 0)) q.progress.machine).answer =
         ap (λ (x : Step). numbers_of x.answer) carries in
@@ -107,6 +114,13 @@ over_ended stages.Visiting n h = refl
 over_ended stages.Listing n h = refl
 over_ended stages.Ending n h = refl
 over_ended stages.Ended n h = absurd (true≢false h)
+
+-- nor is what comes before the last line
+pub never_over : (s : Stage) (n : ℕ) → (s ≡ stages.Refusing) ⊎ ((s ≡ stages.Visiting) ⊎ (s ≡ stages.Listing)) → false ≡ is_over s n
+unfolding is_over
+never_over s n (inl e) = sym (ap (λ (s : Stage). is_over s n) e)
+never_over s n (inr (inl e)) = sym (ap (λ (s : Stage). is_over s n) e)
+never_over s n (inr (inr e)) = sym (ap (λ (s : Stage). is_over s n) e)
 
 -- a line that is not empty is taken
 pub taken_line : (line : List ℕ) (p : ProgressM) → (length line ≡ 0 → ⊥) → is_taken line p ≡ true

@@ -1,5 +1,5 @@
 // The calls of the C library (lib/): a session, which the caller keeps between two calls. No enum can be handed over to C, so a session holds
-// numbers and bools alone: the kind of a type and the stage of a sheet are numbers.
+// numbers and bools alone: the kind of a type and the stage of a sheet are numbers, and so are the answers and refusals that are handed back.
 #![tactic(auto)]
 
 ghost use Rattle.std.specs.Prelude.{◌≡◌};
@@ -21,7 +21,7 @@ use ids::TypeIds;
 use lines::Line;
 use loading::Loaded;
 use records::Record;
-use sheet::{Piece, Progress, Stage};
+use sheet::{Piece, Position, Progress, Stage};
 use signature::{Funcs, Models, MorAppFuncs, Preds, Signature, Type, TypeKind, Types};
 use storing::Stored;
 use structure::{Answer, Machine, Structure};
@@ -100,11 +100,7 @@ pub struct Resumed {
     pub session: Session,
 }
 
-impl Session {
-    // How many records that were handed in are counted: as many as a word can say.
-    const MAX_DONE: u16 = 65535;
-}
-
+// The answers by their numbers in C.
 impl Reply {
     pub const DONE: u16 = 0;
 
@@ -123,91 +119,59 @@ impl Reply {
 
 // ---- a session and what it stands for
 
-impl TypeRows {
-    // How many there are: a length over the limit counts as the limit.
-    fn size(self) -> usize
-        ensures { Sized (types_in self) max_types result }
-    {
-        let n = self.len as usize;
-        if n < Signature::MAX_TYPES {
-            n
-        } else {
-            Signature::MAX_TYPES
+impl From<Type> for TypeRow {
+    ghost from_gives = { λ t row. type_in row ≡ type_of t };
+
+    fn from(t: Type) -> TypeRow {
+        let (kind, model) = match t.kind {
+            TypeKind::Plain => (0, 0),
+            TypeKind::Model => (1, 0),
+            TypeKind::Enum => (2, 0),
+            TypeKind::Mor(model) => (3, model.0),
+        };
+        TypeRow {
+            kind,
+            model,
+            parents: t.parents,
         }
     }
 }
 
-fn type_row(t: Type) -> TypeRow
-    ensures { type_in result ≡ type_of t }
-{
-    let kind = t.kind;
-    let parents = t.parents;
-    match kind {
-        TypeKind::Plain => TypeRow {
-            kind: 0,
-            model: 0,
-            parents,
-        },
-        TypeKind::Model => TypeRow {
-            kind: 1,
-            model: 0,
-            parents,
-        },
-        TypeKind::Enum => TypeRow {
-            kind: 2,
-            model: 0,
-            parents,
-        },
-        TypeKind::Mor(model) => TypeRow {
-            kind: 3,
-            model: model.0,
-            parents,
-        },
+impl From<TypeRow> for Type {
+    ghost from_gives = { λ row t. type_of t ≡ type_in row };
+
+    fn from(row: TypeRow) -> Type {
+        Type {
+            kind: carrying::type_kind(row.kind, row.model),
+            parents: row.parents,
+        }
     }
 }
 
-fn type_of(row: TypeRow) -> Type
-    ensures { type_of result ≡ type_in row }
-{
-    let parents = row.parents;
-    Type {
-        kind: carrying::type_kind(row.kind, row.model),
-        parents,
+impl From<Types> for TypeRows {
+    ghost from_gives = { λ types rows. types_in rows ≡ view_types types };
+
+    fn from(types: Types) -> TypeRows {
+        TypeRows {
+            items: types.items.map(TypeRow::from),
+            len: types.size(),
+        }
     }
 }
 
-fn type_rows(types: Types) -> TypeRows
-    ensures { types_in result ≡ view_types types }
-{
-    let n = types.size() as usize;
-    let none = TypeRow {
-        kind: 0,
-        model: 0,
-        parents: TypeIds::new(),
-    };
-    let mut rows = TypeRows {
-        items: [none; Signature::MAX_TYPES],
-        len: 0,
-    };
-    for i in 0..n {
-        rows.items[i] = type_row(types.items[i]);
+impl From<TypeRows> for Types {
+    ghost from_gives = { λ rows types. view_types types ≡ types_in rows };
+
+    // A length over the limit counts as the limit.
+    fn from(rows: TypeRows) -> Types {
+        Types {
+            items: rows.items.map(Type::from),
+            len: rows.len.min(Signature::MAX_TYPES as u16),
+        }
     }
-    rows.len = n as u16;
-    rows
 }
 
-fn types_of(rows: TypeRows) -> Types
-    ensures { view_types result ≡ types_in rows }
-{
-    let n = rows.size();
-    let fresh = Signature::new();
-    let mut types = fresh.types;
-    for i in 0..n {
-        types.items[i] = type_of(rows.items[i]);
-    }
-    types.len = n as u16;
-    types
-}
+// The stages by their numbers in C.
 
 fn stage_number(stage: Stage) -> u16
     ensures { stage_at result ≡ stage }
@@ -236,70 +200,60 @@ fn stage_of(number: u16) -> Stage
 fn signature_of(session: Session) -> Signature
     ensures { sig_of result ≡ signature_in session }
 {
-    let rows = session.types;
-    let preds = session.preds;
-    let funcs = session.funcs;
-    let models = session.models;
-    let mor_app_funcs = session.mor_app_funcs;
     Signature {
-        types: types_of(rows),
-        preds,
-        funcs,
-        models,
-        mor_app_funcs,
+        types: Types::from(session.types),
+        preds: session.preds,
+        funcs: session.funcs,
+        models: session.models,
+        mor_app_funcs: session.mor_app_funcs,
     }
 }
 
-// What a session stands for, without the line.
-fn opened(session: Session) -> Progress
-    ensures { progress_of result ≡ progress_in session }
-{
-    let signature = signature_of(session);
-    let structure = session.structure;
-    let conflicts = session.conflicts;
-    let machine = Machine {
-        signature,
-        structure,
-    };
-    Progress {
-        stage: stage_of(session.stage),
-        machine,
-        count: session.count,
-        index: session.index,
-        done: session.done,
-        conflicts,
-        printed: session.printed,
+impl From<Session> for Piece {
+    ghost from_gives = { λ session piece. piece_of piece ≡ session_of session };
+
+    fn from(session: Session) -> Piece {
+        Piece {
+            line: session.line,
+            progress: Progress {
+                stage: stage_of(session.stage),
+                machine: Machine {
+                    signature: signature_of(session),
+                    structure: session.structure,
+                },
+                position: Position {
+                    count: session.count,
+                    index: session.index,
+                    done: session.done,
+                },
+                conflicts: session.conflicts,
+                printed: session.printed,
+            },
+        }
     }
 }
 
-// A session that stands so.
-fn kept(line: Line, progress: Progress) -> Session
-    ensures { session_of result ≡ piece_m (line_of line) (progress_of progress) }
-{
-    let machine = progress.machine;
-    let signature = machine.signature;
-    let structure = machine.structure;
-    let types = signature.types;
-    let preds = signature.preds;
-    let funcs = signature.funcs;
-    let models = signature.models;
-    let mor_app_funcs = signature.mor_app_funcs;
-    let stage = progress.stage;
-    let conflicts = progress.conflicts;
-    Session {
-        types: type_rows(types),
-        preds,
-        funcs,
-        models,
-        mor_app_funcs,
-        structure,
-        stage: stage_number(stage),
-        count: progress.count,
-        index: progress.index,
-        done: progress.done,
-        conflicts,
-        printed: progress.printed,
-        line,
+impl From<Piece> for Session {
+    ghost from_gives = { λ piece session. session_of session ≡ piece_of piece };
+
+    fn from(piece: Piece) -> Session {
+        let progress = piece.progress;
+        let signature = progress.machine.signature;
+        Session {
+            types: TypeRows::from(signature.types),
+            preds: signature.preds,
+            funcs: signature.funcs,
+            models: signature.models,
+            mor_app_funcs: signature.mor_app_funcs,
+            structure: progress.machine.structure,
+            stage: stage_number(progress.stage),
+            count: progress.position.count,
+            index: progress.position.index,
+            done: progress.position.done,
+            conflicts: progress.conflicts,
+            printed: progress.printed,
+            line: piece.line,
+        }
     }
 }
 
@@ -310,10 +264,10 @@ fn kept(line: Line, progress: Progress) -> Session
 pub extern "C" fn pechunaq_begin() -> Session
     ensures { session_of result ≡ begun }
 {
-    let line = Line::new();
-    let machine = Machine::new();
-    let progress = sheet::at_stage(Stage::Ended, machine, 0, 0, 0);
-    kept(line, progress)
+    Session::from(Piece {
+        line: Line::new(),
+        progress: sheet::at_stage(Stage::Ended, Machine::new(), Position::NOWHERE),
+    })
 }
 
 // A sheet of so many bytes, before its first record.
@@ -321,59 +275,35 @@ pub extern "C" fn pechunaq_begin() -> Session
 pub extern "C" fn pechunaq_begin_sheet(length: usize) -> Session
     ensures { session_of result ≡ begun_sheet length }
 {
-    let line = Line::new();
-    let progress = sheet::start(length);
-    kept(line, progress)
+    Session::from(Piece {
+        line: Line::new(),
+        progress: sheet::start(length),
+    })
 }
 
 // ---- a record is handed in
 
 // The numbers of an answer, and how many conflicts stand beside it.
-fn numbers(carried: Carried) -> Reply
-    ensures { reply_of result ≡ numbers_of (carried_step carried).answer }
-{
-    let answer = carried.answer;
-    let conflicts = carried.conflicts;
-    match answer {
-        Answer::Number(n) => Reply {
-            kind: Reply::NUMBER,
-            numbers: [n as u64, 0, 0, 0],
-        },
-        Answer::Says(b) => Reply {
-            kind: Reply::SAYS,
-            numbers: [lines::bit(b) as u64, 0, 0, 0],
-        },
-        Answer::Done => Reply {
-            kind: Reply::DONE,
-            numbers: [0, 0, 0, 0],
-        },
-        Answer::Closed(c) => Reply {
-            kind: Reply::CLOSED,
-            numbers: [lines::bit(c.changed) as u64, c.merges, c.rounds, c.added],
-        },
-        Answer::Conflicting(finds) => Reply {
-            kind: Reply::CONFLICTING,
-            numbers: [conflicts.size() as u64, finds as u64, 0, 0],
-        },
-        Answer::Summed(t) => Reply {
-            kind: Reply::SUMMED,
-            numbers: [t.closes, t.merges, 0, 0],
-        },
-        Answer::Refused(n) => Reply {
-            kind: Reply::REFUSED,
-            numbers: [n as u64, 0, 0, 0],
-        },
-    }
-}
+impl From<Carried> for Reply {
+    ghost from_gives = { λ carried reply. reply_of reply ≡ numbers_of (carried_step carried).answer };
 
-// One record more, up to the most that is counted.
-fn one_more(done: u16) -> u16
-    ensures { result ≡ counted done }
-{
-    if done < Session::MAX_DONE {
-        done + 1
-    } else {
-        done
+    fn from(carried: Carried) -> Reply {
+        let (kind, numbers) = match carried.answer {
+            Answer::Done => (Reply::DONE, [0; 4]),
+            Answer::Number(n) => (Reply::NUMBER, [u64::from(n), 0, 0, 0]),
+            Answer::Says(b) => (Reply::SAYS, [u64::from(b), 0, 0, 0]),
+            Answer::Closed(c) => (
+                Reply::CLOSED,
+                [u64::from(c.changed), c.merges, c.rounds, c.added],
+            ),
+            Answer::Conflicting(finds) => (
+                Reply::CONFLICTING,
+                [carried.conflicts.size() as u64, u64::from(finds), 0, 0],
+            ),
+            Answer::Summed(t) => (Reply::SUMMED, [t.closes, t.merges, 0, 0]),
+            Answer::Refused(n) => (Reply::REFUSED, [u64::from(n), 0, 0, 0]),
+        };
+        Reply { kind, numbers }
     }
 }
 
@@ -382,21 +312,22 @@ fn one_more(done: u16) -> u16
 pub extern "C" fn pechunaq_hand_in(session: Session, bytes: &[u8; Record::BYTES]) -> HandedIn
     ensures { handed_in_of result ≡ handed_in (record_at bytes.now 0) (session_of session) }
 {
-    // The whole array, for its length.
-    let whole = &bytes[..];
-    let given = records::record_in(whole, 0);
-    let progress = opened(session);
-    let machine = progress.machine;
-    let carried = carrying::carry_out(machine, given);
-    let answer = numbers(carried);
-    let at = progress.done;
-    let done = one_more(at);
-    let piece = sheet::after_record(carried, 0, at, 0, done);
-    let line = piece.line;
-    let mut after = piece.progress;
-    after.done = done;
-    let session = kept(line, after);
-    HandedIn { answer, session }
+    let given = records::record_in(bytes, 0);
+    let progress = Piece::from(session).progress;
+    let carried = carrying::carry_out(progress.machine, given);
+    let at = progress.position.done;
+    // As many are counted as a word can say.
+    let position = Position {
+        count: 0,
+        index: 0,
+        done: at.saturating_add(1),
+    };
+    let mut after = sheet::after_record(carried, at, position);
+    after.progress.position.done = position.done;
+    HandedIn {
+        answer: Reply::from(carried),
+        session: Session::from(after),
+    }
 }
 
 // ---- lines
@@ -406,43 +337,22 @@ fn is_over(stage: Stage, count: u16) -> bool
     ensures { result ≡ is_over stage count }
 {
     match stage {
-        Stage::Refusing => false,
-        Stage::Visiting => false,
-        Stage::Listing => false,
+        Stage::Refusing | Stage::Visiting | Stage::Listing => false,
         Stage::Ending => count == 0,
         Stage::Ended => true,
     }
-}
-
-// The next piece of the sheet.
-fn advance(progress: Progress, sheet: &[u8]) -> Piece
-    ensures { piece_of result ≡ next_piece (whole_records sheet.now) (progress_of progress) }
-{
-    let index = progress.index as usize;
-    let given = records::record_in(sheet, index);
-    sheet::step(progress, given)
 }
 
 // Pieces up to one that has a line, or to the end.
 fn up_to_line(given: Piece, sheet: &[u8]) -> Piece
     ensures { piece_of result ≡ up_to_line (whole_records sheet.now) (piece_of given) }
 {
-    let mut line = given.line;
-    let mut progress = given.progress;
-    loop {
-        if line.size() != 0 {
-            return Piece { line, progress };
-        }
-        let stage = progress.stage;
-        if is_over(stage, progress.count) {
-            return Piece { line, progress };
-        }
-        let piece = advance(progress, sheet);
-        let printed = piece.line;
-        let next = piece.progress;
-        line = printed;
-        progress = next;
+    let mut piece = given;
+    while piece.line.size() == 0 && !is_over(piece.progress.stage, piece.progress.position.count) {
+        let next = records::record_in(sheet, piece.progress.position.index as usize);
+        piece = sheet::step(piece.progress, next);
     }
+    piece
 }
 
 // The next line of the sheet, or of the record that was handed in last.
@@ -450,18 +360,15 @@ fn up_to_line(given: Piece, sheet: &[u8]) -> Piece
 pub extern "C" fn pechunaq_next_line(session: Session, sheet: &[u8]) -> Taken
     ensures { taken_of result ≡ next_line (whole_records sheet.now) (session_of session) }
 {
-    let waiting = session.line;
-    let progress = opened(session);
-    let given = Piece {
-        line: waiting,
-        progress,
+    let piece = up_to_line(Piece::from(session), sheet);
+    let none = Piece {
+        line: Line::new(),
+        progress: piece.progress,
     };
-    let piece = up_to_line(given, sheet);
-    let line = piece.line;
-    let after = piece.progress;
-    let none = Line::new();
-    let session = kept(none, after);
-    Taken { line, session }
+    Taken {
+        line: piece.line,
+        session: Session::from(none),
+    }
 }
 
 // ---- over a shutdown
@@ -471,9 +378,7 @@ pub extern "C" fn pechunaq_next_line(session: Session, sheet: &[u8]) -> Taken
 pub extern "C" fn pechunaq_park(session: Session, file: &mut [u8]) -> Parked
     ensures { parked_of result file.new ≡ parked (store_into (structure_of session.structure) file.old) }
 {
-    let structure = session.structure;
-    let stored = storing::store(structure, file);
-    match stored {
+    match storing::store(session.structure, file) {
         Stored::Bytes(size) => Parked { size, refused: 0 },
         Stored::Refused(refused) => Parked { size: 0, refused },
     }
@@ -484,14 +389,11 @@ pub extern "C" fn pechunaq_park(session: Session, file: &mut [u8]) -> Parked
 pub extern "C" fn pechunaq_resume(session: Session, file: &[u8]) -> Resumed
     ensures { resumed_of result ≡ resumed (load (signature_in session) file.now) (session_of session) }
 {
-    let signature = signature_of(session);
-    let loading = loading::load(signature, file);
-    let structure = loading.structure;
-    let answer = loading.answer;
-    match answer {
+    let loading = loading::load(signature_of(session), file);
+    match loading.answer {
         Loaded::Done => {
             let mut after = session;
-            after.structure = structure;
+            after.structure = loading.structure;
             Resumed {
                 refused: 0,
                 session: after,
@@ -508,6 +410,5 @@ pub extern "C" fn pechunaq_resume(session: Session, file: &[u8]) -> Resumed
 pub extern "C" fn pechunaq_is_settled(session: Session) -> bool
     ensures { result ≡ (structure_of session.structure).settled }
 {
-    let structure = session.structure;
-    structure.is_settled()
+    session.structure.is_settled()
 }

@@ -74,13 +74,12 @@ fn put_responded<W: Write>(out: &mut W, responded: &Responded) -> io::Result<()>
     for c in &conflicts.items[..conflicts.size()] {
         out::put_line(out, &lines::conflict_line(c.el, c.a, c.b))?;
     }
-    let els = Els(responded.els);
     match responded.response {
         Response::Answered(answer) => put_answer(out, answer, conflicts.len),
         Response::Found(found) => writeln!(out, "root {} {}", found.root.0, found.count),
-        Response::Typed(typ) => writeln!(out, "type {}{els}", typ.0),
+        Response::Typed(typ, parents) => writeln!(out, "type {}{}", typ.0, Els(parents)),
         Response::Absent => writeln!(out, "absent"),
-        Response::Els => writeln!(out, "ambients{els}"),
+        Response::Els(els) => writeln!(out, "ambients{}", Els(els)),
     }
 }
 

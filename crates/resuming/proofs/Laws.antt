@@ -3,6 +3,7 @@ use Prim.Native.Nat.{ℕ, ◌≤◌, ◌<◌, ◌-◌}
 use mathlib.Core.Path.{◌≡◌, refl, sym, ap, subst, ◌∙◌}
 use mathlib.Core.Bool.{Bool, true, false, true≢false}
 use mathlib.Core.List.{List, [], ◌∷◌, ◌++◌, append_assoc}
+use mathlib.Core.Logic.{◌⊎◌, inl, inr}
 use native.Mathlib.Omega.{arith}
 use lib.ListN.{length, drop}
 use lib.Dec.{eqb, ltb}
@@ -24,10 +25,10 @@ use Rattle.loading.specs.View.{LoadingM, loading, answer_of, loading_of}
 use Rattle.sheet.specs.declared.Stage.{Stage}
 use Rattle.sheet.specs.declared.Stage.TheVariants as stages
 use Rattle.sheet.specs.Pieces.{is_ended, ProgressM, PieceM, standing, piece, start_of, refusal_piece, follow_of, answer_piece, done_before, visit_piece, list_piece, listing_all, one_printed}
-use Rattle.sheet.specs.Pieces.{piece_at, next_piece, rest_of, pieces_of}
+use Rattle.sheet.specs.Pieces.{piece_at, next_piece, rest_of}
 use Rattle.sheet.proofs.Laws.{nothing_past}
-use Rattle.sheet.proofs.Pieces.{rest_next, pieces_next, some_to_come}
-use Rattle.resuming.specs.Resuming.{load_file, is_due_at, is_due, loaded_piece, restored_piece, holding, waiting_of, Refuses, Declared, Resumed, is_last, Finished}
+use Rattle.sheet.proofs.Pieces.{rest_next}
+use Rattle.resuming.specs.Resuming.{load_file, is_due_at, is_due, loaded_piece, restored_piece, holding, waiting_of, Refuses, Declared, Resumed, is_last}
 use Rattle.resuming.proofs.Waiting.{chooses, is_listing, Goes, waits, due_rest, ended_rest, start_unlisted}
 
 -- the kind of the record of an index, in an array as long as the longest sheet
@@ -44,11 +45,25 @@ kind_in bytes i {r} long e = go (ltb i max_records) refl where
 pub due_at : (bytes : List ℕ) (p : ProgressM) {s : Stage} {b : Bool} → p.stage ≡ s → b ≡ is_due_at s (record_at bytes p.index) → b ≡ is_due bytes p
 due_at bytes p e h = h ∙ ap (λ (s : Stage). is_due_at s (record_at bytes p.index)) (sym e)
 
--- fewer pieces are to come after the next
-pub fewer : (bytes : List ℕ) (q : ProgressM) {r : PieceM} → r ≡ next_piece bytes q → is_ended q.stage ≡ false → pieces_of bytes r.progress < pieces_of bytes q
-fewer bytes q {r} e on =
-    let less : pieces_of bytes r.progress ≡ pieces_of bytes q - 1 = ap (λ (x : PieceM). pieces_of bytes x.progress) e ∙ pieces_next bytes q in
-    omega (arith, less, some_to_come bytes q on)
+pub due_never : (bytes : List ℕ) (p : ProgressM) → (p.stage ≡ stages.Refusing) ⊎ ((p.stage ≡ stages.Listing) ⊎ (p.stage ≡ stages.Ended)) → false ≡ is_due bytes p
+unfolding is_due_at
+due_never bytes p (inl e) = due_at bytes p e refl
+due_never bytes p (inr (inl e)) = due_at bytes p e refl
+due_never bytes p (inr (inr e)) = due_at bytes p e refl
+
+-- whether it is the last line, by the stage
+pub last_in : (s : Stage) → (s ≡ stages.Ending) ⊎ (s ≡ stages.Ended) → true ≡ is_last s
+unfolding is_last
+last_in s (inl e) = sym (ap is_last e)
+last_in s (inr e) = sym (ap is_last e)
+
+pub last_not : (s : Stage) → (s ≡ stages.Ending → ⊥) → (s ≡ stages.Ended → ⊥) → false ≡ is_last s
+unfolding is_last
+last_not stages.Refusing h k = refl
+last_not stages.Visiting h k = refl
+last_not stages.Listing h k = refl
+last_not stages.Ending h k = absurd (h refl)
+last_not stages.Ended h k = absurd (k refl)
 
 -- A sheet stops before its last line with a refusal only.
 
@@ -156,12 +171,6 @@ module _ {bytes : List ℕ} {p : ProgressM} {q : PieceM} (w : Waits bytes p q) w
         refuses = subst Refuses (sym e) (stops_refused bytes q.progress (not_last _ q.progress.stage on due));
       }
 
-  pub waits_due : is_due bytes q.progress ≡ true → Declared bytes p q
-  waits_due h = record { rest = w.rest; quiet = w.quiet; due = λ on. h; refuses = w.refuses }
-
-  pub waits_ended : is_ended q.progress.stage ≡ true → Declared bytes p q
-  waits_ended h = record { rest = w.rest; quiet = w.quiet; due = λ on. absurd (true≢false (sym h ∙ on)); refuses = w.refuses }
-
 -- with the load
 loaded_refuses : (a : Answered model.Structure) (p : ProgressM) → is_ended p.stage ≡ false → Refuses (loaded_piece a p)
 unfolding loaded_piece
@@ -193,9 +202,6 @@ pub record Going (bytes : List ℕ) (p q : PieceM) : Type 0 where
   pub rest : prints p.line (rest_of bytes p.progress) ≡ prints text (prints q.line (rest_of bytes q.progress))
   pub refuses : Refuses p → Refuses q
 
-pub going_start : (bytes : List ℕ) (p : PieceM) → Going bytes p p
-going_start bytes p = record { text = []; rest = refl; refuses = λ h. h }
-
 module _ {bytes : List ℕ} {p q : PieceM} (g : Going bytes p q) where
   pub going_on : {r : PieceM} → r ≡ next_piece bytes q.progress → is_last q.progress.stage ≡ false → Going bytes p r
   going_on {r} e more =
@@ -209,9 +215,6 @@ module _ {bytes : List ℕ} {p q : PieceM} (g : Going bytes p q) where
             ∙ ap (λ (t : List ℕ). stops t after.machine) (sym (append_assoc g.text q.line after.printed));
         refuses = λ h. subst Refuses (sym e) (stops_refused bytes q.progress more);
       }
-
-  pub going_last : is_last q.progress.stage ≡ true → Finished bytes p q
-  going_last h = record { text = g.text; rest = g.rest; last = h; refuses = g.refuses }
 
 -- The load.
 

@@ -13,34 +13,25 @@ use lines::Line;
 use loading::Loaded;
 use records::Record;
 use sheet::{Piece, Progress, Stage};
-use structure::Machine;
 
 // Whether records of a kind declare the signature.
 fn is_declaring(kind: u16) -> bool
     ensures { result ≡ declares kind }
 {
-    if kind == 0 {
-        return false;
-    }
-    kind <= 5
+    (1..=5).contains(&kind)
 }
 
 // Whether the file is loaded now: before the first record that does not declare, or before the last line.
 pub fn is_due(progress: Progress, bytes: &[u8; Record::MAX_BYTES]) -> bool
     ensures { result ≡ is_due bytes.now (progress_of progress) }
 {
-    let stage = progress.stage;
-    let index = progress.index;
-    // The whole array, for its length.
-    let sheet = &bytes[..];
-    let given = records::record_at(bytes, index);
-    let declaring = is_declaring(given.kind);
-    match stage {
-        Stage::Refusing => false,
-        Stage::Visiting => !declaring,
-        Stage::Listing => false,
+    match progress.stage {
+        Stage::Visiting => {
+            let given = records::record_at(bytes, progress.position.index);
+            !is_declaring(given.kind)
+        }
         Stage::Ending => true,
-        Stage::Ended => false,
+        Stage::Refusing | Stage::Listing | Stage::Ended => false,
     }
 }
 
@@ -48,13 +39,7 @@ pub fn is_due(progress: Progress, bytes: &[u8; Record::MAX_BYTES]) -> bool
 pub fn is_last(stage: Stage) -> bool
     ensures { result ≡ is_last stage }
 {
-    match stage {
-        Stage::Refusing => false,
-        Stage::Visiting => false,
-        Stage::Listing => false,
-        Stage::Ending => true,
-        Stage::Ended => true,
-    }
+    matches!(stage, Stage::Ending | Stage::Ended)
 }
 
 // The structure of the file takes the place of the sheet's; or the file is refused, and nothing comes any more.
@@ -62,28 +47,21 @@ pub fn restore(progress: Progress, file: &[u8]) -> Piece
     ensures { piece_of result ≡ restored_piece file.now (progress_of progress) }
 {
     let machine = progress.machine;
-    let signature = machine.signature;
+    let index = progress.position.index;
     if File::MAX_BYTES < file.len() {
-        return sheet::refuse(machine, Refusal::WRONG_LENGTH, progress.index);
+        return sheet::refuse(machine, Refusal::WRONG_LENGTH, index);
     }
-    let loading = loading::load(signature, file);
-    let structure = loading.structure;
-    let answer = loading.answer;
-    match answer {
+    let loading = loading::load(machine.signature, file);
+    match loading.answer {
         Loaded::Done => {
-            let line = Line::new();
-            let loaded = Machine {
-                signature,
-                structure,
-            };
             let mut after = progress;
-            after.machine = loaded;
+            after.machine.structure = loading.structure;
             Piece {
-                line,
+                line: Line::new(),
                 progress: after,
             }
         }
-        Loaded::Refused(number) => sheet::refuse(machine, number, progress.index),
+        Loaded::Refused(number) => sheet::refuse(machine, number, index),
     }
 }
 
@@ -91,22 +69,14 @@ pub fn restore(progress: Progress, file: &[u8]) -> Piece
 pub fn declare(length: usize, bytes: &[u8; Record::MAX_BYTES]) -> Piece
     ensures { Declared bytes.now (start_of length) (piece_of result) }
 {
-    let mut progress = sheet::start(length);
-    let mut line = Line::new();
-    loop {
-        let stage = progress.stage;
-        if stage.is_ended() {
-            return Piece { line, progress };
-        }
-        if is_due(progress, bytes) {
-            return Piece { line, progress };
-        }
-        let piece = sheet::advance(progress, bytes);
-        let printed = piece.line;
-        let next = piece.progress;
-        line = printed;
-        progress = next;
+    let mut piece = Piece {
+        line: Line::new(),
+        progress: sheet::start(length),
+    };
+    while !piece.progress.stage.is_ended() && !is_due(piece.progress, bytes) {
+        piece = sheet::advance(piece.progress, bytes);
     }
+    piece
 }
 
 // The sheet up to the load of the file in the first of some bytes, and with it: what is printed up to there, and what comes after it.
@@ -114,32 +84,19 @@ pub fn resume(length: usize, bytes: &[u8; Record::MAX_BYTES], file: &[u8], size:
     ensures { Resumed (take size file.now) bytes.now (start_of length) (piece_of result) }
 {
     let declared = declare(length, bytes);
-    let progress = declared.progress;
-    let stage = progress.stage;
-    if stage.is_ended() {
+    if declared.progress.stage.is_ended() {
         return declared;
     }
-    if file.len() <= size {
-        return restore(progress, file);
-    }
-    restore(progress, &file[..size])
+    restore(declared.progress, &file[..file.len().min(size)])
 }
 
 // The sheet up to its last line: how it stands before it, or the refusal with which it stops.
 pub fn finish(given: Piece, bytes: &[u8; Record::MAX_BYTES]) -> Piece
     ensures { Finished bytes.now (piece_of given) (piece_of result) }
 {
-    let mut progress = given.progress;
-    let mut line = given.line;
-    loop {
-        let stage = progress.stage;
-        if is_last(stage) {
-            return Piece { line, progress };
-        }
-        let piece = sheet::advance(progress, bytes);
-        let printed = piece.line;
-        let next = piece.progress;
-        line = printed;
-        progress = next;
+    let mut piece = given;
+    while !is_last(piece.progress.stage) {
+        piece = sheet::advance(piece.progress, bytes);
     }
+    piece
 }

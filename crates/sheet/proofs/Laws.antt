@@ -3,6 +3,7 @@ use Prim.Native.Nat.{ℕ, ◌+◌, ◌-◌, ◌*◌, ◌/◌, ◌%◌, ◌≤◌
 use mathlib.Core.Path.{◌≡◌, refl, sym, ap, ◌∙◌}
 use mathlib.Core.Bool.{Bool, true, false, not}
 use mathlib.Core.List.{List, []}
+use mathlib.Core.Logic.{◌⊎◌, inl, inr}
 use native.Mathlib.Omega.{arith}
 use lib.ListN.{length, take, drop, get_or, drop_of_length-le}
 use lib.Dec.{eqb, ltb}
@@ -19,15 +20,25 @@ use Rattle.conflicts.specs.declared.TypeConflict.{TypeConflict}
 use Rattle.conflicts.specs.View.{conflict_of, conflicts_of}
 use Rattle.lines.specs.View.{conflicts_end}
 use Rattle.structure.specs.declared.Answer.{Answer}
+use Rattle.structure.specs.declared.Answer.TheVariants as variants
 use Rattle.structure.specs.View.{machine_of, answer_of}
 use Rattle.carrying.specs.declared.Carried.{Carried}
 use Rattle.carrying.specs.View.{carried_step}
 use Rattle.sheet.specs.declared.Stage.{Stage}
 use Rattle.sheet.specs.declared.Stage.TheVariants as stages
+use Rattle.sheet.specs.declared.Position.{Position}
 use Rattle.sheet.specs.declared.Progress.{Progress}
-use Rattle.sheet.specs.Pieces.{ProgressM, PieceM, standing, piece, start_of, refusal_piece, follow_of, answer_piece, step_piece, done_before}
+use Rattle.sheet.specs.Pieces.{is_ended, ProgressM, PieceM, standing, piece, start_of, refusal_piece, follow_of, answer_piece, step_piece, done_before}
 use Rattle.sheet.specs.Pieces.{visit_piece, one_printed, list_piece, piece_at, next_piece}
 use Rattle.sheet.specs.View.{progress_of}
+
+pub not_ended : (s : Stage) → (s ≡ stages.Ended → ⊥) → false ≡ is_ended s
+unfolding is_ended
+not_ended stages.Refusing h = refl
+not_ended stages.Visiting h = refl
+not_ended stages.Listing h = refl
+not_ended stages.Ending h = refl
+not_ended stages.Ended h = absurd (h refl)
 
 -- a line and a progress
 pub both : {l k : List ℕ} {p q : ProgressM} → l ≡ k → p ≡ q → piece l p ≡ piece k q
@@ -79,6 +90,14 @@ pub answered : (s : Carried) (i n next k : ℕ) {a : Answer} {q : PieceM} → s.
 answered s i n next k e h =
     h ∙ ap (λ (a : Answer). answer_piece (answer_of (conflicts_of s.conflicts) a) i (machine_of s.machine) n next k) (sym e)
 
+-- one that prints nothing
+pub passes : (s : Carried) (i n next k : ℕ) {q : PieceM} → ((x : ℕ) × (s.answer ≡ variants.Number x)) ⊎ (((x : Bool) × (s.answer ≡ variants.Says x)) ⊎ (s.answer ≡ variants.Done))
+    → q ≡ piece [] (follow_of (machine_of s.machine) n next k) → q ≡ step_piece (carried_step s) i n next k
+unfolding answer_piece
+passes s i n next k (inl (x, e)) = answered s i n next k e
+passes s i n next k (inr (inl (x, e))) = answered s i n next k e
+passes s i n next k (inr (inr e)) = answered s i n next k e
+
 -- Visits.
 
 -- whether a chain is broken, by the code's tests
@@ -95,25 +114,26 @@ module _ (n k next : ℕ) where
   unfolding chain_broken
   broken_not h l = let some : n - 1 - k ≡ 0 → ⊥ = omega arith in rw (lt-leb n next h, ne_eqb (n - 1 - k) 0 some)
 
-module _ (r : Record) (p : ProgressM) {k : ℕ} (before : k ≡ done_before p.count p.done) where
-  broken_before : {b : Bool} → chain_broken p.count (eqb (p.count - 1 - k) 0) r.next ≡ b
+module _ (r : Record) (p : ProgressM) {at : Position} (is : at ≡ record { count = p.count; index = p.index; done = done_before p.count p.done }) where
+  broken_before : {b : Bool} → chain_broken at.count (eqb (at.count - 1 - at.done) 0) r.next ≡ b
       → chain_broken p.count (eqb (p.count - 1 - done_before p.count p.done) 0) r.next ≡ b
-  broken_before h = ap (λ (d : ℕ). chain_broken p.count (eqb (p.count - 1 - d) 0) r.next) (sym before) ∙ h
+  broken_before h = ap (λ (x : Position). chain_broken x.count (eqb (x.count - 1 - x.done) 0) r.next) (sym is) ∙ h
 
-  pub visited_broken : {q : PieceM} → chain_broken p.count (eqb (p.count - 1 - k) 0) r.next ≡ true → q ≡ refusal_piece bad_chain p.index p.machine → q ≡ visit_piece r p
+  pub visited_broken : {q : PieceM} → chain_broken at.count (eqb (at.count - 1 - at.done) 0) r.next ≡ true → q ≡ refusal_piece bad_chain at.index p.machine
+      → q ≡ visit_piece r p
   unfolding visit_piece
-  visited_broken h e = e ∙ chosen _ (broken_before h)
+  visited_broken h e = e ∙ ap (λ (x : Position). refusal_piece bad_chain x.index p.machine) is ∙ chosen _ (broken_before h)
 
-  pub visited_whole : {q : PieceM} {s : calls.Step} → chain_broken p.count (eqb (p.count - 1 - k) 0) r.next ≡ false → s ≡ carry_out (call_of r) p.machine
-      → q ≡ step_piece s p.index p.count r.next (k + 1) → q ≡ visit_piece r p
+  pub visited_whole : {q : PieceM} {s : calls.Step} → chain_broken at.count (eqb (at.count - 1 - at.done) 0) r.next ≡ false → s ≡ carry_out (call_of r) p.machine
+      → q ≡ step_piece s at.index at.count r.next (at.done + 1) → q ≡ visit_piece r p
   unfolding visit_piece
-  visited_whole h f e = e ∙ (λ i. step_piece (f i) p.index p.count r.next (before i + 1)) ∙ unchosen _ (broken_before h)
+  visited_whole h f e = e ∙ (λ i. step_piece (f i) (is i).index (is i).count r.next ((is i).done + 1)) ∙ unchosen _ (broken_before h)
 
 -- Conflicts listed.
 
 module _ (p : Progress) {n : ℕ} (long : n ≡ length (conflicts_of p.conflicts)) {q : PieceM} where
   -- all are printed
-  pub listed_all : n ≤ p.printed → q ≡ piece (conflicts_end n) (follow_of (machine_of p.machine) p.count p.index p.done)
+  pub listed_all : n ≤ p.printed → q ≡ piece (conflicts_end n) (follow_of (machine_of p.machine) p.position.count p.position.index p.position.done)
       → q ≡ list_piece (drop p.printed (conflicts_of p.conflicts)) (progress_of p)
   unfolding list_piece
   listed_all h e =

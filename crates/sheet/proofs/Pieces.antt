@@ -263,6 +263,12 @@ module _ (bytes : List ℕ) where
       at stages.Ending h = absurd (true≢false (sym h))
       at stages.Ended h = refl
 
+  -- the next piece leaves fewer
+  pub fewer : (p : ProgressM) {r : PieceM} → r ≡ next_piece bytes p → is_ended p.stage ≡ false → pieces_of bytes r.progress < pieces_of bytes p
+  fewer p {r} e on =
+      let less : pieces_of bytes r.progress ≡ pieces_of bytes p - 1 = ap (λ (x : PieceM). pieces_of bytes x.progress) e ∙ pieces_next p in
+      omega (arith, less, some_to_come p on)
+
   -- Pieces one after the other.
 
   pub pieces_rest : (k : ℕ) (p : ProgressM) → rest_of bytes p ≡ prints (pieces bytes k p).line (rest_of bytes (pieces bytes k p).progress)

@@ -10,9 +10,9 @@ abbrev pub progress_of : Progress → ProgressM
 progress_of p = record {
   stage = p.stage;
   machine = machine_of p.machine;
-  count = p.count;
-  index = p.index;
-  done = p.done;
+  count = p.position.count;
+  index = p.position.index;
+  done = p.position.done;
   conflicts = conflicts_of p.conflicts;
   printed = p.printed;
 }

@@ -6,6 +6,7 @@ ghost use Rattle.semantics.specs.Sheet.{end_line, chain_broken};
 ghost use Rattle.records.specs.View.{record_view};
 ghost use Rattle.conflicts.specs.View.{conflicts_of};
 ghost use Rattle.structure.specs.View.{machine_of};
+ghost use Rattle.lines.specs.View.{line_of};
 ghost use Rattle.carrying.specs.View.{carried_step};
 ghost use Rattle.sheet.specs.Pieces.{is_ended, max_pieces, done_before, standing, piece as piece_m, start_of, refusal_piece, follow_of, step_piece};
 ghost use Rattle.sheet.specs.Pieces.{visit_piece, list_piece, piece_at, next_piece};
@@ -34,26 +35,54 @@ impl Stage {
     pub fn is_ended(self) -> bool
         ensures { result ≡ is_ended self }
     {
-        match self {
-            Stage::Refusing => false,
-            Stage::Visiting => false,
-            Stage::Listing => false,
-            Stage::Ending => false,
-            Stage::Ended => true,
-        }
+        matches!(self, Stage::Ended)
     }
 }
 
+// Where a sheet stands.
 #[derive(Clone, Copy)]
-pub struct Progress {
-    pub stage: Stage,
-    pub machine: Machine,
+pub struct Position {
     // How many records the sheet has.
     pub count: u16,
     // The record to visit; where the chain goes after a listing, 0 ends it.
     pub index: u16,
     // How many records are done.
     pub done: u16,
+}
+
+impl Position {
+    // Of a sheet with no records.
+    pub const NOWHERE: Position = Position {
+        count: 0,
+        index: 0,
+        done: 0,
+    };
+
+    // At a visit at most all records but one are done.
+    fn visited(self) -> Position
+        ensures { (result ≡ record { count = self.count; index = self.index; done = done_before self.count self.done }) × (result.done < 65535) }
+    {
+        Position {
+            count: self.count,
+            index: self.index,
+            done: self.done.min(self.count.saturating_sub(1)),
+        }
+    }
+
+    // Whether a next index is not in the sheet, or not zero on the last record that may be visited.
+    fn is_broken(self, next: u16) -> bool
+        ensures { result ≡ chain_broken self.count (eqb (self.count - 1 - self.done) 0) next }
+    {
+        self.count <= next || (self.count - 1 <= self.done && next != 0)
+    }
+}
+
+// The fields of the C session (lib/): so the stage does not hold the conflicts of its listing.
+#[derive(Clone, Copy)]
+pub struct Progress {
+    pub stage: Stage,
+    pub machine: Machine,
+    pub position: Position,
     // The conflicts of a listing, and how many are printed.
     pub conflicts: TypeConflicts,
     pub printed: u16,
@@ -79,15 +108,13 @@ impl Progress {
     }
 }
 
-pub fn at_stage(stage: Stage, machine: Machine, count: u16, index: u16, done: u16) -> Progress
-    ensures { progress_of result ≡ standing stage (machine_of machine) count index done }
+pub fn at_stage(stage: Stage, machine: Machine, position: Position) -> Progress
+    ensures { progress_of result ≡ standing stage (machine_of machine) position.count position.index position.done }
 {
     Progress {
         stage,
         machine,
-        count,
-        index,
-        done,
+        position,
         conflicts: TypeConflicts::new(),
         printed: 0,
     }
@@ -98,106 +125,73 @@ pub fn start(length: usize) -> Progress
     ensures { progress_of result ≡ start_of length }
 {
     let machine = Machine::new();
-    if length == 0 {
-        return at_stage(Stage::Refusing, machine, 0, 0, 0);
+    if length == 0 || length % Record::BYTES != 0 || Record::MAX_BYTES < length {
+        return at_stage(Stage::Refusing, machine, Position::NOWHERE);
     }
-    if length % Record::BYTES != 0 {
-        return at_stage(Stage::Refusing, machine, 0, 0, 0);
-    }
-    if Record::MAX_BYTES < length {
-        return at_stage(Stage::Refusing, machine, 0, 0, 0);
-    }
-    let count = (length / Record::BYTES) as u16;
-    at_stage(Stage::Visiting, machine, count, 0, 0)
+    let position = Position {
+        count: (length / Record::BYTES) as u16,
+        index: 0,
+        done: 0,
+    };
+    at_stage(Stage::Visiting, machine, position)
 }
 
 // `refused N at I`, and nothing any more.
 pub fn refuse(machine: Machine, number: u16, index: u16) -> Piece
     ensures { piece_of result ≡ refusal_piece number index (machine_of machine) }
 {
-    let line = lines::refused_line(number, index);
-    let progress = at_stage(Stage::Ended, machine, 0, 0, 0);
-    Piece { line, progress }
+    Piece {
+        line: lines::refused_line(number, index),
+        progress: at_stage(Stage::Ended, machine, Position::NOWHERE),
+    }
 }
 
 // After a record: the next one, or the last line.
-fn follow(machine: Machine, count: u16, next: u16, done: u16) -> Progress
-    ensures { progress_of result ≡ follow_of (machine_of machine) count next done }
+fn follow(machine: Machine, position: Position) -> Progress
+    ensures { progress_of result ≡ follow_of (machine_of machine) position.count position.index position.done }
 {
-    if next == 0 {
-        return at_stage(Stage::Ending, machine, count, next, done);
+    if position.index == 0 {
+        return at_stage(Stage::Ending, machine, position);
     }
-    at_stage(Stage::Visiting, machine, count, next, done)
+    at_stage(Stage::Visiting, machine, position)
 }
 
-// After a record that prints nothing.
-fn pass(machine: Machine, count: u16, next: u16, done: u16) -> Piece
-    ensures { piece_of result ≡ piece_m [] (follow_of (machine_of machine) count next done) }
+// A line, after which a record is done.
+fn pass(line: Line, machine: Machine, position: Position) -> Piece
+    ensures { piece_of result ≡ piece_m (line_of line) (follow_of (machine_of machine) position.count position.index position.done) }
 {
-    let line = Line::new();
-    let progress = follow(machine, count, next, done);
-    Piece { line, progress }
+    Piece {
+        line,
+        progress: follow(machine, position),
+    }
 }
 
-// How many records are done at a visit: at most all but one.
-fn done_before(count: u16, done: u16) -> u16
-    ensures { (result ≡ done_before count done) × (result < 65535) }
-{
-    if count == 0 {
-        return 0;
-    }
-    let most = count - 1;
-    if done < most { done } else { most }
-}
-
-// Whether a next index is not in the sheet, or not zero on the last record that may be visited.
-fn is_broken(count: u16, done: u16, next: u16) -> bool
-    ensures { result ≡ chain_broken count (eqb (count - 1 - done) 0) next }
-{
-    if count <= next {
-        return true;
-    }
-    if count - 1 <= done {
-        return next != 0;
-    }
-    false
-}
-
-// What a record that was carried out prints.
-pub fn after_record(carried: Carried, count: u16, index: u16, next: u16, done: u16) -> Piece
-    ensures { piece_of result ≡ step_piece (carried_step carried) index count next done }
+// What a record of an index prints that was carried out, and the position after it.
+pub fn after_record(carried: Carried, index: u16, position: Position) -> Piece
+    ensures { piece_of result ≡ step_piece (carried_step carried) index position.count position.index position.done }
 {
     let machine = carried.machine;
-    let conflicts = carried.conflicts;
-    let answer = carried.answer;
-    match answer {
+    match carried.answer {
         Answer::Refused(number) => refuse(machine, number, index),
-        Answer::Closed(c) => {
-            let line = lines::close_line(c.changed, c.merges, c.rounds, c.added);
-            let progress = follow(machine, count, next, done);
-            Piece { line, progress }
-        }
-        Answer::Conflicting(_) => {
-            let line = Line::new();
-            let progress = Progress {
+        Answer::Closed(c) => pass(
+            lines::close_line(c.changed, c.merges, c.rounds, c.added),
+            machine,
+            position,
+        ),
+        Answer::Conflicting(_) => Piece {
+            line: Line::new(),
+            progress: Progress {
                 stage: Stage::Listing,
                 machine,
-                count,
-                index: next,
-                done,
-                conflicts,
+                position,
+                conflicts: carried.conflicts,
                 printed: 0,
-            };
-            Piece { line, progress }
+            },
+        },
+        Answer::Summed(t) => pass(lines::settle_line(t.closes, t.merges), machine, position),
+        Answer::Number(_) | Answer::Says(_) | Answer::Done => {
+            pass(Line::new(), machine, position)
         }
-        Answer::Summed(t) => {
-            let line = lines::settle_line(t.closes, t.merges);
-            let progress = follow(machine, count, next, done);
-            Piece { line, progress }
-        }
-        Answer::Number(n) => pass(machine, count, next, done),
-        Answer::Says(b) => pass(machine, count, next, done),
-        Answer::Done => pass(machine, count, next, done),
     }
 }
 
@@ -205,50 +199,48 @@ pub fn after_record(carried: Carried, count: u16, index: u16, next: u16, done: u
 fn visit(progress: Progress, given: Record) -> Piece
     ensures { piece_of result ≡ visit_piece (record_view given) (progress_of progress) }
 {
-    let machine = progress.machine;
-    let count = progress.count;
-    let index = progress.index;
-    let done = done_before(count, progress.done);
-    if is_broken(count, done, given.next) {
-        return refuse(machine, Refusal::BAD_CHAIN, index);
+    let at = progress.position.visited();
+    if at.is_broken(given.next) {
+        return refuse(progress.machine, Refusal::BAD_CHAIN, at.index);
     }
-    let carried = carrying::carry_out(machine, given);
-    after_record(carried, count, index, given.next, done + 1)
+    let carried = carrying::carry_out(progress.machine, given);
+    let next = Position {
+        count: at.count,
+        index: given.next,
+        done: at.done + 1,
+    };
+    after_record(carried, at.index, next)
 }
 
 // The next conflict, or after the last one their number.
 fn list(progress: Progress) -> Piece
     ensures { piece_of result ≡ list_piece (drop progress.printed (conflicts_of progress.conflicts)) (progress_of progress) }
 {
-    let conflicts = progress.conflicts;
-    let n = conflicts.size();
+    let n = progress.conflicts.size();
     let at = progress.printed as usize;
     if n <= at {
-        let machine = progress.machine;
-        let line = lines::conflicts_line(n as u16);
-        let progress = follow(machine, progress.count, progress.index, progress.done);
-        return Piece { line, progress };
+        return pass(
+            lines::conflicts_line(n as u16),
+            progress.machine,
+            progress.position,
+        );
     }
-    let c = conflicts.items[at];
-    let line = lines::conflict_line(c.el, c.a, c.b);
+    let c = progress.conflicts.items[at];
     let mut after = progress;
-    after.printed = progress.printed + 1;
+    after.printed += 1;
     Piece {
-        line,
+        line: lines::conflict_line(c.el, c.a, c.b),
         progress: after,
     }
 }
 
 // `end K`, and nothing any more.
 fn end(progress: Progress) -> Piece
-    ensures { piece_of result ≡ piece_m (end_line progress.done) (standing stages.Ended (machine_of progress.machine) 0 0 0) }
+    ensures { piece_of result ≡ piece_m (end_line progress.position.done) (standing stages.Ended (machine_of progress.machine) 0 0 0) }
 {
-    let machine = progress.machine;
-    let line = lines::end_line(progress.done);
-    let after = at_stage(Stage::Ended, machine, 0, 0, 0);
     Piece {
-        line,
-        progress: after,
+        line: lines::end_line(progress.position.done),
+        progress: at_stage(Stage::Ended, progress.machine, Position::NOWHERE),
     }
 }
 
@@ -256,19 +248,15 @@ fn end(progress: Progress) -> Piece
 pub fn step(progress: Progress, given: Record) -> Piece
     ensures { piece_of result ≡ piece_at progress.stage (record_view given) (progress_of progress) }
 {
-    let stage = progress.stage;
-    match stage {
-        Stage::Refusing => {
-            let machine = progress.machine;
-            refuse(machine, Refusal::BAD_SHEET, 0)
-        }
+    match progress.stage {
+        Stage::Refusing => refuse(progress.machine, Refusal::BAD_SHEET, 0),
         Stage::Visiting => visit(progress, given),
         Stage::Listing => list(progress),
         Stage::Ending => end(progress),
-        Stage::Ended => {
-            let line = Line::new();
-            Piece { line, progress }
-        }
+        Stage::Ended => Piece {
+            line: Line::new(),
+            progress,
+        },
     }
 }
 
@@ -276,9 +264,5 @@ pub fn step(progress: Progress, given: Record) -> Piece
 pub fn advance(progress: Progress, bytes: &[u8; Record::MAX_BYTES]) -> Piece
     ensures { piece_of result ≡ next_piece bytes.now (progress_of progress) }
 {
-    let index = progress.index;
-    // The whole array, for its length.
-    let sheet = &bytes[..];
-    let given = records::record_at(bytes, index);
-    step(progress, given)
+    step(progress, records::record_at(bytes, progress.position.index))
 }

@@ -2,10 +2,10 @@
 use mathlib.Core.Path.{sym, ap}
 use mathlib.Core.List.{[], ◌∷◌}
 use Prim.Native.Nat.{ℕ}
+use native.Mathlib.Omega.{arith}
 use lib.ListN.{get_or-eq_default}
 use Rattle.signature.specs.Model.{plain, model, enum, mor}
 use Rattle.semantics.specs.Sheet.{kind_of}
-use Rattle.carrying.proofs.Laws.{from_three}
 use Rattle.carrying.proofs.type_kind.Goals as goal
 
 pub returns-in-0 : goal.returns-in-0
@@ -23,5 +23,4 @@ returns-in-2 c = ap (λ (k : ℕ). kind_of k c.args.b) (sym c.in-2.is)
 pub returns-in_default : goal.returns-in_default
 unfolding kind_of
 returns-in_default c =
-    let not = c.in_default.in_default-own.rest in
-    sym (get_or-eq_default (plain ∷ model ∷ enum ∷ []) (mor c.args.b) {n = c.args.a} (from_three not.0.0.1 not.0.1 not.1))
+    sym (get_or-eq_default (plain ∷ model ∷ enum ∷ []) (mor c.args.b) {n = c.args.a} (omega arith))

@@ -3,10 +3,6 @@ use Rattle.semantics.specs.Sheet.{bit}
 use borrow.Author.Rules.{rules}
 use Rattle.lines.proofs.bit.Goals as goal
 
-pub returns-then-b : goal.returns-then-b
+pub returns : goal.returns
 unfolding bit
-returns-then-b c = search rules
-
-pub returns-else-b : goal.returns-else-b
-unfolding bit
-returns-else-b c = search rules
+returns c = search rules

@@ -13,13 +13,13 @@ returns c =
     (with_numbers
     (with_numbers
     (with_numbers
-    (with_numbers (with (begun c.new.ensures) close_word c.put_word-word.ensures) _ c.put_number-first.ensures)
+    (with_numbers (with (begun c.new.ensures) close_word c.put_word.ensures) _ c.put_number.ensures)
     _
-    c.put_spaced-second.ensures)
+    c.put_spaced.ensures)
     _
-    c.put_spaced-third.ensures)
+    c.put_spaced-2.ensures)
     _
-    c.put_spaced-fourth.ensures)
+    c.put_spaced-3.ensures)
     (newline ∷ [])
     c.put.ensures)
     (omega arith)

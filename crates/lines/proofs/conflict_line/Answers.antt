@@ -13,13 +13,13 @@ returns c =
     (with_numbers
     (with
     (with_numbers
-    (with_numbers (with (begun c.new.ensures) conflict_word c.put_word-word.ensures) _ c.put_number-at.ensures)
+    (with_numbers (with (begun c.new.ensures) conflict_word c.put_word.ensures) _ c.put_number.ensures)
     _
-    c.put_fact-one.ensures)
+    c.put_fact.ensures)
     (space ∷ slash ∷ [])
-    c.put_word-slash.ensures)
+    c.put_word-2.ensures)
     _
-    c.put_fact-two.ensures)
+    c.put_fact-2.ensures)
     (newline ∷ [])
     c.put.ensures)
     (omega arith)

@@ -9,6 +9,6 @@ use Rattle.lines.proofs.end_line.Goals as goal
 pub returns : goal.returns
 returns c =
     whole
-    (with (with_numbers (with (begun c.new.ensures) end_word c.put_word-word.ensures) _ c.put_number-number.ensures) (newline ∷ []) c.put.ensures)
+    (with (with_numbers (with (begun c.new.ensures) end_word c.put_word.ensures) _ c.put_number.ensures) (newline ∷ []) c.put.ensures)
     (omega arith)
     ∙ end_parts _

@@ -12,11 +12,11 @@ returns c =
     (with
     (with_numbers
     (with
-    (with_numbers (with (begun c.new.ensures) refused_word c.put_word-word.ensures) _ c.put_number-first.ensures)
+    (with_numbers (with (begun c.new.ensures) refused_word c.put_word.ensures) _ c.put_number.ensures)
     (space ∷ at_word)
-    c.put_word-at.ensures)
+    c.put_word-2.ensures)
     _
-    c.put_number-second.ensures)
+    c.put_number-2.ensures)
     (newline ∷ [])
     c.put.ensures)
     (omega arith)

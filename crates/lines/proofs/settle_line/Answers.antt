@@ -11,9 +11,9 @@ returns c =
     whole
     (with
     (with_numbers
-    (with_numbers (with (begun c.new.ensures) settle_word c.put_word-word.ensures) _ c.put_spaced-one.ensures)
+    (with_numbers (with (begun c.new.ensures) settle_word c.put_word.ensures) _ c.put_spaced.ensures)
     _
-    c.put_spaced-two.ensures)
+    c.put_spaced-2.ensures)
     (newline ∷ [])
     c.put.ensures)
     (omega arith)

@@ -8,5 +8,5 @@ use Rattle.pechunaq.proofs.pechunaq_begin.Goals as goal
 
 pub returns : goal.returns
 returns c =
-    c.kept.ensures
-    ∙ both c.new-line.ensures (c.at_stage-progress.ensures ∙ ap (λ (m : Machine). standing stages.Ended m 0 0 0) c.new-machine.ensures)
+    c.from.ensures
+    ∙ both c.new.ensures (c.at_stage.ensures ∙ ap (λ (m : Machine). standing stages.Ended m 0 0 0) c.new-2.ensures)

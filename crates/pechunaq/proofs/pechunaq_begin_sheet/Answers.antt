@@ -4,4 +4,4 @@ use Rattle.sheet.proofs.Laws.{both}
 use Rattle.pechunaq.proofs.pechunaq_begin_sheet.Goals as goal
 
 pub returns : goal.returns
-returns c = c.kept.ensures ∙ both c.new-line.ensures c.start-progress.ensures
+returns c = c.from.ensures ∙ both c.new.ensures c.start.ensures

@@ -10,5 +10,5 @@ use Rattle.pechunaq.proofs.pechunaq_next_line.Goals as goal
 pub returns : goal.returns
 returns c =
     let a = c.args in
-    takes (whole_records a.sheet.now) (session_of a.session) (piece_of c.up_to_line-piece.result) (both refl c.opened-progress.ensures) c.up_to_line-piece.ensures
-    (c.kept-session.ensures ∙ both c.new-none.ensures refl)
+    takes (whole_records a.sheet.now) (session_of a.session) (piece_of c.up_to_line-piece.result) c.from.ensures c.up_to_line-piece.ensures
+    (c.from-2.ensures ∙ both c.new.ensures refl)

@@ -13,11 +13,11 @@ unfolding resumed
 returns-in-Done c =
     let a = c.args in
     resumes c.load-loading.result (load (signature_in a.session) a.file.now) (session_of a.session) c.in-Done.is
-    (c.load-loading.ensures ∙ ap (λ (g : Sig). loading (load g a.file.now)) c.signature_of-signature.ensures) refl
+    (c.load-loading.ensures ∙ ap (λ (g : Sig). loading (load g a.file.now)) c.signature_of.ensures) refl
 
 pub returns-in-Refused : goal.returns-in-Refused
 unfolding resumed
 returns-in-Refused c =
     let a = c.args in
     resumes c.load-loading.result (load (signature_in a.session) a.file.now) (session_of a.session) c.in-Refused.is
-    (c.load-loading.ensures ∙ ap (λ (g : Sig). loading (load g a.file.now)) c.signature_of-signature.ensures) refl
+    (c.load-loading.ensures ∙ ap (λ (g : Sig). loading (load g a.file.now)) c.signature_of.ensures) refl

@@ -27,5 +27,4 @@ returns-in-3 c = search rules
 pub returns-in_default : goal.returns-in_default
 unfolding stage_at
 returns-in_default c =
-    let not = c.in_default.in_default-own.rest in
-    sym (get_or-eq_default (stages.Refusing ∷ stages.Visiting ∷ stages.Listing ∷ stages.Ending ∷ []) stages.Ended {n = c.args.number} (omega (arith, not.0.0.0.1, not.0.0.1, not.0.1, not.1)))
+    sym (get_or-eq_default (stages.Refusing ∷ stages.Visiting ∷ stages.Listing ∷ stages.Ending ∷ []) stages.Ended {n = c.args.number} (omega arith))

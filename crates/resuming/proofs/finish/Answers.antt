@@ -1,20 +1,14 @@
 -- `finish` meets its contract, and ends: each piece leaves fewer.
 use Rattle.ids.proofs.Tests.{told}
 use Rattle.sheet.specs.View.{progress_of}
-use Rattle.resuming.proofs.Laws.{going_start, going_on, going_last, last_ended, fewer}
+use Rattle.sheet.proofs.Pieces.{fewer}
+use Rattle.resuming.proofs.Laws.{going_on, last_ended}
 use Rattle.resuming.proofs.finish.Goals as goal
 
-pub loop-progress-init : goal.loop-progress-init
-loop-progress-init c = going_start _ _
+pub loop-piece-smaller : goal.loop-piece-smaller
+loop-piece-smaller c =
+    let p = progress_of c.loop-piece.piece.progress in
+    fewer _ p c.advance-piece.ensures (last_ended p.stage (told c.is_last.ensures c.loop-piece-test.true))
 
-pub returns-then-is_last : goal.returns-then-is_last
-returns-then-is_last c = going_last c.loop-progress.invariant (told c.is_last.ensures c.if-is_last.true)
-
-pub loop-progress-smaller : goal.loop-progress-smaller
-loop-progress-smaller c =
-    let p = progress_of c.loop-progress.progress in
-    fewer _ p c.advance-piece.ensures (last_ended p.stage (told c.is_last.ensures c.if-is_last.false))
-
-pub loop-progress-preserved : goal.loop-progress-preserved
-loop-progress-preserved c =
-    going_on c.loop-progress.invariant c.advance-piece.ensures (told c.is_last.ensures c.if-is_last.false)
+pub loop-piece-preserved : goal.loop-piece-preserved
+loop-piece-preserved c = going_on c.loop-piece.invariant c.advance-piece.ensures (told c.is_last.ensures c.loop-piece-test.true)

@@ -17,7 +17,7 @@ unfolding loaded_piece
 returns-in-Done c =
     let a = c.args in
     restores a.file.now (progress_of a.progress) (omega (arith, c.if-file-gt-MAX_BYTES.false)) c.load-loading.result c.load-loading.ensures c.in-Done.is
-    (both c.new-line.ensures refl)
+    (both c.new.ensures refl)
 
 pub returns-in-Refused : goal.returns-in-Refused
 unfolding loaded_piece

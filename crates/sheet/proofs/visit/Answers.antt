@@ -8,15 +8,13 @@ use Rattle.sheet.proofs.visit.Goals as goal
 
 pub returns-then-is_broken : goal.returns-then-is_broken
 returns-then-is_broken c =
-    let d = c.done_before-done in
     let a = c.args in
-    visited_broken (record_view a.given) (progress_of a.progress) d.ensures.0 (told c.is_broken.ensures c.if-is_broken.true) c.refuse.ensures
+    visited_broken (record_view a.given) (progress_of a.progress) c.visited-at.ensures.0 (told c.is_broken.ensures c.if-is_broken.true) c.refuse.ensures
 
 pub returns : goal.returns
 returns c =
-    let d = c.done_before-done in
     let a = c.args in
-    visited_whole (record_view a.given) (progress_of a.progress) d.ensures.0
+    visited_whole (record_view a.given) (progress_of a.progress) c.visited-at.ensures.0
     (told c.is_broken.ensures c.if-is_broken.false)
     (carried_step_lem c.carry_out-carried.result c.carry_out-carried.ensures)
     c.after_record.ensures

@@ -6,4 +6,4 @@ pub returns-then-x-lt10 : goal.returns-then-x-lt10
 returns-then-x-lt10 t c = put_low _ c.args.x c.if-x-lt10.true c.digit.ensures c.put.ensures
 
 pub returns : goal.returns
-returns t c = put_high _ c.args.x c.if-x-lt10.false c.put_decimal-front.ensures c.digit-2.ensures c.put-2.ensures
+returns t c = put_high _ c.args.x c.if-x-lt10.false c.put_decimal.ensures c.digit-2.ensures c.put-2.ensures

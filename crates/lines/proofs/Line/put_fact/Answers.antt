@@ -6,4 +6,4 @@ use Rattle.lines.proofs.Line.put_fact.Goals as goal
 pub returns : goal.returns
 returns c =
     let f = fact_of c.args.fact in
-    add_more f.typ f.parents c.put_number-line.ensures c.put_els.ensures
+    add_more f.typ f.parents c.put_number.ensures c.put_els.ensures

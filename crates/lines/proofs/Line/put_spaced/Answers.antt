@@ -4,4 +4,4 @@ use borrow.Author.Rules.{rules}
 use Rattle.lines.proofs.Line.put_spaced.Goals as goal
 
 pub returns : goal.returns
-returns c = add_wide _ c.args.x (search rules) c.put-line.ensures c.put_decimal.ensures
+returns c = add_wide _ c.args.x (search rules) c.put.ensures c.put_decimal.ensures
