@@ -5,6 +5,8 @@ use Rattle.unification.specs.Roots.{max_els}
 use Rattle.signature.specs.Model.{max_types}
 use Rattle.semantics.specs.Structure.{Fact, Structure, max_facts, max_func_apps, max_pred_apps, max_vars, max_pairs, max_impositions}
 use Rattle.semantics.specs.Sheet.{bit}
+use Rattle.bindings.specs.declared.Slot.{Slot}
+use Rattle.bindings.specs.View.{slots_from}
 use Rattle.file.specs.Layout.{byte, word_bytes, by_columns}
 use Rattle.file.specs.Rows.{fact_columns, func_app_columns, pred_app_columns, imposition_columns, pair_columns, fact_row, func_app_row, pred_app_row}
 use Rattle.file.specs.Rows.{imposition_row, pair_row}
@@ -29,6 +31,10 @@ pub record Rows (k : ℕ) (entries : List (List ℕ)) (limit : ℕ) (rows : List
   pub is : map (take k) (take r rows) ≡ entries
   pub most : r ≤ limit
   pub long : length rows ≡ limit
+
+-- the slots that are given, as rows: the key and the element of each
+abbrev pub slot_rows : List Slot → List (List ℕ)
+slot_rows ss = slots_from (λ (key el : ℕ). key ∷ el ∷ []) 0 ss
 
 -- where the chain of each of so many elements begins, by these facts
 pub record Firsts (limit : ℕ) (facts : List Fact) (heads : List ℕ) : Type 0 where
