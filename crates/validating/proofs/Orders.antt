@@ -3,16 +3,16 @@ use mathlib.Core.Path.{◌≡◌, refl, sym, ap, ◌∙◌}
 use mathlib.Core.Bool.{Bool, true, false, not, ◌&&◌}
 use mathlib.Core.List.{List, [], ◌∷◌, map}
 use mathlib.Core.Logic.{inl, inr}
-use Prim.Native.Nat.{ℕ, suc, ◌+◌, ◌-◌, ◌≤◌, ◌<◌}
+use Prim.Native.Nat.{ℕ, suc, ◌+◌, ◌≤◌, ◌<◌}
+use native.Mathlib.Numerals.{add-one}
 use native.Mathlib.Omega.{arith}
-use lib.ListN.{length, take, drop, get_or, length-drop}
+use lib.ListN.{length, drop, get_or, drop_of_length-le}
+use lib.Seq.{drop-cons}
 use Rattle.ids.specs.declared.Ordering.{Ordering}
 use Rattle.ids.specs.declared.Ordering.TheVariants.{Less, Equal, Greater}
 use Rattle.ids.specs.Order.{order_of}
 use Rattle.ids.specs.Sorted.{All, Sorted}
-use Rattle.ids.specs.Table.{Sized}
 use Rattle.ids.proofs.Orders.{less}
-use Rattle.ids.proofs.Views.{view_next}
 use Rattle.bindings.specs.declared.Slot.{Slot}
 use Rattle.bindings.specs.View.{slots_from}
 use Rattle.bindings.proofs.Slots.{Keyed, slot_given, slot_empty}
@@ -21,59 +21,41 @@ use Rattle.semantics.proofs.Cases.{test}
 use Rattle.file.specs.File.{in_order, other_order}
 use Rattle.file.proofs.Chains.{sorted_in_order}
 
--- The entries before i are in order: what is left to judge begins with the last of them.
-pub record OrderedTo {B : Type 0} (cmp : B → B → Ordering) (l : List B) (i : ℕ) : Type 0 where
-  pub begun : 1 ≤ i
-  pub so_far : in_order cmp (drop (i - 1) l) ≡ in_order cmp l
+-- What is left to judge begins with the entry before.
+module _ {A : Type 0} (cmp : A → A → Ordering) where
+  turn : {o : Ordering} (x y : A) (l : List A) → cmp x y ≡ o
+      → ◌≡◌ {A = Bool} (in_order cmp (x ∷ y ∷ l)) (elim o [ Less ↦ in_order cmp (y ∷ l) | Equal ↦ false | Greater ↦ false ])
+  unfolding in_order
+  turn x y l is = λ k. elim (is k) [ Less ↦ in_order cmp (y ∷ l) | Equal ↦ false | Greater ↦ false ]
 
-pub one_ordered : {B : Type 0} (cmp : B → B → Ordering) (l : List B) → OrderedTo cmp l 1
-one_ordered cmp l = record { begun = omega arith; so_far = refl }
+  next : {y : A} (rest : List A) (i : ℕ) → i < length rest → y ≡ get_or rest i y → drop i rest ≡ y ∷ drop (i + 1) rest
+  next {y} rest i h is = rw (add-one i) (drop-cons rest i y h ∙ ap (λ (z : A). z ∷ drop (suc i) rest) (sym is))
 
--- two entries, and what follows
-judged : {B : Type 0} (cmp : B → B → Ordering) (x y : B) (ys l : List B) (o : Ordering) → l ≡ y ∷ ys → cmp x y ≡ o
-    → ◌≡◌ {A = Bool} (in_order cmp (x ∷ l)) (elim o [ Less ↦ in_order cmp l | Equal ↦ false | Greater ↦ false ])
-unfolding in_order
-judged {B} cmp x y ys l o e is =
-    ap (λ (m : List B). in_order cmp (x ∷ m)) e
-    ∙ (λ k. elim (is k) [ Less ↦ in_order cmp (sym e k) | Equal ↦ false | Greater ↦ false ])
+  module _ {x y : A} (rest : List A) {i : ℕ} {w : Bool} (so_far : in_order cmp (x ∷ drop i rest) ≡ w) (h : i < length rest) (is : y ≡ get_or rest i y) where
+    pub ordered_on : cmp x y ≡ Less → in_order cmp (y ∷ drop (i + 1) rest) ≡ w
+    ordered_on e = sym (ap (λ (l : List A). in_order cmp (x ∷ l)) (next rest i h is) ∙ turn x y (drop (i + 1) rest) e) ∙ so_far
 
--- at most one entry
-few : {B : Type 0} (cmp : B → B → Ordering) (l : List B) → length l ≤ 1 → in_order cmp l ≡ true
+    pub not_equal : cmp x y ≡ Equal → false ≡ w
+    not_equal e = sym (ap (λ (l : List A). in_order cmp (x ∷ l)) (next rest i h is) ∙ turn x y (drop (i + 1) rest) e) ∙ so_far
+
+    pub not_greater : cmp x y ≡ Greater → false ≡ w
+    not_greater e = sym (ap (λ (l : List A). in_order cmp (x ∷ l)) (next rest i h is) ∙ turn x y (drop (i + 1) rest) e) ∙ so_far
+
+  pub all_ordered : (x : A) (rest : List A) {i : ℕ} {w : Bool} → in_order cmp (x ∷ drop i rest) ≡ w → length rest ≤ i → true ≡ w
+  unfolding in_order
+  all_ordered x rest {i} so_far h = ap (λ (l : List A). in_order cmp (x ∷ l)) (sym (drop_of_length-le rest {i = i} h)) ∙ so_far
+
+pub few : {A : Type 0} (cmp : A → A → Ordering) (l : List A) → length l ≡ 0 → true ≡ in_order cmp l
 unfolding in_order
 few cmp [] h = refl
-few cmp (x ∷ []) h = refl
-few cmp (x ∷ y ∷ l) h = absurd (omega arith)
+few cmp (x ∷ l) h = absurd (omega arith)
 
-module _ {A B : Type 0} (cmp : B → B → Ordering) (f : A → B) (n : ℕ) (xs : List A) {limit size : ℕ} (sized : Sized (map f (take n xs)) limit size)
-    (i : ℕ) (inv : OrderedTo cmp (map f (take n xs)) i) where
-  abbrev view : List B
-  view = map f (take n xs)
-
-  -- the entry before i, where there is one
-  before : (d : A) → i - 1 < size → drop (i - 1) view ≡ f (get_or xs (i - 1) d) ∷ drop i view
-  before d h =
-      let same : i - 1 + 1 ≡ i = omega (arith, inv.begun) in
-      view_next f n xs (i - 1) d (omega (arith, sized.is)) ∙ ap (λ (j : ℕ). f (get_or xs (i - 1) d) ∷ drop j view) same
-
-  module _ (d : A) (h : i < size) {o : Ordering} (is : cmp (f (get_or xs (i - 1) d)) (f (get_or xs i d)) ≡ o) where
-    turn : ◌≡◌ {A = Bool} (elim o [ Less ↦ in_order cmp (drop i view) | Equal ↦ false | Greater ↦ false ]) (in_order cmp view)
-    turn =
-        sym (ap (in_order cmp) (before d (omega arith))
-        ∙ judged cmp _ _ _ (drop i view) o (view_next f n xs i d (omega (arith, sized.is))) is) ∙ inv.so_far
-
-    pub ordered_on : o ≡ Less → OrderedTo cmp view (i + 1)
-    ordered_on e =
-        let same : i ≡ i + 1 - 1 = omega arith in
-        record { begun = omega arith; so_far = ap (λ (j : ℕ). in_order cmp (drop j view)) (sym same) ∙ (rw e at turn) }
-
-    pub not_equal : o ≡ Equal → false ≡ in_order cmp view
-    not_equal e = rw e at turn
-
-    pub not_greater : o ≡ Greater → false ≡ in_order cmp view
-    not_greater e = rw e at turn
-
-  pub all_ordered : size ≤ i → true ≡ in_order cmp view
-  all_ordered h = sym (few cmp (drop (i - 1) view) (omega (arith, length-drop (i - 1) view, sized.is))) ∙ inv.so_far
+-- the order of a view
+pub in_order_map : {A B : Type 0} (cmp : B → B → Ordering) (f : A → B) (l : List A) → in_order (λ (x y : A). cmp (f x) (f y)) l ≡ in_order cmp (map f l)
+unfolding in_order
+in_order_map cmp f [] = refl
+in_order_map cmp f (x ∷ []) = refl
+in_order_map cmp f (x ∷ y ∷ l) = λ k. elim (cmp (f x) (f y)) [ Less ↦ in_order_map cmp f (y ∷ l) k | Equal ↦ false | Greater ↦ false ]
 
 -- Entries of slots stand by their keys, so that they are in order.
 module _ {E : Type 0} {mk : ℕ → ℕ → E} {cmp : E → E → Ordering} {key : E → ℕ} (t : Keyed mk cmp key) where
@@ -104,6 +86,14 @@ module _ {E : Type 0} {mk : ℕ → ℕ → E} {cmp : E → E → Ordering} {key
 abbrev pub OrderJudged : Structure → Type 0
 OrderJudged s =
     not (other_order s) ≡ (in_order compare_fact s.facts && (in_order compare_func_app s.func_apps && in_order compare_pred_app s.pred_apps))
+
+-- the tests as the code joins them
+pub three_tests : {a b c x y z : Bool} → x ≡ a → y ≡ b → z ≡ c → ((x && y) && z) ≡ (a && (b && c))
+three_tests {a} {b} {c} p q r = (λ i. (p i && q i) && r i) ∙ go a b c
+  where
+    go : (a b c : Bool) → ((a && b) && c) ≡ (a && (b && c))
+    go true b c = refl
+    go false b c = refl
 
 first_three : (a b c : Bool) {v w : Bool} → v ≡ true → w ≡ true → not (not (a && (b && (c && (v && w))))) ≡ (a && (b && c))
 first_three a b c p q = (λ i. not (not (a && (b && (c && (p i && q i)))))) ∙ go a b c
