@@ -1,4 +1,4 @@
--- `func_app_of` meets its contract.
+-- `entry` of `FuncApps` meets its contract.
 use mathlib.Core.Path.{◌≡◌, ap, ◌∙◌}
 use native.Mathlib.Omega.{arith}
 use lib.ListN.{length}
@@ -8,7 +8,7 @@ use Rattle.apps.specs.View.{func_app_of}
 use Rattle.file.specs.Rows.{func_app_in, func_app_columns}
 use Rattle.decoding.proofs.Reading.{cell, list_at_lem}
 use borrow.Author.Rules.{rules}
-use Rattle.decoding.proofs.func_app_of.Goals as goal
+use Rattle.decoding.proofs.FuncAppsTable.entry.Goals as goal
 
 pub returns : goal.returns
 unfolding func_app_in

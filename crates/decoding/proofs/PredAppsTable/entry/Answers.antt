@@ -1,4 +1,4 @@
--- `pred_app_of` meets its contract.
+-- `entry` of `PredApps` meets its contract.
 use mathlib.Core.Path.{◌≡◌, ap, ◌∙◌}
 use native.Mathlib.Omega.{arith}
 use lib.ListN.{length}
@@ -8,7 +8,7 @@ use Rattle.apps.specs.View.{pred_app_of}
 use Rattle.file.specs.Rows.{pred_app_in, pred_app_columns}
 use Rattle.decoding.proofs.Reading.{cell, list_at_lem}
 use borrow.Author.Rules.{rules}
-use Rattle.decoding.proofs.pred_app_of.Goals as goal
+use Rattle.decoding.proofs.PredAppsTable.entry.Goals as goal
 
 pub returns : goal.returns
 unfolding pred_app_in

@@ -1,4 +1,4 @@
--- `imposition_of` meets its contract.
+-- `entry` of `Impositions` meets its contract.
 use mathlib.Core.Path.{◌≡◌, ap, ◌∙◌}
 use native.Mathlib.Omega.{arith}
 use lib.ListN.{length}
@@ -8,7 +8,7 @@ use Rattle.facts.specs.View.{fact_of}
 use Rattle.file.specs.Rows.{imposition_in, imposition_columns}
 use Rattle.decoding.proofs.Reading.{cell, list_at_lem}
 use borrow.Author.Rules.{rules}
-use Rattle.decoding.proofs.imposition_of.Goals as goal
+use Rattle.decoding.proofs.ImpositionsTable.entry.Goals as goal
 
 pub returns : goal.returns
 unfolding imposition_in
