@@ -5,10 +5,9 @@
 use conflicts::{Conflicting, TypeConflicts};
 use facts::Fact;
 use file_rows::File;
-use loading::{Loaded, Loading};
+use loading::Loading;
 use records::Record;
 use signature::Signature;
-use storing::Stored;
 use structure::{Answer, Closed, Machine, Stepped, Structure};
 
 // The kinds that are timed.
@@ -235,8 +234,8 @@ pub extern "C" fn bench_nothing(bytes: &[u8], times: u64, out: &mut [u64; 5]) {
 }
 
 // How many bytes were stored, and a byte of the file; which one is known only when the program runs.
-fn keep_stored(stored: Stored, file: &[u8; File::MAX_BYTES], i: u64, out: &mut [u64; 5]) {
-    if let Stored::Bytes(n) = stored {
+fn keep_stored(stored: Result<usize, u16>, file: &[u8; File::MAX_BYTES], i: u64, out: &mut [u64; 5]) {
+    if let Ok(n) = stored {
         out[0] = n as u64;
     }
     let most = File::MAX_BYTES as u64;
@@ -257,10 +256,10 @@ fn keep_loaded(loading: Loading, i: u64, out: &mut [u64; 5]) {
     out[3] = read as u64;
     let answer = loading.answer;
     match answer {
-        Loaded::Done => {
+        Ok(()) => {
             out[0] = File::MAX_BYTES as u64;
         }
-        Loaded::Refused(number) => {
+        Err(number) => {
             out[0] = 0;
             out[1] = number as u64;
         }
@@ -318,6 +317,6 @@ pub extern "C" fn bench_load(bytes: &[u8], times: u64, out: &mut [u64; 5]) {
     let signature = run.signature;
     let structure = run.structure;
     let mut file = [0u8; File::MAX_BYTES];
-    storing::store(structure, &mut file);
+    let _ = storing::store(structure, &mut file);
     load_times(signature, &mut file, times, out);
 }

@@ -8,7 +8,6 @@ use reading::Input;
 use records::Record;
 use sheet::Piece;
 use std::env::{Env, FillError};
-use storing::Stored;
 use structure::Structure;
 
 // A refusal, to standard error.
@@ -20,12 +19,12 @@ fn write_file(rt: &HostRuntime, structure: Structure) {
     let mut file = [0u8; File::MAX_BYTES];
     let stored = storing::store(structure, &mut file);
     match stored {
-        Stored::Bytes(n) => {
+        Ok(n) => {
             if let Err(error) = printing::write_front(&mut rt.stdout(), &file, n) {
                 reading::fail(&mut rt.stderr(), b"standard output", &error);
             }
         }
-        Stored::Refused(number) => {
+        Err(number) => {
             say(rt, lines::refused_line(number, 0));
         }
     }

@@ -19,11 +19,9 @@ use carrying::Carried;
 use conflicts::TypeConflicts;
 use ids::TypeIds;
 use lines::Line;
-use loading::Loaded;
 use records::Record;
 use sheet::{Piece, Progress, Stage};
 use signature::{Funcs, Models, MorAppFuncs, Preds, Signature, Type, TypeKind, Types};
-use storing::Stored;
 use structure::{Answer, Machine, Structure};
 
 // A type whose kind is two numbers, as in a record of kind 1: the kind, and the model of a Mor.
@@ -474,8 +472,8 @@ pub extern "C" fn pechunaq_park(session: Session, file: &mut [u8]) -> Parked
     let structure = session.structure;
     let stored = storing::store(structure, file);
     match stored {
-        Stored::Bytes(size) => Parked { size, refused: 0 },
-        Stored::Refused(refused) => Parked { size: 0, refused },
+        Ok(size) => Parked { size, refused: 0 },
+        Err(refused) => Parked { size: 0, refused },
     }
 }
 
@@ -489,7 +487,7 @@ pub extern "C" fn pechunaq_resume(session: Session, file: &[u8]) -> Resumed
     let structure = loading.structure;
     let answer = loading.answer;
     match answer {
-        Loaded::Done => {
+        Ok(()) => {
             let mut after = session;
             after.structure = structure;
             Resumed {
@@ -497,7 +495,7 @@ pub extern "C" fn pechunaq_resume(session: Session, file: &[u8]) -> Resumed
                 session: after,
             }
         }
-        Loaded::Refused(refused) => Resumed { refused, session },
+        Err(refused) => Resumed { refused, session },
     }
 }
 

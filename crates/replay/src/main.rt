@@ -11,12 +11,11 @@ use equalities::Pairs;
 use facts::{Fact, Facts, Impositions};
 use ids::{ElIds, TypeId};
 use lines::Line;
-use loading::{Loaded, Loading};
+use loading::Loading;
 use records::Record;
 use sheet::{Progress, Stage};
 use signature::Signature;
 use std::io::{Read, Write};
-use storing::Stored;
 use structure::{Answer, Machine, Structure};
 use unification::Unification;
 
@@ -487,7 +486,7 @@ fn put_file(
     }
 }
 
-fn store_within(structure: Structure, slot: &mut [u8], room: u16) -> Stored {
+fn store_within(structure: Structure, slot: &mut [u8], room: u16) -> Result<usize, u16> {
     let m = count(room as usize, slot);
     storing::store(structure, &mut slot[..m])
 }
@@ -532,8 +531,8 @@ fn run_store(
     let structure = machine.structure;
     let stored = store_within(structure, slot, room);
     match stored {
-        Stored::Bytes(k) => put_file(rt, text, from, slot, short(k), mode),
-        Stored::Refused(x) => put_refused(rt, text, from, x),
+        Ok(k) => put_file(rt, text, from, slot, short(k), mode),
+        Err(x) => put_refused(rt, text, from, x),
     }
 }
 
@@ -605,8 +604,8 @@ fn run_load(
         structure,
     };
     match answer {
-        Loaded::Done => put_done(rt, text, from, next),
-        Loaded::Refused(x) => put_refused(rt, text, from, x),
+        Ok(()) => put_done(rt, text, from, next),
+        Err(x) => put_refused(rt, text, from, x),
     }
 }
 

@@ -10,7 +10,6 @@ ghost use Rattle.resuming.specs.Resuming.{declares, is_due, is_last, restored_pi
 use file_rows::File;
 use ids::Refusal;
 use lines::Line;
-use loading::Loaded;
 use records::Record;
 use sheet::{Piece, Progress, Stage};
 use structure::Machine;
@@ -70,7 +69,7 @@ pub fn restore(progress: Progress, file: &[u8]) -> Piece
     let structure = loading.structure;
     let answer = loading.answer;
     match answer {
-        Loaded::Done => {
+        Ok(()) => {
             let line = Line::new();
             let loaded = Machine {
                 signature,
@@ -83,7 +82,7 @@ pub fn restore(progress: Progress, file: &[u8]) -> Piece
                 progress: after,
             }
         }
-        Loaded::Refused(number) => sheet::refuse(machine, number, progress.index),
+        Err(number) => sheet::refuse(machine, number, progress.index),
     }
 }
 

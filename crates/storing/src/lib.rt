@@ -27,13 +27,6 @@ use ids::{ElIds, Refusal};
 use signature::Signature;
 use structure::Structure;
 
-// What storing answers: so many bytes were written, or a number.
-#[derive(Clone, Copy)]
-pub enum Stored {
-    Bytes(usize),
-    Refused(u16),
-}
-
 // What stands in one byte of a file.
 trait InByte: Copy {
     ghost byte: { Self → ℕ };
@@ -418,15 +411,15 @@ pub fn write(structure: Structure, file: &mut [u8]) -> usize
     write_rest(structure, file, given)
 }
 
-// The file of a structure at the front of a buffer, the rest of which is left as it was; a buffer that is too short is refused.
-pub fn store(structure: Structure, buffer: &mut [u8]) -> Stored
+// The file of a structure at the front of a buffer, the rest of which is left as it was, and how long it is; 9 where the buffer is too short.
+pub fn store(structure: Structure, buffer: &mut [u8]) -> Result<usize, u16>
     ensures { stored_of result buffer.new ≡ store_into (structure_of structure) buffer.old }
 {
     let mut file = [0u8; File::MAX_BYTES];
     let n = write(structure, &mut file);
     if buffer.len() < n {
-        return Stored::Refused(Refusal::NO_ROOM);
+        return Err(Refusal::NO_ROOM);
     }
     buffer[..n].copy_from_slice(&file[..n]);
-    Stored::Bytes(n)
+    Ok(n)
 }
