@@ -7,36 +7,17 @@ use Prim.Native.Nat.{ℕ, zero, suc, ◌+◌, ◌-◌, ◌*◌, ◌≤◌, ◌<�
 use native.Mathlib.Nat.{add-zero}
 use native.Mathlib.Numerals.{add-one}
 use native.Mathlib.Omega.{arith}
-use lib.ListN.{length, take, drop, get_or, set, replicate, length-replicate, length-set, length-take}
-use lib.Seq.{get_or-set_same, get_or-set_other, get_or-take, take-suc, take_all, length-take-le}
+use lib.ListN.{length, take, drop, get_or, replicate, length-replicate, length-take}
+use lib.Seq.{get_or-take, take-suc, take_all, length-take-le}
 use lib.Dec.{ltb, leb}
 use borrow.Author.Tests.{lt-ltb, le-leb, lt-leb}
-use Rattle.unification.proofs.Numbers.{less_or, same_or}
+use Rattle.unification.proofs.Numbers.{less_or}
 use Rattle.semantics.specs.Structure.{max_facts}
 use Rattle.semantics.specs.Sheet.{words}
 use Rattle.file.specs.File.{owner, owner_from}
 use Rattle.file.proofs.LayoutLaws.{words_take, words_length}
 use Rattle.decoding.specs.View.{SetFrom, Owners}
 use Rattle.decoding.proofs.Reading.{word_at}
-
--- Entries set to one number.
-
-module _ (from x : ℕ) (before : List ℕ) where
-  pub set_none : SetFrom from from x before before
-  set_none = record { below = λ i h. refl; set = λ i h g. absurd (omega arith); long = refl }
-
-  pub set_next : {after : List ℕ} {i : ℕ} → from ≤ i → i < length before → SetFrom from i x before after → SetFrom from (i + 1) x before (set after i x)
-  set_next {after} {i} h room s =
-      let there : i < length after = omega (arith, s.long) in
-      record {
-        below = λ j g. get_or-set_other after i j x 0 (λ (e : j ≡ i). omega arith) ∙ s.below j g;
-        set = λ j g l.
-            ⊎_elim (λ (e : j ≡ i). rw e (get_or-set_same after i x 0 there)) (λ n. get_or-set_other after i j x 0 n ∙ s.set j g (omega arith)) (same_or j i);
-        long = length-set after i x ∙ s.long;
-      }
-
-  pub set_all : {after : List ℕ} {i : ℕ} (n : ℕ) → n ≤ i → SetFrom from i x before after → SetFrom from n x before after
-  set_all n h s = record { below = s.below; set = λ j g l. s.set j g (omega arith); long = s.long }
 
 -- Owners.
 

@@ -174,7 +174,7 @@ fn row_at(columns: &[u8], n: usize, k: usize, i: usize) -> Row
     row
 }
 
-// A table whose entries stand in rows.
+// A table whose entries stand in rows. The view of an entry is of another type for each table, so that a relation says what a row says of it.
 trait Table {
     type Entry: Copy;
 
@@ -307,8 +307,8 @@ fn set_from(owners: &mut [u16], from: usize, n: usize, x: u16)
     requires { n ≤ length owners.old }
     ensures { SetFrom from n x owners.old owners.new }
 {
-    for i in from..n {
-        owners[i] = x;
+    if from < n {
+        owners[from..n].fill(x);
     }
 }
 
@@ -393,6 +393,8 @@ fn pairs_in(bytes: &[u8], at: usize, n: usize) -> Pairs
 }
 
 // ---- bindings
+
+// Variables and ambients are two tables of bindings, by keys of two types, and a loop says of each what its own `insert` does: two functions.
 
 // A slot for each variable: as the file has them where they are in order, with keys below the limit.
 fn vars_in(columns: &[u8], n: usize) -> VarEls

@@ -60,6 +60,8 @@ fn cell(row: &Row, j: usize) -> u16
 
 // ---- bytes into a buffer
 
+// Each begins at an index of the buffer and gives the one where it ends. With a slice from there on each caller would have to add up what was written before.
+
 // A byte each.
 fn put_bytes<T: InByte>(values: &[T], buffer: &mut [u8], at: usize) -> usize
     requires { at + length values.now ≤ length buffer.old }
@@ -285,7 +287,7 @@ fn fill_slots(rows: &mut [Row], slots: &[Slot]) -> usize
 
 // ---- the chains of facts
 
-// The next index of each fact.
+// The next index of each fact. The index tells two neighbours and the place that is written.
 fn nexts_of(table: Facts) -> [u16; Structure::MAX_FACTS]
     ensures { take (length (facts_of table)) result ≡ nexts (facts_of table) }
 {
