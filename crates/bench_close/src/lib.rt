@@ -7,10 +7,9 @@ ghost use Rattle.std.specs.Prelude.{◌<◌, ◌≤◌};
 use conflicts::{Conflicting, TypeConflicts};
 use facts::Fact;
 use file_rows::File;
-use loading::{Loaded, Loading};
+use loading::Loading;
 use records::Record;
 use signature::Signature;
-use storing::Stored;
 use structure::{Answer, Closed, Machine, Stepped, Structure};
 
 // The calls of a sheet that are timed.
@@ -254,8 +253,8 @@ pub extern "C" fn bench_nothing(bytes: &[u8], times: u64, out: &mut [u64; 5]) {
 }
 
 // How many bytes were stored, and a byte of the file; which one is known only when the program runs.
-fn keep_stored(stored: Stored, file: &[u8; File::MAX_BYTES], i: u64, out: &mut [u64; 5]) {
-    if let Stored::Bytes(n) = stored {
+fn keep_stored(stored: Result<usize, u16>, file: &[u8; File::MAX_BYTES], i: u64, out: &mut [u64; 5]) {
+    if let Ok(n) = stored {
         out[0] = n as u64;
     }
     let at = place(out, i, File::MAX_BYTES as u64);
@@ -267,10 +266,10 @@ fn keep_loaded(loading: Loading, i: u64, out: &mut [u64; 5]) {
     let at = place(out, i, Structure::MAX_FACTS as u64);
     out[3] = u64::from(read_of(loading.structure, at));
     match loading.answer {
-        Loaded::Done => {
+        Ok(()) => {
             out[0] = File::MAX_BYTES as u64;
         }
-        Loaded::Refused(number) => {
+        Err(number) => {
             out[0] = 0;
             out[1] = u64::from(number);
         }
@@ -299,7 +298,7 @@ pub extern "C" fn bench_store(bytes: &[u8], times: u64, out: &mut [u64; 5]) {
 pub extern "C" fn bench_load(bytes: &[u8], times: u64, out: &mut [u64; 5]) {
     let run = driver::run(bytes).machine;
     let mut file = [0u8; File::MAX_BYTES];
-    storing::store(run.structure, &mut file);
+    let _ = storing::store(run.structure, &mut file);
     for i in 0..times {
         file[File::MAX_BYTES - 2] = (out[3] % 2) as u8;
         keep_loaded(loading::load(run.signature, &file[..]), i, out);

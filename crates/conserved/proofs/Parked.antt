@@ -28,8 +28,8 @@ use Rattle.history.proofs.SecondClose.{no_change}
 use Rattle.validity.proofs.Calls.{ValidMachine}
 use Rattle.validity.proofs.Parents.{first_twos_below, conflicts_first_two}
 use Rattle.file.specs.File.{store, store_causes, store_into, load}
-use Rattle.loading.specs.declared.Loaded.{Loaded}
-use Rattle.loading.specs.declared.Loaded.TheVariants as loadeds
+use Rattle.std.specs.declared.result.Result.{Result}
+use Rattle.std.specs.declared.result.Result.TheVariants.{Ok, Err}
 use Rattle.loading.specs.declared.Loading.{Loading}
 use Rattle.loading.specs.View.{LoadingM, loading, answer_of}
 use Rattle.parking.specs.Parking.{Act, Notes, no_notes, taken_down, Parked, parked, State}
@@ -81,15 +81,15 @@ answers_itself (accepted x) = refl
 answers_itself (refused n) = refl
 
 module _ {v : Machine} {files : List (List ℕ)} {s : State} (at : Stands v files s) where
-  with_loaded_lem : (o : Loaded) (x : Structure) (given : Option Notes)
+  with_loaded_lem : (o : Result Unit ℕ) (x : Structure) (given : Option Notes)
       → Comes (with_loaded o x v) files (noted_load o given s.notes) s.files (loaded (answer_of o (structure_of x)) given s)
   unfolding loaded
-  with_loaded_lem loadeds.Done x given = record {
+  with_loaded_lem (Ok u) x given = record {
     stands = record { machine = ap (λ (m : calls.Machine). machine m.sig (structure_of x)) at.machine; files = at.files };
     notes = refl;
     parked = refl;
   }
-  with_loaded_lem (loadeds.Refused n) x given = record { stands = at; notes = refl; parked = refl }
+  with_loaded_lem (Err n) x given = record { stands = at; notes = refl; parked = refl }
 
   after_load : (κs : Lfts 1) (bytes : Lent) (r : Loading) (given : Option Notes) → Loads v κs bytes r
       → Comes (with_loaded r.answer r.structure v) files (noted_load r.answer given s.notes) s.files

@@ -1,16 +1,15 @@
 -- A list of calls, stores, loads and shutdowns (02, M-104) that the code made, by what its functions' contracts say of the values that they take and give.
 use Rattle.std.specs.Prelude.{ℕ, ◌≡◌, List, [], ◌∷◌, ◌++◌, length, take}
 use Rattle.std.proofs.Math.Option.{Option, none, some, map}
+use Rattle.std.specs.declared.result.Result.{Result}
+use Rattle.std.specs.declared.result.Result.TheVariants.{Ok, Err}
 use contract.Lifetimes.{Lfts}
 use Rattle.std.specs.Borrow.{Bor, MutBor}
 use Rattle.signature.specs.Model.{Sig, sig_of}
 use Rattle.semantics.specs.Calls.{Call, Answer}
 use Rattle.structure.specs.declared.Structure.{Structure}
 use Rattle.structure.specs.declared.Machine.{Machine}
-use Rattle.storing.specs.declared.Stored.TheVariants as stored
 use Rattle.storing.proofs.store.Reads as store-fn
-use Rattle.loading.specs.declared.Loaded.{Loaded}
-use Rattle.loading.specs.declared.Loaded.TheVariants as loadeds
 use Rattle.loading.specs.declared.Loading.{Loading}
 use Rattle.loading.proofs.load.Reads as load_fn
 use Rattle.parking.specs.Parking as parking
@@ -27,16 +26,16 @@ LentMut = MutBor (List ℕ)
 
 -- `store` wrote n bytes into a buffer, and left it so
 abbrev pub Stores : Machine → Lfts 1 → LentMut → ℕ → LentMut → Type 0
-Stores v κs buffer n after = store-fn.Learnt κs (v.structure, (buffer, tt)) (stored.Bytes n) (v.structure, (after, tt))
+Stores v κs buffer n after = store-fn.Learnt κs (v.structure, (buffer, tt)) (Ok n) (v.structure, (after, tt))
 
 -- `load` of these bytes gave r
 abbrev pub Loads : Machine → Lfts 1 → Lent → Loading → Type 0
 Loads v κs bytes r = load_fn.Learnt κs (v.signature, (bytes, tt)) r (v.signature, (bytes, tt))
 
 -- the values after a load: with the structure that it gave, or as they were
-abbrev pub with_loaded : Loaded → Structure → Machine → Machine
-with_loaded loadeds.Done s v = with_structure s v
-with_loaded (loadeds.Refused n) s v = v
+abbrev pub with_loaded : Result Unit ℕ → Structure → Machine → Machine
+with_loaded (Ok u) s v = with_structure s v
+with_loaded (Err n) s v = v
 
 -- Acts were done one after the other, each on the values that the one before it left, with the bytes of the files kept so far, the first of them first.
 -- A store that is refused keeps no file, and a load of a file that is not kept is none: neither is an act of the list.
@@ -59,9 +58,9 @@ pub data Did : Machine → List (List ℕ) → List Act → Machine → List (Li
 -- What is noted of the acts, by the code's own answers and values, from what was noted and kept before them.
 
 -- after a load: what is noted of the structure that it gave, or what was noted
-abbrev pub noted_load : Loaded → Option Notes → Option Notes → Option Notes
-noted_load loadeds.Done given known = given
-noted_load (loadeds.Refused n) given known = known
+abbrev pub noted_load : Result Unit ℕ → Option Notes → Option Notes → Option Notes
+noted_load (Ok u) given known = given
+noted_load (Err n) given known = known
 
 -- of a file that is kept, under a signature
 abbrev pub noted_at : Sig → Option Parked → Option Notes

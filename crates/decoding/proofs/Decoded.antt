@@ -22,7 +22,7 @@ use Rattle.file.specs.Rows.{fact_columns, func_app_columns, pred_app_columns, im
 use Rattle.file.specs.File.{Head, counts, limits, sizes, any_over, in_order, owner, facts_from, content_from, content_in, structure_in}
 use Rattle.file.proofs.LayoutLaws.{part_at, rows_take}
 use Rattle.decoding.specs.declared.Places.{Places}
-use Rattle.decoding.specs.View.{PlacesOf, Fits, Owners, facts_owned, Keyed}
+use Rattle.decoding.specs.View.{PlacesOf, Fits, facts_owned, Keyed}
 
 -- Counts.
 
@@ -75,14 +75,14 @@ facts_snoc i fs (q ∷ rows) r =
     (facts_snoc (suc i) fs rows r ∙ ap (λ (m : ℕ). facts_from (suc i) fs rows ++ (fact_in (owner m fs) r ∷ [])) same)
 
 -- the owners tell the elements of the facts
-facts_owned_lem : (firsts : List ℕ) (n : ℕ) (owners : List ℕ) → Owners firsts n owners → (row : ℕ → List ℕ) (m : ℕ) → m ≤ n
+facts_owned_lem : (firsts : List ℕ) (n : ℕ) (owners : List ℕ) → ((i : ℕ) → i < n → get_or owners i 0 ≡ owner (suc i) firsts) → (row : ℕ → List ℕ) (m : ℕ) → m ≤ n
     → map (λ (i : ℕ). fact_in (get_or owners i 0) (row i)) (up_to m) ≡ facts_from 1 firsts (map row (up_to m))
 unfolding facts_from up_to
 facts_owned_lem firsts n owners o row zero h = refl
 facts_owned_lem firsts n owners o row (suc m) h =
     let each : ℕ → Fact = λ i. fact_in (get_or owners i 0) (row i) in
     let last : get_or owners m 0 ≡ owner (1 + length (map row (up_to m))) firsts =
-    o.each m h ∙ ap (λ (j : ℕ). owner j firsts) (omega (arith, length-map (up_to m) row, up_to_length m)) in
+    o m h ∙ ap (λ (j : ℕ). owner j firsts) (omega (arith, length-map (up_to m) row, up_to_length m)) in
     map-append each (up_to m) (m ∷ [])
     ∙ (λ i. facts_owned_lem firsts n owners o row m (omega arith) i ++ fact_in (last i) (row m) ∷ [])
     ∙ sym (ap (facts_from 1 firsts) (map-append row (up_to m) (m ∷ [])) ∙ facts_snoc 1 firsts (map row (up_to m)) (row m))
@@ -107,7 +107,7 @@ pub record Room (h : Head) (p : Places) (n : ℕ) : Type 0 where
 pub record Reads (h : Head) (p : Places) (bytes owners : List ℕ) (s : Structure) : Type 0 where
   pub links : s.links ≡ take h.els (drop p.links bytes)
   pub marks : s.marks ≡ map bit_in (take h.els (drop p.marks bytes))
-  pub owned : Owners (words (take (2 * h.els) (drop p.firsts bytes))) h.facts owners
+  pub owned : (i : ℕ) → i < h.facts → get_or owners i 0 ≡ owner (suc i) (words (take (2 * h.els) (drop p.firsts bytes)))
   pub facts : s.facts ≡ facts_owned owners h.facts (drop p.facts bytes)
   pub func_apps : s.func_apps ≡ map func_app_in (rows_in func_app_columns h.func_apps (drop p.func_apps bytes))
   pub pred_apps : s.pred_apps ≡ map pred_app_in (rows_in pred_app_columns h.pred_apps (drop p.pred_apps bytes))

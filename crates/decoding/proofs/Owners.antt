@@ -7,36 +7,17 @@ use Prim.Native.Nat.{ℕ, zero, suc, ◌+◌, ◌-◌, ◌*◌, ◌≤◌, ◌<�
 use native.Mathlib.Nat.{add-zero}
 use native.Mathlib.Numerals.{add-one}
 use native.Mathlib.Omega.{arith}
-use lib.ListN.{length, take, drop, get_or, set, replicate, length-replicate, length-set, length-take, length-drop}
-use lib.Seq.{get_or-set_same, get_or-set_other, get_or-take, take-suc, take_all, drop-drop, length-take-le}
+use lib.ListN.{length, take, drop, get_or, replicate, length-replicate, length-take}
+use lib.Seq.{get_or-take, take-suc, take_all, length-take-le}
 use lib.Dec.{ltb, leb}
 use borrow.Author.Tests.{lt-ltb, le-leb, lt-leb}
-use Rattle.unification.proofs.Numbers.{less_or, same_or}
+use Rattle.unification.proofs.Numbers.{less_or}
 use Rattle.semantics.specs.Structure.{max_facts}
 use Rattle.semantics.specs.Sheet.{words}
 use Rattle.file.specs.File.{owner, owner_from}
 use Rattle.file.proofs.LayoutLaws.{words_take, words_length}
 use Rattle.decoding.specs.View.{SetFrom, Owners}
 use Rattle.decoding.proofs.Reading.{word_at}
-
--- Entries set to one number.
-
-module _ (from x : ℕ) (before : List ℕ) where
-  pub set_none : SetFrom from from x before before
-  set_none = record { below = λ i h. refl; set = λ i h g. absurd (omega arith); long = refl }
-
-  pub set_next : {after : List ℕ} {i : ℕ} → from ≤ i → i < length before → SetFrom from i x before after → SetFrom from (i + 1) x before (set after i x)
-  set_next {after} {i} h room s =
-      let there : i < length after = omega (arith, s.long) in
-      record {
-        below = λ j g. get_or-set_other after i j x 0 (λ (e : j ≡ i). omega arith) ∙ s.below j g;
-        set = λ j g l.
-            ⊎_elim (λ (e : j ≡ i). rw e (get_or-set_same after i x 0 there)) (λ n. get_or-set_other after i j x 0 n ∙ s.set j g (omega arith)) (same_or j i);
-        long = length-set after i x ∙ s.long;
-      }
-
-  pub set_all : {after : List ℕ} {i : ℕ} (n : ℕ) → n ≤ i → SetFrom from i x before after → SetFrom from n x before after
-  set_all n h s = record { below = s.below; set = λ j g l. s.set j g (omega arith); long = s.long }
 
 -- Owners.
 
@@ -104,9 +85,9 @@ owners_none firsts n = record { each = λ i h. zero_at max_facts i; long = lengt
 
 -- The chains of a file.
 
-module _ (bytes : List ℕ) (at els n : ℕ) where
+module _ (heads : List ℕ) (els n : ℕ) where
   abbrev firsts : List ℕ
-  firsts = words (take (2 * els) (drop at bytes))
+  firsts = words (take (2 * els) heads)
 
   -- the first e elements are looked at
   pub record Owned (list : List ℕ) (e : ℕ) : Type 0 where
@@ -116,18 +97,15 @@ module _ (bytes : List ℕ) (at els n : ℕ) where
   pub owned_none : Owned (replicate max_facts 0) 0
   owned_none = record { few = omega arith; owners = owners_none firsts n }
 
-  module _ (room : at + 2 * els ≤ length bytes) {list : List ℕ} {e : ℕ} (so_far : Owned list e) where
+  module _ (room : 2 * els ≤ length heads) {list : List ℕ} {e : ℕ} (so_far : Owned list e) where
     many : length firsts ≡ els
-    many = words_length els (take (2 * els) (drop at bytes)) (length-take-le (2 * els) (drop at bytes) (omega (arith, length-drop at bytes)))
+    many = words_length els (take (2 * els) heads) (length-take-le (2 * els) heads room)
 
     -- the first index of the element, as it is read
-    module _ {w : ℕ} (h : e < els) (is : w ≡ get_or (words (drop (at + 2 * e) bytes)) 0 0) where
+    module _ {w : ℕ} (h : e < els) (is : w ≡ get_or (words (drop (2 * e) heads)) 0 0) where
       first_is : w ≡ get_or firsts e 0
       first_is =
-          is
-          ∙ ap (λ (l : List ℕ). get_or (words l) 0 0) (sym (drop-drop (2 * e) at bytes))
-          ∙ word_at (drop at bytes) e
-          ∙ sym (ap (λ (l : List ℕ). get_or l e 0) (words_take els (drop at bytes)) ∙ get_or-take els (words (drop at bytes)) e 0 h)
+          is ∙ word_at heads e ∙ sym (ap (λ (l : List ℕ). get_or l e 0) (words_take els heads) ∙ get_or-take els (words heads) e 0 h)
 
       pub owned_skip : w ≡ 0 → Owned list (e + 1)
       owned_skip z = record {

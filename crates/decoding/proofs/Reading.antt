@@ -1,22 +1,23 @@
 -- Laws of what is read out of a file: words, counts, the numbers and lists of a row, arrays that are filled.
-use mathlib.Core.Path.{◌≡◌, refl, sym, ap, ◌∙◌}
+use mathlib.Core.Path.{◌≡◌, refl, sym, ap, subst, ◌∙◌}
+use mathlib.Core.Logic.{⊎_elim}
 use mathlib.Core.Bool.{Bool, true, false, ◌||◌}
 use mathlib.Core.List.{List, [], ◌∷◌, ◌++◌, map, map-append, map-map, map-id}
-use Prim.Native.Nat.{ℕ, zero, suc, ◌+◌, ◌*◌, ◌≤◌, ◌<◌}
+use Prim.Native.Nat.{ℕ, zero, suc, ◌+◌, ◌-◌, ◌*◌, ◌≤◌, ◌<◌}
 use native.Mathlib.Omega.{arith}
 use native.Mathlib.Nat.{add-zero, mul-le-mul_right}
 use native.Mathlib.Numerals.{add-one}
-use lib.ListN.{length, take, drop, get_or, set, length-set, length-take, length-drop, drop_of_length-le}
-use lib.Seq.{get_or-take, get_or-drop, drop-nil}
-use lib.Dec.{ltb}
-use borrow.Author.Tests.{lt-ltb, le-ltb}
+use lib.ListN.{length, take, drop, get_or, set, length-map, length-set, length-take, length-drop, drop_of_length-le}
+use lib.Seq.{get_or-take, get_or-drop, get_or-set_same, get_or-set_other, take-suc, take-suc-set, take_all, length-take-le, drop-nil}
+use Rattle.std.proofs.lemmas.List.{take-append-le}
+use Rattle.unification.proofs.Numbers.{same_or}
 use Rattle.ids.proofs.Views.{view_pushed}
 use Rattle.unification.specs.Roots.{up_to}
 use Rattle.semantics.specs.Sheet.{words}
 use Rattle.file.specs.Layout.{row_in, rows_in}
 use Rattle.file.specs.Rows.{list_at}
-use Rattle.file.specs.File.{any_over}
 use Rattle.file.proofs.LayoutLaws.{entries}
+use Rattle.decoding.specs.View.{Said}
 
 -- Words.
 
@@ -32,22 +33,26 @@ word_at (x ∷ y ∷ xs) (suc i) =
 
 -- Counts.
 
--- one count that is over its limit, or is not
-module _ (n l : ℕ) (ns ls : List ℕ) where
-  pub over_here : l < n → true ≡ any_over (n ∷ ns) (l ∷ ls)
-  unfolding any_over
-  over_here h = rw (lt-ltb l n h)
+-- the tests as the code joins them
+pub eight_tests : (a b c d e f g h : Bool) → (((((((a || b) || c) || d) || e) || f) || g) || h) ≡ (a || (b || (c || (d || (e || (f || (g || (h || false))))))))
+eight_tests true b c d e f g h = refl
+eight_tests false true c d e f g h = refl
+eight_tests false false true d e f g h = refl
+eight_tests false false false true e f g h = refl
+eight_tests false false false false true f g h = refl
+eight_tests false false false false false true g h = refl
+eight_tests false false false false false false true h = refl
+eight_tests false false false false false false false true = refl
+eight_tests false false false false false false false false = refl
 
-  pub over_past : {R : Bool} → n ≤ l → R ≡ any_over ns ls → R ≡ any_over (n ∷ ns) (l ∷ ls)
-  unfolding any_over
-  over_past h e = rw (le-ltb l n h) e
+-- Values of bytes.
 
-pub over_last : (n l : ℕ) → ltb l n ≡ any_over (n ∷ []) (l ∷ [])
-unfolding any_over
-over_last n l = or_none (ltb l n) where
-  or_none : (b : Bool) → b ≡ (b || false)
-  or_none true = refl
-  or_none false = refl
+-- one value more
+pub read_more : {A : Type 0} (f : ℕ → A) (values : List A) (bytes : List ℕ) {i : ℕ} {v : A} → take i values ≡ map f (take i bytes) → i < length values → i < length bytes
+    → v ≡ f (get_or bytes i 0) → take (i + 1) (set values i v) ≡ map f (take (i + 1) bytes)
+read_more f values bytes {i} {v} so_far h g is =
+    rw (add-one i, take-suc-set values i v h, take-suc bytes i 0 g)
+    ((λ k. so_far k ++ is k ∷ []) ∙ sym (map-append f (take i bytes) (get_or bytes i 0 ∷ [])))
 
 -- Numbers and lists of a row.
 
@@ -115,18 +120,9 @@ row_cells (suc k) n bytes i =
     let cell-of : ℕ → ℕ = λ j. get_or bytes (j * n + i) 0 in
     map-append cell-of (up_to k) (k ∷ []) ∙ ap (λ (l : List ℕ). l ++ (cell-of k ∷ [])) (row_cells k n bytes i)
 
--- a cell's place, where the column's begins at `from`
-pub cell_from : (bytes : List ℕ) (at from j n i : ℕ) → from ≡ at + j * n → get_or bytes (from + i) 0 ≡ get_or (drop at bytes) (j * n + i) 0
-cell_from bytes at from j n i e =
-    let there : from + i ≡ at + (j * n + i) = omega arith in
-    ap (λ (p : ℕ). get_or bytes p 0) there ∙ sym (get_or-drop at bytes (j * n + i) 0)
-
-pub next_column : (at j n : ℕ) → at + j * n + n ≡ at + (j + 1) * n
-next_column at j n = omega arith
-
 -- a column ends before the last does
-pub column_ends : (at j k n : ℕ) → j < k → at + j * n + n ≤ at + k * n
-column_ends at j k n h = omega (arith, mul-le-mul_right {m = suc j} {n = k} n h)
+pub column_ends : (j k n : ℕ) → j < k → j * n + n ≤ k * n
+column_ends j k n h = omega (arith, mul-le-mul_right {m = suc j} {n = k} n h)
 
 -- a table whose entries are read off the numbers of a list and rows
 module _ {A B : Type 0} (g : A → B) (f : ℕ → List ℕ → B) (k n limit : ℕ) (xs bytes : List ℕ) where
@@ -138,15 +134,60 @@ module _ {A B : Type 0} (g : A → B) (f : ℕ → List ℕ → B) (k n limit : 
   read_with {i = i} so_far l q e is =
       filled_next g (λ (j : ℕ). f (get_or xs j 0) (row_in k n bytes j)) n limit so_far l q (e ∙ ap (f (get_or xs i 0)) is)
 
--- a table whose entries are read off rows alone
-module _ {A B : Type 0} (g : A → B) (f : List ℕ → B) (k n limit : ℕ) (bytes : List ℕ) where
-  abbrev pub Read : List A → ℕ → Type 0
-  Read ys i = ReadWith g (λ (x : ℕ). f) k n limit [] bytes ys i
+-- Entries that rows say.
 
-  module _ {ys : List A} {i : ℕ} (so_far : Read ys i) where
-    pub read_next : {v : A} {row : List ℕ} → i < n → n ≤ limit → g v ≡ f row → row ≡ row_in k n bytes i → Read (set ys i v) (i + 1)
-    read_next l q e is = read_with g (λ (x : ℕ). f) k n limit [] bytes so_far l q e is
+module _ {A : Type 0} (Says : A → List ℕ → Type 0) (k n : ℕ) (columns : List ℕ) where
+  pub said_none : (entries : List A) → length entries ≡ n → Said Says k n columns entries 0
+  said_none entries e = record { each = λ d j h. absurd (omega arith); long = e }
 
-    pub read_all : n ≤ i → map g (take n ys) ≡ map f (rows_in k n bytes)
-    unfolding rows_in
-    read_all l = filled_all g (λ (j : ℕ). f (row_in k n bytes j)) n limit so_far l ∙ sym (map-map f (row_in k n bytes) (up_to n))
+  pub said_next : {entries : List A} {i : ℕ} {v : A} {row : List ℕ} → Said Says k n columns entries i → i < n → Says v row → row ≡ row_in k n columns i
+      → Said Says k n columns (set entries i v) (i + 1)
+  said_next {entries} {i} {v} s h says is = record {
+    each = λ d j g.
+        ⊎_elim
+        (λ (e : j ≡ i). rw (e, get_or-set_same entries i v d (omega (arith, s.long))) (subst (Says v) is says))
+        (λ m. rw (get_or-set_other entries i j v d m) (s.each d j (omega arith))) (same_or j i);
+    long = length-set entries i v ∙ s.long;
+  }
+
+-- as the definitions speak of them
+module _ {A B : Type 0} (f : A → B) (g : List ℕ → B) (d : A) {k n : ℕ} {columns : List ℕ} {entries : List A}
+    (s : Said (λ (x : A) (row : List ℕ). f x ≡ g row) k n columns entries n) where
+  said_to : (i : ℕ) → i ≤ n → map f (take i entries) ≡ map (λ (j : ℕ). g (row_in k n columns j)) (up_to i)
+  unfolding up_to
+  said_to zero h = refl
+  said_to (suc i) h =
+      rw (take-suc entries i d (omega (arith, s.long)))
+      (map-append f (take i entries) (get_or entries i d ∷ [])
+      ∙ (λ m. said_to i (omega arith) m ++ s.each d i (omega arith) m ∷ [])
+      ∙ sym (map-append (λ (j : ℕ). g (row_in k n columns j)) (up_to i) (i ∷ [])))
+
+  said_rows : map f (take n entries) ≡ map g (rows_in k n columns)
+  unfolding rows_in
+  said_rows = said_to n (omega arith) ∙ sym (map-map g (row_in k n columns) (up_to n))
+
+-- What stands from an index on.
+
+pub from_on : (at : ℕ) (bytes : List ℕ) → take (length bytes - at) (drop at bytes) ≡ drop at bytes
+from_on at bytes = take_all (length bytes - at) (drop at bytes) (omega (arith, length-drop at bytes))
+
+-- entries that the rows from there on say, whatever stands past them
+pub table_said : {A B : Type 0} (f : A → B) (g : List ℕ → B) (d : A) {k n m : ℕ} (at : ℕ) (bytes : List ℕ) {entries : List A}
+    → Said (λ (x : A) (row : List ℕ). f x ≡ g row) k n (take (length bytes - at) (drop at bytes)) entries n → m ≡ n → (rest : List A)
+    → map f (take m (entries ++ rest)) ≡ map g (rows_in k m (drop at bytes))
+table_said f g d {k} {n} {m} at bytes {entries} s is rest =
+    rw is
+    (ap (map f) (take-append-le n entries rest (omega (arith, s.long)))
+    ∙ said_rows f g d s
+    ∙ ap (λ (l : List ℕ). map g (rows_in k n l)) (from_on at bytes))
+
+-- values of bytes, whatever stands past them
+pub bytes_said : {A : Type 0} (f : ℕ → A) (at : ℕ) (bytes : List ℕ) {values : List A} {k n : ℕ} → values ≡ map f (take k (take (length bytes - at) (drop at bytes)))
+    → n ≡ k → at + k ≤ length bytes → (rest : List A) → take n (values ++ rest) ≡ map f (take n (drop at bytes))
+bytes_said {A} f at bytes {values} {k} {n} e is h rest =
+    let told : values ≡ map f (take k (drop at bytes)) = e ∙ ap (λ (l : List ℕ). map f (take k l)) (from_on at bytes) in
+    let many : length values ≡ k =
+    ap length told ∙ length-map (take k (drop at bytes)) f ∙ length-take-le k (drop at bytes) (omega (arith, length-drop at bytes)) in
+    take-append-le n values rest (omega arith)
+    ∙ take_all n values (omega arith)
+    ∙ told ∙ ap (λ (j : ℕ). map f (take j (drop at bytes))) (sym is)

@@ -45,6 +45,11 @@ pub record Fits (h : file.Head) (bytes : List ℕ) : Type 0 where
   pub long : length bytes ≡ sum (sizes h)
   pub most : any_over (counts h) limits ≡ false
 
+-- the first i of n entries are those that the rows in k columns say
+pub record Said {A : Type 0} (Says : A → List ℕ → Type 0) (k n : ℕ) (columns : List ℕ) (entries : List A) (i : ℕ) : Type 0 where
+  pub each : (d : A) (j : ℕ) → j < i → Says (get_or entries j d) (row_in k n columns j)
+  pub long : length entries ≡ n
+
 -- some entries of an array were set to one number: those from an index up to n
 pub record SetFrom (from n x : ℕ) (before after : List ℕ) : Type 0 where
   pub below : (i : ℕ) → i < from → get_or after i 0 ≡ get_or before i 0

@@ -1,7 +1,7 @@
 // Reading a file (02, M-104; docs/FILE.md): its counts, and the structure that its bytes say. Nothing is judged here.
 #![tactic(auto)]
 
-ghost use Rattle.std.specs.Prelude.{◌≡◌, true, [], ◌∷◌, map, reverse, ◌+◌, ◌*◌, ◌≤◌, ◌<◌, length, take, drop};
+ghost use Rattle.std.specs.Prelude.{◌≡◌, true, ℕ, List, [], ◌∷◌, map, reverse, ◌+◌, ◌*◌, ◌≤◌, ◌<◌, length, take, drop};
 ghost use Rattle.ids.specs.Ids.{els_of};
 ghost use Rattle.ids.specs.Sorted.{All};
 ghost use Rattle.unification.specs.Roots.{max_els};
@@ -11,13 +11,13 @@ ghost use Rattle.semantics.specs.Sheet.{words};
 ghost use Rattle.facts.specs.View.{fact_of, facts_of, impositions_of};
 ghost use Rattle.apps.specs.View.{func_app_of, func_apps_of, pred_app_of, pred_apps_of};
 ghost use Rattle.bindings.specs.View.{vars_of, ambients_of};
-ghost use Rattle.equalities.specs.View.{pairs_of};
+ghost use Rattle.equalities.specs.View.{pair_of, pairs_of};
 ghost use Rattle.structure.specs.View.{structure_of};
 ghost use Rattle.file.specs.Layout.{row_in, rows_in};
 ghost use Rattle.file.specs.Rows.{fact_columns, func_app_columns, pred_app_columns, imposition_columns, pair_columns, fact_in, func_app_in, pred_app_in};
 ghost use Rattle.file.specs.Rows.{imposition_in, var_in, ambient_in, pair_in, bit_in};
 ghost use Rattle.file.specs.File.{counts, limits, head_in, any_over, in_order, content_in, structure_in};
-ghost use Rattle.decoding.specs.View.{head_view, PlacesOf, Fits, SetFrom, Owners, facts_owned, Keyed};
+ghost use Rattle.decoding.specs.View.{head_view, Said, PlacesOf, Fits, SetFrom, Owners, facts_owned, Keyed};
 
 use apps::{FuncApp, FuncApps, PredApp, PredApps};
 use bindings::{AmbientEl, AmbientEls, VarEl, VarEls};
@@ -76,32 +76,18 @@ pub fn head_in(bytes: &[u8]) -> Head
 }
 
 impl Head {
-    // Whether some count is over the limit of its table.
+    // Whether some count is over the limit of its table. `|` has no branch, so that the proof has one path.
     pub fn is_over(self) -> bool
         ensures { result ≡ any_over (counts (head_view self)) limits }
     {
-        if Structure::MAX_ELS < self.els as usize {
-            return true;
-        }
-        if Structure::MAX_FACTS < self.facts as usize {
-            return true;
-        }
-        if Structure::MAX_FUNC_APPS < self.func_apps as usize {
-            return true;
-        }
-        if Structure::MAX_PRED_APPS < self.pred_apps as usize {
-            return true;
-        }
-        if Structure::MAX_IMPOSITIONS < self.impositions as usize {
-            return true;
-        }
-        if Structure::MAX_VARS < self.vars as usize {
-            return true;
-        }
-        if Signature::MAX_TYPES < self.ambients as usize {
-            return true;
-        }
-        Structure::MAX_PAIRS < self.pairs as usize
+        (Structure::MAX_ELS < self.els as usize)
+            | (Structure::MAX_FACTS < self.facts as usize)
+            | (Structure::MAX_FUNC_APPS < self.func_apps as usize)
+            | (Structure::MAX_PRED_APPS < self.pred_apps as usize)
+            | (Structure::MAX_IMPOSITIONS < self.impositions as usize)
+            | (Structure::MAX_VARS < self.vars as usize)
+            | (Signature::MAX_TYPES < self.ambients as usize)
+            | (Structure::MAX_PAIRS < self.pairs as usize)
     }
 
     pub fn places(self) -> Places
@@ -136,26 +122,84 @@ impl Head {
     }
 }
 
-// ---- rows
+// ---- bytes
 
-fn wide(b: u8) -> u16
-    ensures { result ≡ b }
-{
-    b as u16
+// What one byte of a file says.
+trait InByte: Copy {
+    ghost of_byte: { ℕ → Self };
+
+    fn of_byte(b: u8) -> Self
+        ensures { result ≡ of_byte b };
 }
 
-// Row i of n rows that stand in k columns from an index on.
-fn row_at(bytes: &[u8], at: usize, n: usize, k: usize, i: usize) -> Row
-    requires { (i < n) × ((k ≤ 12) × ((n ≤ max_facts) × (at + k * n ≤ length bytes.now))) }
-    ensures { take k result ≡ row_in k n (drop at bytes.now) i }
+impl InByte for u16 {
+    ghost of_byte = { λ b. b };
+
+    fn of_byte(b: u8) -> u16 {
+        u16::from(b)
+    }
+}
+
+impl InByte for bool {
+    ghost of_byte = { bit_in };
+
+    fn of_byte(b: u8) -> bool {
+        b == 1
+    }
+}
+
+// A value from each byte.
+fn read_bytes<T: InByte>(values: &mut [T], bytes: &[u8])
+    requires { length values.old ≤ length bytes.now }
+    ensures { values.new ≡ map T.of_byte (take (length values.old) bytes.now) }
+{
+    for (i, byte) in bytes[..values.len()].iter().enumerate() {
+        values[i] = T::of_byte(*byte);
+    }
+}
+
+// ---- rows
+
+// Row i of n rows that stand in k columns.
+fn row_at(columns: &[u8], n: usize, k: usize, i: usize) -> Row
+    requires { (i < n) × ((k ≤ 12) × ((n ≤ max_facts) × (k * n ≤ length columns.now))) }
+    ensures { take k result ≡ row_in k n columns.now i }
 {
     let mut row = [0u16; WIDTH];
-    let mut from = at;
+    let mut from = i;
     for j in 0..k {
-        row[j] = wide(bytes[from + i]);
+        row[j] = u16::from(columns[from]);
         from += n;
     }
     row
+}
+
+// A table whose entries stand in rows. The view of an entry is of another type for each table, so that a relation says what a row says of it.
+trait Table {
+    type Entry: Copy;
+
+    const COLUMNS: usize;
+
+    ghost COLUMNS: { ℕ };
+
+    // An entry is the one that a row says.
+    ghost Says: { Self.Entry → List ℕ → Type 0 };
+
+    fn entry(row: Row) -> Self::Entry
+        ensures { Says result (take COLUMNS row) };
+}
+
+// As many entries as there is room for, by columns.
+fn read_table<T: Table>(entries: &mut [T::Entry], columns: &[u8])
+    requires narrow { T.COLUMNS ≤ 12 }
+    requires many { length entries.old ≤ max_facts }
+    requires bytes { T.COLUMNS * length entries.old ≤ length columns.now }
+    ensures { Said T.Says T.COLUMNS (length entries.old) columns.now entries.new (length entries.old) }
+{
+    let n = entries.len();
+    for i in 0..n {
+        entries[i] = T::entry(row_at(columns, n, T::COLUMNS, i));
+    }
 }
 
 // ---- entries of rows
@@ -177,39 +221,75 @@ fn fact_of(row: Row, el: u16) -> Fact
     Fact::new(ElId(el), TypeId(row[0]), parents)
 }
 
-fn imposition_of(row: Row) -> Fact
-    ensures { fact_of result ≡ imposition_in (take imposition_columns row) }
-{
-    let parents = list_of(row[2], row[3], row[4], row[5], row[6]);
-    Fact::new(ElId(row[0]), TypeId(row[1]), parents)
+impl Table for Impositions {
+    type Entry = Fact;
+
+    const COLUMNS: usize = File::IMPOSITION_COLUMNS;
+
+    ghost COLUMNS = { imposition_columns };
+
+    ghost Says = { λ f row. fact_of f ≡ imposition_in row };
+
+    fn entry(row: Row) -> Fact {
+        let parents = list_of(row[2], row[3], row[4], row[5], row[6]);
+        Fact::new(ElId(row[0]), TypeId(row[1]), parents)
+    }
 }
 
-fn func_app_of(row: Row) -> FuncApp
-    ensures { func_app_of result ≡ func_app_in (take func_app_columns row) }
-{
-    let parents = list_of(row[1], row[2], row[3], row[4], row[5]);
-    let args = list_of(row[6], row[7], row[8], row[9], row[10]);
-    FuncApp::new(FuncId(row[0]), parents, args, ElId(row[11]))
+impl Table for FuncApps {
+    type Entry = FuncApp;
+
+    const COLUMNS: usize = File::FUNC_APP_COLUMNS;
+
+    ghost COLUMNS = { func_app_columns };
+
+    ghost Says = { λ x row. func_app_of x ≡ func_app_in row };
+
+    fn entry(row: Row) -> FuncApp {
+        let parents = list_of(row[1], row[2], row[3], row[4], row[5]);
+        let args = list_of(row[6], row[7], row[8], row[9], row[10]);
+        FuncApp::new(FuncId(row[0]), parents, args, ElId(row[11]))
+    }
 }
 
-fn pred_app_of(row: Row) -> PredApp
-    ensures { pred_app_of result ≡ pred_app_in (take pred_app_columns row) }
-{
-    let parents = list_of(row[1], row[2], row[3], row[4], row[5]);
-    let args = list_of(row[6], row[7], row[8], row[9], row[10]);
-    PredApp::new(PredId(row[0]), parents, args)
+impl Table for PredApps {
+    type Entry = PredApp;
+
+    const COLUMNS: usize = File::PRED_APP_COLUMNS;
+
+    ghost COLUMNS = { pred_app_columns };
+
+    ghost Says = { λ x row. pred_app_of x ≡ pred_app_in row };
+
+    fn entry(row: Row) -> PredApp {
+        let parents = list_of(row[1], row[2], row[3], row[4], row[5]);
+        let args = list_of(row[6], row[7], row[8], row[9], row[10]);
+        PredApp::new(PredId(row[0]), parents, args)
+    }
 }
 
-// ---- tables
+impl Table for Pairs {
+    type Entry = Pair;
+
+    const COLUMNS: usize = File::PAIR_COLUMNS;
+
+    ghost COLUMNS = { pair_columns };
+
+    ghost Says = { λ p row. pair_of p ≡ pair_in row };
+
+    fn entry(row: Row) -> Pair {
+        Pair::new(ElId(row[0]), ElId(row[1]))
+    }
+}
+
+// ---- links, marks, facts
 
 fn links_in(bytes: &[u8], at: usize, n: usize) -> [u16; Structure::MAX_ELS]
     requires { (n ≤ max_els) × (at + n ≤ length bytes.now) }
     ensures { take n result ≡ take n (drop at bytes.now) }
 {
     let mut links = [0u16; Structure::MAX_ELS];
-    for i in 0..n {
-        links[i] = wide(bytes[at + i]);
-    }
+    read_bytes(&mut links[..n], &bytes[at..]);
     links
 }
 
@@ -218,16 +298,8 @@ fn marks_in(bytes: &[u8], at: usize, n: usize) -> [bool; Structure::MAX_ELS]
     ensures { take n result ≡ map bit_in (take n (drop at bytes.now)) }
 {
     let mut marks = [false; Structure::MAX_ELS];
-    for i in 0..n {
-        marks[i] = is_one(bytes[at + i]);
-    }
+    read_bytes(&mut marks[..n], &bytes[at..]);
     marks
-}
-
-fn is_one(b: u8) -> bool
-    ensures { result ≡ bit_in b }
-{
-    b == 1
 }
 
 // One number into the entries from an index up to n.
@@ -235,19 +307,19 @@ fn set_from(owners: &mut [u16], from: usize, n: usize, x: u16)
     requires { n ≤ length owners.old }
     ensures { SetFrom from n x owners.old owners.new }
 {
-    for i in from..n {
-        owners[i] = x;
+    if from < n {
+        owners[from..n].fill(x);
     }
 }
 
 // The element of each of n facts: the last one whose chain begins there or before.
-fn owners_in(bytes: &[u8], at: usize, els: usize, n: usize) -> [u16; Structure::MAX_FACTS]
-    requires { (els ≤ max_els) × ((n ≤ max_facts) × (at + 2 * els ≤ length bytes.now)) }
-    ensures { Owners (words (take (2 * els) (drop at bytes.now))) n result }
+fn owners_in(heads: &[u8], els: usize, n: usize) -> [u16; Structure::MAX_FACTS]
+    requires { (els ≤ max_els) × ((n ≤ max_facts) × (2 * els ≤ length heads.now)) }
+    ensures { Owners (words (take (2 * els) heads.now)) n result }
 {
     let mut owners = [0u16; Structure::MAX_FACTS];
     for e in 0..els {
-        let first = records::word(bytes, at + 2 * e) as usize;
+        let first = records::word(heads, 2 * e) as usize;
         if first == 0 {
             continue;
         }
@@ -256,78 +328,84 @@ fn owners_in(bytes: &[u8], at: usize, els: usize, n: usize) -> [u16; Structure::
     owners
 }
 
-fn facts_in(bytes: &[u8], at: usize, n: usize, owners: [u16; Structure::MAX_FACTS]) -> Facts
-    requires { (n ≤ max_facts) × (at + fact_columns * n ≤ length bytes.now) }
-    ensures { facts_of result ≡ facts_owned owners n (drop at bytes.now) }
+// The facts of these elements.
+fn facts_in(columns: &[u8], owners: &[u16]) -> Facts
+    requires { (length owners.now ≤ max_facts) × (fact_columns * length owners.now ≤ length columns.now) }
+    ensures { facts_of result ≡ facts_owned owners.now (length owners.now) columns.now }
 {
     let mut table = Facts::new();
-    for i in 0..n {
-        let row = row_at(bytes, at, n, File::FACT_COLUMNS, i);
-        table.items[i] = fact_of(row, owners[i]);
+    let n = owners.len();
+    for (i, owner) in owners.iter().enumerate() {
+        table.items[i] = fact_of(row_at(columns, n, File::FACT_COLUMNS, i), *owner);
     }
     table.len = n as u16;
     table
 }
 
+// ---- applications, impositions and pairs
+
 fn func_apps_in(bytes: &[u8], at: usize, n: usize) -> FuncApps
     requires { (n ≤ max_func_apps) × (at + func_app_columns * n ≤ length bytes.now) }
     ensures { func_apps_of result ≡ map func_app_in (rows_in func_app_columns n (drop at bytes.now)) }
 {
-    let mut table = FuncApps::new();
-    for i in 0..n {
-        table.items[i] = func_app_of(row_at(bytes, at, n, File::FUNC_APP_COLUMNS, i));
+    let mut items = FuncApps::new().items;
+    read_table::<FuncApps>(&mut items[..n], &bytes[at..]);
+    FuncApps {
+        items,
+        len: n as u16,
     }
-    table.len = n as u16;
-    table
 }
 
 fn pred_apps_in(bytes: &[u8], at: usize, n: usize) -> PredApps
     requires { (n ≤ max_pred_apps) × (at + pred_app_columns * n ≤ length bytes.now) }
     ensures { pred_apps_of result ≡ map pred_app_in (rows_in pred_app_columns n (drop at bytes.now)) }
 {
-    let mut table = PredApps::new();
-    for i in 0..n {
-        table.items[i] = pred_app_of(row_at(bytes, at, n, File::PRED_APP_COLUMNS, i));
+    let mut items = PredApps::new().items;
+    read_table::<PredApps>(&mut items[..n], &bytes[at..]);
+    PredApps {
+        items,
+        len: n as u16,
     }
-    table.len = n as u16;
-    table
 }
 
 fn impositions_in(bytes: &[u8], at: usize, n: usize) -> Impositions
     requires { (n ≤ max_impositions) × (at + imposition_columns * n ≤ length bytes.now) }
     ensures { impositions_of result ≡ map imposition_in (rows_in imposition_columns n (drop at bytes.now)) }
 {
-    let mut table = Impositions::new();
-    for i in 0..n {
-        table.items[i] = imposition_of(row_at(bytes, at, n, File::IMPOSITION_COLUMNS, i));
+    let mut items = Impositions::new().items;
+    read_table::<Impositions>(&mut items[..n], &bytes[at..]);
+    Impositions {
+        items,
+        len: n as u16,
     }
-    table.len = n as u16;
-    table
 }
 
 fn pairs_in(bytes: &[u8], at: usize, n: usize) -> Pairs
     requires { (n ≤ max_pairs) × (at + pair_columns * n ≤ length bytes.now) }
     ensures { pairs_of result ≡ reverse (map pair_in (rows_in pair_columns n (drop at bytes.now))) }
 {
-    let mut table = Pairs::new();
-    for i in 0..n {
-        let row = row_at(bytes, at, n, File::PAIR_COLUMNS, i);
-        table.items[i] = Pair::new(ElId(row[0]), ElId(row[1]));
+    let mut items = Pairs::new().items;
+    read_table::<Pairs>(&mut items[..n], &bytes[at..]);
+    Pairs {
+        items,
+        len: n as u16,
     }
-    table.len = n as u16;
-    table
 }
 
+// ---- bindings
+
+// Variables and ambients are two tables of bindings, by keys of two types, and a loop says of each what its own `insert` does: two functions.
+
 // A slot for each variable: as the file has them where they are in order, with keys below the limit.
-fn vars_in(bytes: &[u8], at: usize, n: usize) -> VarEls
-    requires { (n ≤ max_vars) × (at + pair_columns * n ≤ length bytes.now) }
-    ensures { in_order compare_var (map var_in (rows_in pair_columns n (drop at bytes.now))) ≡ true
-        → All (λ (v : Var). v.key < max_vars) (map var_in (rows_in pair_columns n (drop at bytes.now)))
-        → vars_of result ≡ map var_in (rows_in pair_columns n (drop at bytes.now)) }
+fn vars_in(columns: &[u8], n: usize) -> VarEls
+    requires { (n ≤ max_vars) × (pair_columns * n ≤ length columns.now) }
+    ensures { in_order compare_var (map var_in (rows_in pair_columns n columns.now)) ≡ true
+        → All (λ (v : Var). v.key < max_vars) (map var_in (rows_in pair_columns n columns.now))
+        → vars_of result ≡ map var_in (rows_in pair_columns n columns.now) }
 {
     let mut table = VarEls::new();
     for i in 0..n {
-        let row = row_at(bytes, at, n, File::PAIR_COLUMNS, i);
+        let row = row_at(columns, n, File::PAIR_COLUMNS, i);
         table = table.insert(VarEl {
             key: row[0],
             el: ElId(row[1]),
@@ -337,15 +415,15 @@ fn vars_in(bytes: &[u8], at: usize, n: usize) -> VarEls
 }
 
 // The same of the ambients.
-fn ambients_in(bytes: &[u8], at: usize, n: usize) -> AmbientEls
-    requires { (n ≤ max_types) × (at + pair_columns * n ≤ length bytes.now) }
-    ensures { in_order compare_ambient (map ambient_in (rows_in pair_columns n (drop at bytes.now))) ≡ true
-        → All (λ (a : Ambient). a.typ < max_types) (map ambient_in (rows_in pair_columns n (drop at bytes.now)))
-        → ambients_of result ≡ map ambient_in (rows_in pair_columns n (drop at bytes.now)) }
+fn ambients_in(columns: &[u8], n: usize) -> AmbientEls
+    requires { (n ≤ max_types) × (pair_columns * n ≤ length columns.now) }
+    ensures { in_order compare_ambient (map ambient_in (rows_in pair_columns n columns.now)) ≡ true
+        → All (λ (a : Ambient). a.typ < max_types) (map ambient_in (rows_in pair_columns n columns.now))
+        → ambients_of result ≡ map ambient_in (rows_in pair_columns n columns.now) }
 {
     let mut table = AmbientEls::new();
     for i in 0..n {
-        let row = row_at(bytes, at, n, File::PAIR_COLUMNS, i);
+        let row = row_at(columns, n, File::PAIR_COLUMNS, i);
         table = table.insert(AmbientEl {
             typ: TypeId(row[0]),
             el: ElId(row[1]),
@@ -365,17 +443,17 @@ pub fn decode(bytes: &[u8], head: Head, at: Places) -> Structure
     let m = head.facts as usize;
     let links = links_in(bytes, at.links, n);
     let marks = marks_in(bytes, at.marks, n);
-    let owners = owners_in(bytes, at.firsts, n, m);
-    let facts = facts_in(bytes, at.facts, m, owners);
+    let owners = owners_in(&bytes[at.firsts..], n, m);
+    let facts = facts_in(&bytes[at.facts..], &owners[..m]);
     let func_apps = func_apps_in(bytes, at.func_apps, head.func_apps as usize);
     let pred_apps = pred_apps_in(bytes, at.pred_apps, head.pred_apps as usize);
     let impositions = impositions_in(bytes, at.impositions, head.impositions as usize);
-    let vars = vars_in(bytes, at.vars, head.vars as usize);
-    let ambients = ambients_in(bytes, at.ambients, head.ambients as usize);
+    let vars = vars_in(&bytes[at.vars..], head.vars as usize);
+    let ambients = ambients_in(&bytes[at.ambients..], head.ambients as usize);
     let pairs = pairs_in(bytes, at.pairs, head.pairs as usize);
     let flags = at.flags;
-    let settled = is_one(bytes[flags]);
-    let started = is_one(bytes[flags + 1]);
+    let settled = bool::of_byte(bytes[flags]);
+    let started = bool::of_byte(bytes[flags + 1]);
     let unification = Unification {
         links,
         len: head.els,

@@ -4,9 +4,10 @@ use mathlib.Core.Logic.{◌⊎◌, inl, inr, ⊎_elim}
 use mathlib.Core.Bool.{Bool, true, false, not, ◌&&◌, ◌||◌}
 use mathlib.Core.List.{List, [], ◌∷◌}
 use mathlib.Core.Option.{Option, none, some}
-use Prim.Native.Nat.{ℕ, ◌≤◌, ◌<◌}
+use Prim.Native.Nat.{ℕ, suc, ◌≤◌, ◌<◌}
 use native.Mathlib.Omega.{arith}
-use lib.ListN.{length}
+use lib.ListN.{length, get_or}
+use Rattle.std.specs.Str.{bytes_eq}
 use lib.Dec.{eqb}
 use borrow.Author.Tests.{lt-leb, le-leb, eq-eqb, eqb-true, ne_eqb}
 use Rattle.ids.specs.Answers.{accepted, refused, Cause, first_of, decided, wrong_length, wrong_content}
@@ -52,6 +53,16 @@ or_set false c h = h refl
 or_unset : (b c : Bool) → (b || c) ≡ true → b ≡ false → c ≡ true
 or_unset true c e h = no_test refl h
 or_unset false c e h = e
+
+-- a list is the same as itself
+pub all_alike : (xs : List ℕ) → bytes_eq xs xs ≡ true
+all_alike [] = refl
+all_alike (x ∷ xs) = rw (eq-eqb x x refl) (all_alike xs)
+
+-- numbers that are bytes
+pub all_small : (xs : List ℕ) → ((i : ℕ) → get_or xs i 0 < 256) → All (λ (b : ℕ). b < 256) xs
+all_small [] h = tt
+all_small (x ∷ xs) h = (h 0, all_small xs (λ i. h (suc i)))
 
 -- the parts end where their lengths come to
 pub ends : (h : file.Head) (p : Places) → PlacesOf h p → p.end ≡ sum (sizes h)

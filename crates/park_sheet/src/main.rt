@@ -10,7 +10,6 @@ use sheet::Piece;
 use std::env::{Env, FillError};
 use std::fs::Files;
 use std::io::{Read, Write};
-use storing::Stored;
 use structure::Structure;
 
 // Why no file is written: the sheet or the file is refused, by this line, or something failed.
@@ -60,13 +59,13 @@ fn last_structure(given: Piece, bytes: &[u8; Record::MAX_BYTES]) -> Result<Struc
 fn park<W: Write>(output: &mut W, structure: Structure) -> Result<(), Unparked> {
     let mut file = [0u8; File::MAX_BYTES];
     match storing::store(structure, &mut file) {
-        Stored::Bytes(n) => {
+        Ok(n) => {
             // No file is longer.
             let n = n.min(File::MAX_BYTES);
             printing::write_all(output, &file[..n]).map_err(Failure::Output)?;
             Ok(())
         }
-        Stored::Refused(number) => Err(Unparked::Refused(lines::refused_line(number, 0))),
+        Err(number) => Err(Unparked::Refused(lines::refused_line(number, 0))),
     }
 }
 

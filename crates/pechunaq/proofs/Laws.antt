@@ -33,10 +33,9 @@ use Rattle.sheet.proofs.Pieces.{pieces_next, some_to_come}
 use Rattle.ids.specs.Answers.{Answered, Outcome}
 use Rattle.semantics.specs.Structure as model
 use Rattle.structure.specs.View.{structure_of}
-use Rattle.storing.specs.declared.Stored.{Stored}
+use Rattle.std.specs.declared.result.Result.{Result}
 use Rattle.storing.specs.View.{stored_of}
 use Rattle.loading.specs.declared.Loading.{Loading}
-use Rattle.loading.specs.declared.Loaded.{Loaded}
 use Rattle.loading.specs.View.{LoadingM, loading, loading_of, answer_of as loaded}
 use Rattle.resuming.proofs.Laws.{loading_answer}
 use Rattle.pechunaq.specs.Session.{ReplyM, numbers_of, counted, having, HandedInM, handed_in, is_over, whole_records, is_taken, taken_within, up_to_line, TakenM, taken_from, next_line, ParkedM, parked, ResumedM, resumed}
@@ -56,15 +55,15 @@ pub by_answer : (s : Carried) {a : Answer} {x : ReplyM} → s.answer ≡ a → x
 by_answer s e h = h ∙ ap (λ (a : Answer). numbers_of (answer_of (conflicts_of s.conflicts) a)) (sym e)
 
 -- what storing answers, as numbers
-pub parks : (o : Stored) (file : List ℕ) {s : Stored} {x : Outcome ℕ (List ℕ)} {y : ParkedM} → o ≡ s → stored_of o file ≡ x → y ≡ parked (stored_of s file) → y ≡ parked x
-parks o file e h is = is ∙ ap (λ (s : Stored). parked (stored_of s file)) (sym e) ∙ ap parked h
+pub parks : (o : Result ℕ ℕ) (file : List ℕ) {s : Result ℕ ℕ} {x : Outcome ℕ (List ℕ)} {y : ParkedM} → o ≡ s → stored_of o file ≡ x → y ≡ parked (stored_of s file) → y ≡ parked x
+parks o file e h is = is ∙ ap (λ (s : Result ℕ ℕ). parked (stored_of s file)) (sym e) ∙ ap parked h
 
 -- a session by what its load answers
-pub resumes : (r : Loading) (x : Answered model.Structure) (q : PieceM) {a : Loaded} {y : ResumedM} → r.answer ≡ a → loading_of r ≡ loading x
+pub resumes : (r : Loading) (x : Answered model.Structure) (q : PieceM) {a : Result Unit ℕ} {y : ResumedM} → r.answer ≡ a → loading_of r ≡ loading x
     → y ≡ resumed (loaded a (structure_of r.structure)) q → y ≡ resumed x q
 resumes r x q e h is =
     is
-    ∙ ap (λ (a : Loaded). resumed (loaded a (structure_of r.structure)) q) (sym e)
+    ∙ ap (λ (a : Result Unit ℕ). resumed (loaded a (structure_of r.structure)) q) (sym e)
     ∙ ap (λ (m : LoadingM). resumed m.answer q) h
     ∙ ap (λ (a : Answered model.Structure). resumed a q) (loading_answer x)
 

@@ -19,11 +19,9 @@ use carrying::Carried;
 use conflicts::TypeConflicts;
 use ids::TypeIds;
 use lines::Line;
-use loading::Loaded;
 use records::Record;
 use sheet::{Piece, Position, Progress, Stage};
 use signature::{Funcs, Models, MorAppFuncs, Preds, Signature, Type, TypeKind, Types};
-use storing::Stored;
 use structure::{Answer, Machine, Structure};
 
 // A type whose kind is two numbers, as in a record of kind 1: the kind, and the model of a Mor.
@@ -379,8 +377,8 @@ pub extern "C" fn pechunaq_park(session: Session, file: &mut [u8]) -> Parked
     ensures { parked_of result file.new ≡ parked (store_into (structure_of session.structure) file.old) }
 {
     match storing::store(session.structure, file) {
-        Stored::Bytes(size) => Parked { size, refused: 0 },
-        Stored::Refused(refused) => Parked { size: 0, refused },
+        Ok(size) => Parked { size, refused: 0 },
+        Err(refused) => Parked { size: 0, refused },
     }
 }
 
@@ -391,7 +389,7 @@ pub extern "C" fn pechunaq_resume(session: Session, file: &[u8]) -> Resumed
 {
     let loading = loading::load(signature_of(session), file);
     match loading.answer {
-        Loaded::Done => {
+        Ok(()) => {
             let mut after = session;
             after.structure = loading.structure;
             Resumed {
@@ -399,7 +397,7 @@ pub extern "C" fn pechunaq_resume(session: Session, file: &[u8]) -> Resumed
                 session: after,
             }
         }
-        Loaded::Refused(refused) => Resumed { refused, session },
+        Err(refused) => Resumed { refused, session },
     }
 }
 

@@ -10,7 +10,7 @@ use native.Mathlib.Omega.{arith}
 use lib.ListN.{length, take, drop, get_or, length-drop, drop_of_length-le, get_or-eq_default}
 use lib.Seq.{drop-cons, drop-drop, take-take, take-nil}
 use lib.Dec.{eqb, leb, ltb, leb-zero, leb-suc-zero, eqb-suc-zero}
-use borrow.Author.Tests.{lt-ltb, le-ltb, le-leb, lt-leb, eq-eqb, ne_eqb, leb-true, leb-false, eqb-true, eqb-false}
+use borrow.Author.Tests.{lt-ltb, le-ltb, le-leb, eq-eqb, ne_eqb, leb-true, leb-false, eqb-true, eqb-false}
 use Rattle.semantics.specs.Calls.{Call}
 use Rattle.semantics.specs.Sheet as sheet
 use Rattle.semantics.specs.Sheet.{words, record_of, record_at, max_records, record_bytes, all_zero, zero_only, unused, listed, exactly, count_fits}
@@ -147,24 +147,19 @@ module _ {R : Bool} (xs : List ℕ) (i : ℕ) (so_far : all_zero (drop i xs) ≡
   unfolding all_zero
   clear_end h = rw (drop_of_length-le xs {i = i} h) at so_far
 
-and_true : (b : Bool) → b ≡ (b && true)
-and_true true = refl
-and_true false = refl
+-- Two words that are zero.
 
-pair_clear : (xs : List ℕ) → length xs ≡ 2 → (eqb (get_or xs 0 0) 0 && (eqb (get_or xs 1 0) 0 && true)) ≡ all_zero xs
+pub pair_tests : (a b : Bool) → (a && b) ≡ (a && (b && true))
+pair_tests true true = refl
+pair_tests true false = refl
+pair_tests false b = refl
+
+pub pair_clear : (xs : List ℕ) → length xs ≡ 2 → (eqb (get_or xs 0 0) 0 && (eqb (get_or xs 1 0) 0 && true)) ≡ all_zero xs
 unfolding all_zero
 pair_clear [] h = absurd (omega arith)
 pair_clear (x ∷ []) h = absurd (omega arith)
 pair_clear (x ∷ y ∷ []) h = refl
 pair_clear (x ∷ y ∷ z ∷ xs) h = absurd (omega arith)
-
--- two words, of which the first is zero, or is not
-module _ (xs : List ℕ) (two : length xs ≡ 2) where
-  pub pair_on : get_or xs 0 0 ≡ 0 → eqb (get_or xs 1 0) 0 ≡ all_zero xs
-  pair_on h = and_true (eqb (get_or xs 1 0) 0) ∙ rw (eq-eqb (get_or xs 0 0) 0 h) at (pair_clear xs two)
-
-  pub pair_off : (get_or xs 0 0 ≡ 0 → ⊥) → false ≡ all_zero xs
-  pair_off h = rw (ne_eqb (get_or xs 0 0) 0 h) at (pair_clear xs two)
 
 -- What the words of a kind may hold.
 
@@ -196,47 +191,6 @@ most_word = 65535
 
 pub any_within : {n : ℕ} → n ≤ most_word → leb n most_word ≡ true
 any_within h = le-leb _ _ h
-
--- lists
-
-module _ (least most n : ℕ) (slots : List ℕ) where
-  pub too_few : n < least → false ≡ list_within least most n slots
-  unfolding list_within
-  too_few h = rw (lt-leb least n h, list_within)
-
-  pub too_many : least ≤ n → most < n → false ≡ list_within least most n slots
-  unfolding list_within
-  too_many h k = rw (le-leb least n h, lt-leb n most k, list_within)
-
-  pub so_many : {R : Bool} → least ≤ n → n ≤ most → R ≡ all_zero (drop n slots) → R ≡ list_within least most n slots
-  unfolding list_within
-  so_many h k e = rw (le-leb least n h, le-leb n most k, list_within) e
-
--- what stops a test of a record's words, and where none does
-
-module _ (a b parents least most : ℕ) (r : sheet.Record) where
-  pub stop_a : a < r.a → false ≡ within a b parents least most r
-  unfolding within
-  stop_a h = rw (lt-leb r.a a h, within)
-
-  module _ (ha : r.a ≤ a) where
-    pub stop_b : b < r.b → false ≡ within a b parents least most r
-    unfolding within
-    stop_b h = rw (le-leb r.a a ha, lt-leb r.b b h, within)
-
-    module _ (hb : r.b ≤ b) where
-      pub stop_parents : list_within 0 parents r.parent_count r.parents ≡ false → false ≡ within a b parents least most r
-      unfolding within
-      stop_parents h = rw (le-leb r.a a ha, le-leb r.b b hb, h, within)
-
-      module _ (hp : list_within 0 parents r.parent_count r.parents ≡ true) where
-        pub stop_args : list_within least most r.arg_count r.args ≡ false → false ≡ within a b parents least most r
-        unfolding within
-        stop_args h = rw (le-leb r.a a ha, le-leb r.b b hb, hp, h, within)
-
-        pub all_but_rest : {R : Bool} → list_within least most r.arg_count r.args ≡ true → R ≡ all_zero r.rest → R ≡ within a b parents least most r
-        unfolding within
-        all_but_rest h e = rw (le-leb r.a a ha, le-leb r.b b hb, hp, h, within) e
 
 -- forms
 

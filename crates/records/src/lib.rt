@@ -1,7 +1,7 @@
 // Records of a sheet: 16 words each, and what the words of each kind may hold.
 #![tactic(auto)]
 
-ghost use Rattle.std.specs.Prelude.{◌≡◌, ◌<◌, drop, get_or};
+ghost use Rattle.std.specs.Prelude.{◌≡◌, drop, get_or};
 ghost use Rattle.semantics.specs.Sheet as sheet;
 ghost use Rattle.semantics.specs.Sheet.{all_zero, words};
 ghost use Rattle.records.specs.View.{record_view, blank, record_in, record_within, list_within, within, fits_form};
@@ -47,12 +47,6 @@ impl Record {
     }
 }
 
-fn wide(b: u8) -> u16
-    ensures { (result ≡ b) × (result < 256) }
-{
-    b as u16
-}
-
 // The word whose lower byte stands at an index; 0 where not both of its bytes are there.
 pub fn word(bytes: &[u8], at: usize) -> u16
     ensures { result ≡ get_or (words (drop at bytes.now)) 0 0 }
@@ -63,9 +57,7 @@ pub fn word(bytes: &[u8], at: usize) -> u16
     if bytes.len() - at == 1 {
         return 0;
     }
-    let low = wide(bytes[at]);
-    let high = wide(bytes[at + 1]);
-    high * 256 + low
+    u16::from_le_bytes([bytes[at], bytes[at + 1]])
 }
 
 // The record of an index; one of zeros past the last whole record.
@@ -112,8 +104,11 @@ fn is_clear(slots: [u16; ElIds::MAX_LEN], n: u16) -> bool
     ensures { result ≡ all_zero (drop n slots) }
 {
     let start = n as usize;
-    for i in start..ElIds::MAX_LEN {
-        if slots[i] != 0 {
+    if ElIds::MAX_LEN <= start {
+        return true;
+    }
+    for slot in &slots[start..] {
+        if *slot != 0 {
             return false;
         }
     }
@@ -124,13 +119,7 @@ fn is_clear(slots: [u16; ElIds::MAX_LEN], n: u16) -> bool
 fn list_fits(slots: [u16; ElIds::MAX_LEN], n: u16, least: u16, most: u16) -> bool
     ensures { result ≡ list_within least most n slots }
 {
-    if n < least {
-        return false;
-    }
-    if most < n {
-        return false;
-    }
-    is_clear(slots, n)
+    (least <= n) & (n <= most) & is_clear(slots, n)
 }
 
 impl Record {
@@ -145,26 +134,12 @@ impl Record {
     fn is_within(self, a: u16, b: u16, parents: u16, least: u16, most: u16) -> bool
         ensures { result ≡ within a b parents least most (record_view self) }
     {
-        if a < self.a {
-            return false;
-        }
-        if b < self.b {
-            return false;
-        }
-        let p = self.parents;
-        let q = self.args;
-        let n = self.parent_count;
-        let k = self.arg_count;
-        if !list_fits(p, n, 0, parents) {
-            return false;
-        }
-        if !list_fits(q, k, least, most) {
-            return false;
-        }
-        if self.rest[0] != 0 {
-            return false;
-        }
-        self.rest[1] == 0
+        // `&` has no branch, so that the proof has one path.
+        let bounded = (self.a <= a) & (self.b <= b);
+        let listed = list_fits(self.parents, self.parent_count, 0, parents)
+            & list_fits(self.args, self.arg_count, least, most);
+        let clear = (self.rest[0] == 0) & (self.rest[1] == 0);
+        bounded & (listed & clear)
     }
 
     // Whether kind, counts, A and the unused words are as they must be. Of each kind: the bounds of A and B, the most
@@ -185,10 +160,11 @@ impl Record {
             4 => self.is_within(Record::ANY, Record::ANY, 0, 4, 4),
             5 => self.is_within(Record::ANY, 0, 0, 2, 2),
             6 => self.is_within(1, 0, 0, 0, 0),
+            7 => self.is_within(Record::ANY, Record::ANY, 0, 0, 0),
             8 => self.is_within(Record::ANY, Record::ANY, Record::LIST, 0, 0),
             9 => self.is_within(Record::ANY, Record::ANY, Record::LIST, 0, Record::LIST),
             10 => self.is_within(Record::ANY, 0, Record::LIST, 0, Record::LIST),
-            7 | 11..=12 => self.is_within(Record::ANY, Record::ANY, 0, 0, 0),
+            11..=12 => self.is_within(Record::ANY, Record::ANY, 0, 0, 0),
             13..=15 => self.is_within(0, 0, 0, 0, 0),
             _ => false,
         }

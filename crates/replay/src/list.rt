@@ -3,7 +3,6 @@ use crate::out;
 use crate::slot::Slot;
 use crate::state::Els;
 use driver::{Responded, Response};
-use loading::Loaded;
 use records::Record;
 use std::io;
 use std::io::Write;
@@ -107,11 +106,11 @@ impl List {
             Ok(FileCall::Load) => {
                 let loading = loading::load(self.machine.signature, self.slot.as_slice());
                 match loading.answer {
-                    Loaded::Done => {
+                    Ok(()) => {
                         self.machine.structure = loading.structure;
                         put_done(out)
                     }
-                    Loaded::Refused(number) => put_refused(out, number),
+                    Err(number) => put_refused(out, number),
                 }
             }
             Ok(FileCall::BeginAgain) => {

@@ -3,7 +3,6 @@ ghost use Rattle.std.specs.Prelude.{◌≤◌};
 
 use std::io;
 use std::io::Write;
-use storing::Stored;
 use structure::Structure;
 
 #[derive(Drop)]
@@ -40,11 +39,11 @@ impl Slot {
         let stored = storing::store(structure, &mut bytes[..room]);
         self.bytes = bytes;
         match stored {
-            Stored::Bytes(n) => {
+            Ok(n) => {
                 self.len = n.min(Slot::MAX_LEN);
                 Ok(())
             }
-            Stored::Refused(number) => Err(number),
+            Err(number) => Err(number),
         }
     }
 

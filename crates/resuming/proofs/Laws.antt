@@ -20,7 +20,7 @@ use Rattle.structure.specs.View.{structure_of}
 use Rattle.file.specs.File.{load}
 use Rattle.storing.specs.View.{max_bytes}
 use Rattle.loading.specs.declared.Loading.{Loading}
-use Rattle.loading.specs.declared.Loaded.{Loaded}
+use Rattle.std.specs.declared.result.Result.{Result}
 use Rattle.loading.specs.View.{LoadingM, loading, answer_of, loading_of}
 use Rattle.sheet.specs.declared.Stage.{Stage}
 use Rattle.sheet.specs.declared.Stage.TheVariants as stages
@@ -229,12 +229,12 @@ module _ (file : List ℕ) (p : ProgressM) {q : PieceM} where
   restores_long h e = e ∙ ap (λ (a : Answered model.Structure). loaded_piece a p) (chosen (load p.machine.sig file) (lt-ltb max_bytes (length file) h))
 
   -- by what the load answers, with the structure beside it
-  pub restores : length file ≤ max_bytes → (r : Loading) → loading_of r ≡ loading (load p.machine.sig file) → {a : Loaded} → r.answer ≡ a
+  pub restores : length file ≤ max_bytes → (r : Loading) → loading_of r ≡ loading (load p.machine.sig file) → {a : Result Unit ℕ} → r.answer ≡ a
       → q ≡ loaded_piece (answer_of a (structure_of r.structure)) p → q ≡ restored_piece file p
   unfolding load_file
   restores h r ensured {a} e is =
       is
-      ∙ ap (λ (x : Loaded). loaded_piece (answer_of x (structure_of r.structure)) p) (sym e)
+      ∙ ap (λ (x : Result Unit ℕ). loaded_piece (answer_of x (structure_of r.structure)) p) (sym e)
       ∙ ap (λ (x : LoadingM). loaded_piece x.answer p) ensured
       ∙ ap (λ (x : Answered model.Structure). loaded_piece x p)
       (loading_answer (load p.machine.sig file) ∙ unchosen (refused wrong_length) (le-ltb max_bytes (length file) h))

@@ -10,7 +10,6 @@ ghost use Rattle.resuming.specs.Resuming.{declares, is_due, is_last, restored_pi
 use file_rows::File;
 use ids::Refusal;
 use lines::Line;
-use loading::Loaded;
 use records::Record;
 use sheet::{Piece, Progress, Stage};
 
@@ -53,7 +52,7 @@ pub fn restore(progress: Progress, file: &[u8]) -> Piece
     }
     let loading = loading::load(machine.signature, file);
     match loading.answer {
-        Loaded::Done => {
+        Ok(()) => {
             let mut after = progress;
             after.machine.structure = loading.structure;
             Piece {
@@ -61,7 +60,7 @@ pub fn restore(progress: Progress, file: &[u8]) -> Piece
                 progress: after,
             }
         }
-        Loaded::Refused(number) => sheet::refuse(machine, number, index),
+        Err(number) => sheet::refuse(machine, number, index),
     }
 }
 

@@ -1,7 +1,7 @@
--- The slots of variables and ambients as rows: slot by slot, over any type of entries that have a key.
+-- The slots of variables and ambients as rows: slot by slot.
 use mathlib.Core.Path.{◌≡◌, refl, sym, ap, ◌∙◌}
 use mathlib.Core.Bool.{Bool, true, false}
-use mathlib.Core.List.{List, [], ◌∷◌, ◌++◌, append-nil, map, map-append}
+use mathlib.Core.List.{List, [], ◌∷◌, ◌++◌, append-nil, map}
 use Prim.Native.Nat.{ℕ, suc, ◌+◌, ◌≤◌, ◌<◌}
 use native.Mathlib.Numerals.{add-one}
 use native.Mathlib.Omega.{arith}
@@ -11,14 +11,9 @@ use Rattle.ids.proofs.Views.{view_pushed}
 use Rattle.bindings.specs.declared.Slot.{Slot}
 use Rattle.bindings.specs.View.{slots_from}
 use Rattle.bindings.proofs.Slots.{slot_given, slot_empty}
-use Rattle.file.specs.Rows.{pair_columns}
-use Rattle.storing.specs.View.{Rows}
-
--- a row of two numbers, in its first two places
-pub pair_row_is : (r : List ℕ) {x y : ℕ} → (get_or r 0 0 ≡ x) × ((get_or r 1 0 ≡ y) × (length r ≡ 12)) → take pair_columns r ≡ x ∷ y ∷ []
-pair_row_is [] h = absurd (omega (arith, h.1.1))
-pair_row_is (a ∷ []) h = absurd (omega (arith, h.1.1))
-pair_row_is (a ∷ b ∷ r) h = λ i. h.0 i ∷ h.1.0 i ∷ []
+use Rattle.semantics.specs.Structure.{variable, ambient}
+use Rattle.file.specs.Rows.{pair_columns, var_row, ambient_row}
+use Rattle.storing.specs.View.{Rows, slot_rows}
 
 module _ {E : Type 0} (mk : ℕ → ℕ → E) where
   slots_append : (k : ℕ) (xs ys : List Slot) → slots_from mk k (xs ++ ys) ≡ slots_from mk k xs ++ slots_from mk (k + length xs) ys
@@ -48,47 +43,70 @@ module _ {E : Type 0} (mk : ℕ → ℕ → E) where
     unfolding slots_from
     grown_empty g = grown ∙ ap (λ (l : List E). slots_from mk 0 (take i ss) ++ l) (slot_empty mk i (get_or ss i d) [] g) ∙ append-nil (slots_from mk 0 (take i ss))
 
+-- entries whose rows are the key and the element of their slots
+slot_rows_are : {E : Type 0} (mk : ℕ → ℕ → E) (row : E → List ℕ) → ((k e : ℕ) → row (mk k e) ≡ k ∷ e ∷ []) → (ss : List Slot)
+    → slot_rows ss ≡ map row (slots_from mk 0 ss)
+unfolding slots_from
+slot_rows_are {E} mk row is ss = go 0 ss
+  where
+    go : (k : ℕ) (ss : List Slot) → slots_from (λ (key el : ℕ). key ∷ el ∷ []) k ss ≡ map row (slots_from mk k ss)
+    go k [] = refl
+    go k (s ∷ ss) = one s.given (go (suc k) ss)
+      where
+        one : (t : Bool) → slots_from (λ (key el : ℕ). key ∷ el ∷ []) (suc k) ss ≡ map row (slots_from mk (suc k) ss)
+            → ◌≡◌ {A = List (List ℕ)}
+            (elim t [ true ↦ (k ∷ s.el.0 ∷ []) ∷ slots_from (λ (key el : ℕ). key ∷ el ∷ []) (suc k) ss | false ↦ slots_from (λ (key el : ℕ). key ∷ el ∷ []) (suc k) ss ])
+            (map row (elim t [ true ↦ mk k s.el.0 ∷ slots_from mk (suc k) ss | false ↦ slots_from mk (suc k) ss ]))
+        one true e = λ i. sym (is k s.el.0) i ∷ e i
+        one false e = e
+
+pub var_rows : (ss : List Slot) → slot_rows ss ≡ map var_row (slots_from variable 0 ss)
+unfolding var_row
+var_rows ss = slot_rows_are variable var_row (λ k e. refl) ss
+
+pub ambient_rows : (ss : List Slot) → slot_rows ss ≡ map ambient_row (slots_from ambient 0 ss)
+unfolding ambient_row
+ambient_rows ss = slot_rows_are ambient ambient_row (λ k e. refl) ss
+
 -- The rows so far: those of the slots before a key.
-module _ {E : Type 0} (mk : ℕ → ℕ → E) (row : E → List ℕ) (limit : ℕ) (ss : List Slot) where
+module _ (ss : List Slot) where
   pub record Filling (key : ℕ) (rows : List (List ℕ)) (n : ℕ) : Type 0 where
-    pub so_far : Rows pair_columns (map row (slots_from mk 0 (take key ss))) limit rows n
+    pub so_far : Rows pair_columns (slot_rows (take key ss)) (length ss) rows n
     pub few : n ≤ key
-    pub within : key ≤ limit
 
-  pub filling_none : (rows : List (List ℕ)) → length rows ≡ limit → Filling 0 rows 0
+  pub filling_none : (rows : List (List ℕ)) → length rows ≡ length ss → Filling 0 rows 0
   unfolding slots_from
-  filling_none rows e = record { so_far = record { is = refl; most = omega arith; long = e }; few = omega arith; within = omega arith }
+  filling_none rows e = record { so_far = record { is = refl; most = omega arith; long = e }; few = omega arith }
 
-  module _ {key n : ℕ} {rows : List (List ℕ)} (f : Filling key rows n) (long : length ss ≡ limit) where
-    module _ (d : Slot) (h : key < limit) where
+  module _ {key n : ℕ} {rows : List (List ℕ)} (f : Filling key rows n) where
+    module _ (d : Slot) (h : key < length ss) where
       pub filling_empty : (get_or ss key d).given ≡ false → Filling (key + 1) rows n
       filling_empty g = record {
         so_far = record {
-          is = f.so_far.is ∙ ap (map row) (sym (grown_empty mk d key ss (omega arith) g));
+          is = f.so_far.is ∙ sym (grown_empty (λ (k e : ℕ). k ∷ e ∷ []) d key ss h g);
           most = f.so_far.most;
           long = f.so_far.long;
         };
         few = omega (arith, f.few);
-        within = omega arith;
       }
 
-      pub filling_given : (get_or ss key d).given ≡ true → (r : List ℕ) → take pair_columns r ≡ row (mk key (get_or ss key d).el.0) → Filling (key + 1) (set rows n r) (n + 1)
+      pub filling_given : (get_or ss key d).given ≡ true → (r : List ℕ) → take pair_columns r ≡ key ∷ (get_or ss key d).el.0 ∷ []
+          → Filling (key + 1) (set rows n r) (n + 1)
       filling_given g r is = record {
         so_far = record {
           is =
               view_pushed (take pair_columns) n rows r (omega (arith, f.few, f.so_far.long))
               ∙ (λ i. f.so_far.is i ++ is i ∷ [])
-              ∙ sym (ap (map row) (grown_given mk d key ss (omega arith) g) ∙ map-append row (slots_from mk 0 (take key ss)) (mk key (get_or ss key d).el.0 ∷ []));
+              ∙ sym (grown_given (λ (k e : ℕ). k ∷ e ∷ []) d key ss h g);
           most = omega (arith, f.few);
           long = length-set rows n r ∙ f.so_far.long;
         };
         few = omega (arith, f.few);
-        within = omega arith;
       }
 
-    pub filling_all : limit ≤ key → Rows pair_columns (map row (slots_from mk 0 ss)) limit rows n
+    pub filling_all : length ss ≤ key → Rows pair_columns (slot_rows ss) (length ss) rows n
     filling_all h = record {
-      is = f.so_far.is ∙ ap (λ (l : List Slot). map row (slots_from mk 0 l)) (take_all key ss (omega arith));
+      is = f.so_far.is ∙ ap slot_rows (take_all key ss h);
       most = f.so_far.most;
       long = f.so_far.long;
     }

@@ -1,16 +1,17 @@
 -- The chains of facts, as the code fills them: fact by fact.
 use mathlib.Core.Path.{◌≡◌, refl, sym, ap, subst, ◌∙◌}
 use mathlib.Core.Bool.{Bool, true, false}
-use mathlib.Core.List.{List, [], ◌∷◌, ◌++◌}
+use mathlib.Core.List.{List, [], ◌∷◌, ◌++◌, map, map-append}
 use Prim.Native.Nat.{ℕ, zero, suc, ◌+◌, ◌≤◌, ◌<◌}
 use native.Mathlib.Numerals.{add-one}
 use native.Mathlib.Omega.{arith}
-use lib.ListN.{length, take, get_or, set, replicate, length-set, length-take, length-replicate, get_or-replicate}
-use lib.Seq.{take-suc, get_or-set_same, get_or-set_other, get_or-take, ext_get_or}
+use lib.ListN.{length, take, get_or, set, replicate, length-map, length-set, length-take, length-replicate, get_or-replicate}
+use lib.Seq.{take-suc, length-take-le, get_or-set_same, get_or-set_other, get_or-take, ext_get_or}
 use lib.Dec.{eqb, ltb}
 use borrow.Author.Tests.{eq-eqb, ne_eqb, eqb-true, eqb-false, ltb-true, ltb-false}
 use Rattle.ids.proofs.Views.{view_at}
 use Rattle.semantics.specs.Structure.{Fact}
+use Rattle.facts.specs.declared.Fact as facts
 use Rattle.facts.specs.declared.Facts.{Facts}
 use Rattle.facts.specs.View.{fact_of, facts_of, no_fact}
 use Rattle.file.specs.File.{next_fact, nexts_from, nexts, first_fact}
@@ -20,10 +21,13 @@ use Rattle.storing.specs.View.{Firsts}
 pub el_at : (t : Facts) (j : ℕ) → j < length (facts_of t) → (get_or (facts_of t) j (fact_of no_fact)).el ≡ (get_or t.items j no_fact).el.0
 el_at t j h = ap (λ (f : Fact). f.el) (view_at fact_of t.len t.items j no_fact h)
 
--- one fact more of the table
-pub facts_grown : (t : Facts) (i : ℕ) → i < length (facts_of t) → take (i + 1) (facts_of t) ≡ take i (facts_of t) ++ (fact_of (get_or t.items i no_fact) ∷ [])
-facts_grown t i h =
-    rw add-one (take-suc (facts_of t) i (fact_of no_fact) h ∙ ap (λ (f : Fact). take i (facts_of t) ++ (f ∷ [])) (view_at fact_of t.len t.items i no_fact h))
+-- one fact more
+module _ (items : List facts.Fact) (i : ℕ) (h : i < length items) where
+  pub facts_grown : map fact_of (take (i + 1) items) ≡ map fact_of (take i items) ++ (fact_of (get_or items i no_fact) ∷ [])
+  facts_grown = rw (add-one i, take-suc items i no_fact h) (map-append fact_of (take i items) (get_or items i no_fact ∷ []))
+
+  pub facts_many : i ≡ length (map fact_of (take i items))
+  facts_many = omega (arith, length-map (take i items) fact_of, length-take-le i items (omega arith))
 
 -- The next index of each fact.
 

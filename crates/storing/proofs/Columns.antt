@@ -1,31 +1,21 @@
--- A table that is written as rows, entry by entry, and then by columns.
+-- The entries of a table, as far as its length says, and their rows.
 use mathlib.Core.Path.{◌≡◌, refl, sym, ap, ◌∙◌}
-use mathlib.Core.List.{List, map}
-use Prim.Native.Nat.{ℕ, ◌+◌, ◌≤◌, ◌<◌}
+use mathlib.Core.List.{List, map, map-map}
+use Prim.Native.Nat.{ℕ}
 use native.Mathlib.Omega.{arith}
-use lib.ListN.{take, get_or, set}
-use lib.Seq.{take_all}
+use lib.ListN.{take, length-map, length-take}
 use Rattle.ids.specs.Table.{Sized}
-use Rattle.ids.proofs.Views.{view_at}
-use Rattle.rows.proofs.Copying.{Copied, copied_next, copied_all}
+use Rattle.ids.proofs.Views.{take_same}
 use Rattle.file.specs.Layout.{by_columns}
-use Rattle.file.proofs.LayoutLaws.{columns_take}
 use Rattle.storing.specs.View.{Written}
 use Rattle.storing.proofs.Writing.{written_as}
 
--- Over any type of entries, of which a row holds k numbers.
-module _ {A E : Type 0} (of : A → E) (row : E → List ℕ) (k limit len : ℕ) (items : List A) {n i : ℕ} {rows : List (List ℕ)}
-    (so_far : Copied row (take k) n limit (map of (take len items)) rows i) (size : Sized (map of (take len items)) limit n) where
-  pub rows_next : (d : A) (r : List ℕ) → i < n → take k r ≡ row (of (get_or items i d)) → Copied row (take k) n limit (map of (take len items)) (set rows i r) (i + 1)
-  rows_next d r h is =
-      copied_next row (take k) n limit (map of (take len items)) so_far (of d) h (omega (arith, size.is)) size.most
-      (is ∙ ap row (sym (view_at of len items i d (omega (arith, size.is)))))
+module _ {A E : Type 0} (of : A → E) {limit n : ℕ} (len : ℕ) (items : List A) (size : Sized (map of (take len items)) limit n) where
+  pub entries_taken : take n items ≡ take len items
+  entries_taken = take_same n len items (omega (arith, size.is, length-map (take len items) of, length-take len items))
 
-  pub rows_written : n ≤ i → {before : List ℕ} {at : ℕ} {after : List ℕ} {r : ℕ}
-      → Written before at (by_columns k (take n rows)) after r → Written before at (by_columns k (map row (map of (take len items)))) after r
-  rows_written h w =
-      written_as w
-      (sym (columns_take k (take n rows))
-      ∙ ap (by_columns k)
-      (copied_all row (take k) n limit (map of (take len items)) so_far h
-      ∙ ap (map row) (take_all n (map of (take len items)) (omega (arith, size.is))))) refl
+  pub table_written : (row : E → List ℕ) (k : ℕ) {before : List ℕ} {at : ℕ} {after : List ℕ} {r : ℕ}
+      → Written before at (by_columns k (map (λ (x : A). row (of x)) (take n items))) after r
+      → Written before at (by_columns k (map row (map of (take len items)))) after r
+  table_written row k w =
+      written_as w (ap (by_columns k) (ap (map (λ (x : A). row (of x))) entries_taken ∙ sym (map-map row of (take len items)))) refl

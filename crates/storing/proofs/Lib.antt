@@ -1,6 +1,6 @@
 pub mod Bound
 pub mod Chains
 pub mod Columns
-pub mod Places
+pub mod Listed
 pub mod Writing
 pub mod Parts

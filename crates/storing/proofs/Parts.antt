@@ -3,7 +3,7 @@ use mathlib.Core.Path.{◌≡◌, refl, sym, ap, ◌∙◌}
 use mathlib.Core.List.{List, [], ◌∷◌, ◌++◌, map, append_assoc}
 use Prim.Native.Nat.{ℕ, ◌+◌, ◌*◌, ◌≤◌, ◌<◌}
 use native.Mathlib.Omega.{arith}
-use lib.ListN.{length, take, drop, length-map, take-append-drop}
+use lib.ListN.{length, take, drop, length-map}
 use lib.Seq.{get_or-take, ext_get_or, length-take-le}
 use borrow.Author.Tests.{lt-ltb, le-ltb}
 use Rattle.ids.specs.Answers.{first_of, decided, outcome, refusing, accepting, no_room}
@@ -15,7 +15,7 @@ use Rattle.file.specs.Rows.{fact_columns, func_app_columns, pred_app_columns, im
 use Rattle.file.specs.Rows.{imposition_row, var_row, ambient_row}
 use Rattle.file.specs.File.{counts, head_of, nexts, firsts, first_fact, parts, store, store_causes, store_into}
 use Rattle.file.proofs.LayoutLaws.{map_at, joined_length, word_bytes_length, columns_length, columns_take}
-use Rattle.storing.specs.View.{Written, Rows, Firsts, fact_parts, app_parts, rest_parts}
+use Rattle.storing.specs.View.{Rows, Firsts, fact_parts, app_parts, rest_parts}
 use Rattle.storing.proofs.Chains.{nexts_length}
 
 -- Arrays.
@@ -96,10 +96,7 @@ module _ (s : Structure) (buffer : List ℕ) where
   stored_none {n} e h = rw (lt-ltb (length buffer) (length (store s)) (omega (arith, e))) refl
 
   -- the file stands first, and the rest is as it was
-  pub stored_all : {after : List ℕ} {n : ℕ} → Written buffer 0 (store s) after n → n ≤ length buffer → accepting n after ≡ store_into s buffer
+  pub stored_all : {front : List ℕ} {n : ℕ} → front ≡ store s → n ≡ length (store s) → n ≤ length buffer → accepting n (front ++ drop n buffer) ≡ store_into s buffer
   unfolding store_into store_causes outcome first_of decided
-  stored_all {after} {n} w h =
-      let many : n ≡ length (store s) = omega (arith, w.end) in
-      let whole : after ≡ store s ++ drop (length (store s)) buffer =
-      sym (take-append-drop n after) ∙ (λ i. w.is i ++ w.rest i) ∙ ap (λ (k : ℕ). store s ++ drop k buffer) many in
-      rw (le-ltb (length buffer) (length (store s)) (omega (arith, many))) (λ i. accepting (many i) (whole i))
+  stored_all is many h =
+      rw (le-ltb (length buffer) (length (store s)) (omega (arith, many))) (λ i. accepting (many i) (is i ++ drop (many i) buffer))

@@ -4,9 +4,10 @@ use mathlib.Core.List.{List, [], ◌∷◌, ◌++◌, map, map-append, append-ni
 use Prim.Native.Nat.{ℕ, ◌+◌, ◌*◌, ◌/◌, ◌≤◌, ◌<◌}
 use native.Mathlib.Numerals.{add-one}
 use native.Mathlib.Omega.{arith}
-use lib.ListN.{length, take, drop, get_or, set, length-append, length-set, length-take}
-use lib.Seq.{take-suc, take-suc-set, drop-set-lt, drop-drop}
+use lib.ListN.{length, take, drop, get_or, set, length-append, length-map, length-set, length-take}
+use lib.Seq.{take-suc, take_all, take-suc-set, drop-set-lt, drop-drop, length-take-le}
 use Rattle.file.specs.Layout.{byte, word_bytes, column, by_columns}
+use Rattle.file.proofs.LayoutLaws.{word_bytes_length}
 use Rattle.storing.specs.View.{Written}
 
 pub written_nothing : (before : List ℕ) (at : ℕ) → Written before at [] before at
@@ -60,35 +61,50 @@ written_two now at b c room =
 -- Lists that grow by an entry.
 
 module _ {A : Type 0} (f : A → ℕ) where
-  pub map_next : (l : List A) (i : ℕ) (d : A) → i < length l → map f (take i l) ++ (f (get_or l i d) ∷ []) ≡ map f (take (i + 1) l)
+  map_next : (l : List A) (i : ℕ) (d : A) → i < length l → map f (take i l) ++ (f (get_or l i d) ∷ []) ≡ map f (take (i + 1) l)
   map_next l i d h = rw (add-one i, take-suc l i d h) (sym (map-append f (take i l) (get_or l i d ∷ [])))
 
-  -- what a turn of a loop writes
-  pub written_next : {before : List ℕ} {at : ℕ} (l : List A) {now : List ℕ} (i : ℕ) (d : A) {b : ℕ} → Written before at (map f (take i l)) now (at + i)
-      → b ≡ f (get_or l i d) → i < length l → at + i < length before → Written before at (map f (take (i + 1) l)) (set now (at + i) b) (at + (i + 1))
-  written_next {before} {at} l {now} i d {b} w e h room =
-      let last : map f (take i l) ++ (b ∷ []) ≡ map f (take (i + 1) l) =
-      ap (λ (x : ℕ). map f (take i l) ++ (x ∷ [])) e ∙ map_next l i d h in
-      written_as (written_more w b room) last (omega arith)
+  module _ {before : List ℕ} {at : ℕ} (l : List A) {now : List ℕ} {i r : ℕ} (w : Written before at (map f (take i l)) now r) where
+    module _ (h : i < length l) (fits : at + length l ≤ length before) where
+      -- there is room for one more
+      pub written_room : r < length now
+      written_room = omega (arith, w.end, w.long, length-map (take i l) f, length-take-le i l (omega arith))
+
+      -- what a turn of a loop writes
+      pub written_next : (d : A) {b : ℕ} → b ≡ f (get_or l i d) → Written before at (map f (take (i + 1) l)) (set now r b) (r + 1)
+      written_next d {b} e =
+          let last : map f (take i l) ++ (b ∷ []) ≡ map f (take (i + 1) l) =
+          ap (λ (x : ℕ). map f (take i l) ++ (x ∷ [])) e ∙ map_next l i d h in
+          written_as (written_more w b (omega (arith, written_room, w.long))) last refl
+
+    pub written_all : length l ≤ i → Written before at (map f l) now r
+    written_all h = written_as w (ap (map f) (take_all i l h)) refl
 
 words_append : (ns ms : List ℕ) → word_bytes (ns ++ ms) ≡ word_bytes ns ++ word_bytes ms
 unfolding word_bytes
 words_append [] ms = refl
 words_append (n ∷ ns) ms = ap (λ (l : List ℕ). byte n ∷ byte (n / 256) ∷ l) (words_append ns ms)
 
-pub words_next : (l : List ℕ) (i : ℕ) → i < length l
+words_next : (l : List ℕ) (i : ℕ) → i < length l
     → word_bytes (take i l) ++ (byte (get_or l i 0) ∷ byte (get_or l i 0 / 256) ∷ []) ≡ word_bytes (take (i + 1) l)
 unfolding word_bytes
 words_next l i h = rw (add-one i, take-suc l i 0 h) (sym (words_append (take i l) (get_or l i 0 ∷ [])))
 
--- a number takes two bytes
-pub written_word : {before : List ℕ} {at : ℕ} (l : List ℕ) {now : List ℕ} (i : ℕ) {low high : ℕ} → Written before at (word_bytes (take i l)) now (at + 2 * i)
-    → low ≡ byte (get_or l i 0) → high ≡ byte (get_or l i 0 / 256) → i < length l → at + 2 * i + 1 < length before
-    → Written before at (word_bytes (take (i + 1) l)) (set (set now (at + 2 * i) low) (at + 2 * i + 1) high) (at + 2 * (i + 1))
-written_word {before} {at} l {now} i {low} {high} w e f h room =
-    let both : word_bytes (take i l) ++ (low ∷ high ∷ []) ≡ word_bytes (take (i + 1) l) =
-    (λ j. word_bytes (take i l) ++ (e j ∷ f j ∷ [])) ∙ words_next l i h in
-    written_as (written_then w (written_two now (at + 2 * i) low high (omega (arith, w.long)))) both (omega arith)
+module _ {before : List ℕ} {at : ℕ} (l : List ℕ) {now : List ℕ} {i r : ℕ} (w : Written before at (word_bytes (take i l)) now r) where
+  -- a number takes two bytes
+  module _ (h : i < length l) (fits : at + 2 * length l ≤ length before) where
+    pub words_room : r + 1 < length now
+    words_room = omega (arith, w.end, w.long, word_bytes_length (take i l), length-take-le i l (omega arith))
+
+    pub written_word : {low high : ℕ} → low ≡ byte (get_or l i 0) → high ≡ byte (get_or l i 0 / 256)
+        → Written before at (word_bytes (take (i + 1) l)) (set (set now r low) (r + 1) high) (r + 2)
+    written_word {low} {high} e f =
+        let both : word_bytes (take i l) ++ (low ∷ high ∷ []) ≡ word_bytes (take (i + 1) l) =
+        (λ j. word_bytes (take i l) ++ (e j ∷ f j ∷ [])) ∙ words_next l i h in
+        written_as (written_then w (written_two now r low high words_room)) both refl
+
+  pub words_all : length l ≤ i → Written before at (word_bytes l) now r
+  words_all h = written_as w (ap word_bytes (take_all i l h)) refl
 
 pub columns_next : (k : ℕ) (rows : List (List ℕ)) → by_columns k rows ++ column k rows ≡ by_columns (k + 1) rows
 unfolding by_columns

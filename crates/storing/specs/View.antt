@@ -1,16 +1,18 @@
 -- What is written into a buffer, as the definitions speak of it.
 use Rattle.std.specs.Prelude.{ℕ, ◌+◌, ◌*◌, ◌≤◌, ◌≡◌, false, List, [], ◌∷◌, ◌++◌, map, reverse, length, take, drop, get_or}
+use Rattle.std.specs.declared.result.Result.{Result}
+use Rattle.std.specs.declared.result.Result.TheVariants.{Ok, Err}
 use Rattle.ids.specs.Answers.{Answered, accepted, refused, Outcome}
 use Rattle.unification.specs.Roots.{max_els}
 use Rattle.signature.specs.Model.{max_types}
 use Rattle.semantics.specs.Structure.{Fact, Structure, max_facts, max_func_apps, max_pred_apps, max_vars, max_pairs, max_impositions}
 use Rattle.semantics.specs.Sheet.{bit}
+use Rattle.bindings.specs.declared.Slot.{Slot}
+use Rattle.bindings.specs.View.{slots_from}
 use Rattle.file.specs.Layout.{byte, word_bytes, by_columns}
 use Rattle.file.specs.Rows.{fact_columns, func_app_columns, pred_app_columns, imposition_columns, pair_columns, fact_row, func_app_row, pred_app_row}
 use Rattle.file.specs.Rows.{imposition_row, pair_row}
 use Rattle.file.specs.File.{counts, head_of, nexts, firsts, first_fact, any_over, limits}
-use Rattle.storing.specs.declared.Stored.{Stored}
-use Rattle.storing.specs.declared.Stored.TheVariants as stored
 
 -- bytes were written from an index on: they end before r, and what is past them is as it was
 pub record Written (before : List ℕ) (at : ℕ) (bytes after : List ℕ) (r : ℕ) : Type 0 where
@@ -30,17 +32,21 @@ pub record Rows (k : ℕ) (entries : List (List ℕ)) (limit : ℕ) (rows : List
   pub most : r ≤ limit
   pub long : length rows ≡ limit
 
+-- the slots that are given, as rows: the key and the element of each
+abbrev pub slot_rows : List Slot → List (List ℕ)
+slot_rows ss = slots_from (λ (key el : ℕ). key ∷ el ∷ []) 0 ss
+
 -- where the chain of each of so many elements begins, by these facts
 pub record Firsts (limit : ℕ) (facts : List Fact) (heads : List ℕ) : Type 0 where
   pub each : (e : ℕ) → e + 1 ≤ limit → get_or heads e 0 ≡ first_fact 1 e facts
   pub long : length heads ≡ limit
 
 -- what storing answers, and the buffer that it leaves
-abbrev pub stored_answer : Stored → Answered ℕ
-stored_answer (stored.Bytes n) = accepted n
-stored_answer (stored.Refused n) = refused n
+abbrev pub stored_answer : Result ℕ ℕ → Answered ℕ
+stored_answer (Ok n) = accepted n
+stored_answer (Err n) = refused n
 
-abbrev pub stored_of : Stored → List ℕ → Outcome ℕ (List ℕ)
+abbrev pub stored_of : Result ℕ ℕ → List ℕ → Outcome ℕ (List ℕ)
 stored_of r buffer = record { answer = stored_answer r; after = buffer }
 
 -- The most bytes of a file, and of its parts that are written together.

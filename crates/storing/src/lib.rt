@@ -1,125 +1,152 @@
 // Storing a structure (02, M-104; docs/FILE.md): its tables as rows of numbers, and the rows by columns into a buffer.
 #![tactic(auto)]
 
-ghost use Rattle.std.specs.Prelude.{◌≡◌, [], map, reverse, ◌+◌, ◌*◌, ◌≤◌, ◌<◌, length, take, get_or};
+ghost use Rattle.std.specs.Prelude.{◌≡◌, ℕ, List, [], ◌∷◌, map, ◌+◌, ◌*◌, ◌≤◌, length, take, get_or};
 ghost use Rattle.ids.specs.Ids.{els_of};
 ghost use Rattle.unification.specs.Roots.{max_els};
-ghost use Rattle.signature.specs.Model.{max_types};
-ghost use Rattle.semantics.specs.Structure.{max_facts, max_func_apps, max_pred_apps, max_vars, max_pairs, max_impositions};
+ghost use Rattle.semantics.specs.Structure.{max_vars};
 ghost use Rattle.semantics.specs.Sheet.{bit};
-ghost use Rattle.facts.specs.View.{fact_of, facts_of, impositions_of};
-ghost use Rattle.apps.specs.View.{func_app_of, func_apps_of, pred_app_of, pred_apps_of};
-ghost use Rattle.bindings.specs.View.{vars_of, ambients_of};
-ghost use Rattle.equalities.specs.View.{pairs_of};
+ghost use Rattle.facts.specs.View.{fact_of, facts_of};
+ghost use Rattle.apps.specs.View.{func_app_of, pred_app_of};
+ghost use Rattle.equalities.specs.View.{pair_of};
 ghost use Rattle.structure.specs.View.{structure_of};
 ghost use Rattle.file.specs.Layout as layout;
 ghost use Rattle.file.specs.Layout.{word_bytes, column, by_columns, joined};
-ghost use Rattle.file.specs.Rows.{fact_columns, func_app_columns, pred_app_columns, imposition_columns, pair_columns, fact_row, func_app_row, pred_app_row};
-ghost use Rattle.file.specs.Rows.{imposition_row, var_row, ambient_row, pair_row};
+ghost use Rattle.file.specs.Rows.{fact_columns, func_app_columns, pred_app_columns, imposition_columns, pair_columns, places, fact_row, func_app_row, pred_app_row};
+ghost use Rattle.file.specs.Rows.{imposition_row, pair_row};
 ghost use Rattle.file.specs.File as parking;
 ghost use Rattle.file.specs.File.{nexts, store_into};
-ghost use Rattle.storing.specs.View.{Written, Held, Rows, Firsts, stored_of, max_bytes, fact_bytes, rest_bytes, fact_parts, app_parts, rest_parts};
+ghost use Rattle.storing.specs.View.{Written, Held, Rows, Firsts, slot_rows, stored_of, max_bytes, fact_bytes, rest_bytes, fact_parts, app_parts, rest_parts};
 
 use apps::{FuncApp, FuncApps, PredApp, PredApps};
-use bindings::{AmbientEls, VarEls};
-use equalities::Pairs;
+use bindings::Slot;
+use equalities::{Pair, Pairs};
 use facts::{Fact, Facts, Impositions};
 use file_rows::{File, Row, WIDTH};
 use ids::{ElIds, Refusal};
 use signature::Signature;
 use structure::Structure;
 
-// What storing answers: so many bytes were written, or a number.
-#[derive(Clone, Copy)]
-pub enum Stored {
-    Bytes(usize),
-    Refused(u16),
+// What stands in one byte of a file.
+trait InByte: Copy {
+    ghost byte: { Self → ℕ };
+
+    fn byte(self) -> u8
+        ensures { result ≡ byte self };
 }
 
-// A number in one byte.
-fn byte(x: u16) -> u8
-    ensures { result ≡ layout.byte x }
-{
-    (x % 256) as u8
+impl InByte for u16 {
+    ghost byte = { layout.byte };
+
+    fn byte(self) -> u8 {
+        (self % 256) as u8
+    }
+}
+
+impl InByte for bool {
+    ghost byte = { bit };
+
+    fn byte(self) -> u8 {
+        u8::from(self)
+    }
 }
 
 // The number that a row holds at a place.
-fn cell(row: Row, j: usize) -> u16
-    ensures { result ≡ get_or row j 0 }
+fn cell(row: &Row, j: usize) -> u16
+    ensures { result ≡ get_or row.now j 0 }
 {
-    if WIDTH <= j {
-        return 0;
-    }
-    row[j]
+    if j < WIDTH { row[j] } else { 0 }
 }
 
 // ---- bytes into a buffer
 
-// Numbers, a byte each.
-fn put_numbers(numbers: &[u16], n: usize, buffer: &mut [u8], at: usize) -> usize
-    requires { (n ≤ length numbers.now) × (at + n ≤ length buffer.old) }
-    ensures { Written buffer.old at (map layout.byte (take n numbers.now)) buffer.new result }
-{
-    for i in 0..n {
-        buffer[at + i] = byte(numbers[i]);
-    }
-    at + n
-}
+// Each begins at an index of the buffer and gives the one where it ends. With a slice from there on each caller would have to add up what was written before.
 
-// Numbers, two bytes each.
-fn put_words(numbers: &[u16], n: usize, buffer: &mut [u8], at: usize) -> usize
-    requires { (n ≤ length numbers.now) × (at + 2 * n ≤ length buffer.old) }
-    ensures { Written buffer.old at (word_bytes (take n numbers.now)) buffer.new result }
-{
-    for i in 0..n {
-        let number = numbers[i];
-        buffer[at + 2 * i] = byte(number);
-        buffer[at + 2 * i + 1] = byte(number / 256);
-    }
-    at + 2 * n
-}
-
-// What the rows hold at place j.
-fn put_column(rows: &[Row], n: usize, j: usize, buffer: &mut [u8], at: usize) -> usize
-    requires { (n ≤ length rows.now) × (at + n ≤ length buffer.old) }
-    ensures { Written buffer.old at (column j (take n rows.now)) buffer.new result }
-{
-    for i in 0..n {
-        let number = cell(rows[i], j);
-        buffer[at + i] = byte(number);
-    }
-    at + n
-}
-
-// The first k columns of the rows.
-fn put_columns(rows: &[Row], n: usize, k: usize, buffer: &mut [u8], at: usize) -> usize
-    requires { (n ≤ length rows.now) × (at + k * n ≤ length buffer.old) }
-    ensures { Written buffer.old at (by_columns k (take n rows.now)) buffer.new result }
+// A byte each.
+fn put_bytes<T: InByte>(values: &[T], buffer: &mut [u8], at: usize) -> usize
+    requires { at + length values.now ≤ length buffer.old }
+    ensures { Written buffer.old at (map T.byte values.now) buffer.new result }
 {
     let mut end = at;
-    for j in 0..k {
-        end = put_column(rows, n, j, buffer, end);
+    for value in values {
+        buffer[end] = value.byte();
+        end += 1;
     }
     end
 }
 
-fn put_marks(marks: [bool; Structure::MAX_ELS], n: usize, buffer: &mut [u8], at: usize) -> usize
-    requires { (n ≤ max_els) × (at + n ≤ length buffer.old) }
-    ensures { Written buffer.old at (map bit (take n marks)) buffer.new result }
+// Two bytes each.
+fn put_words(words: &[u16], buffer: &mut [u8], at: usize) -> usize
+    requires { at + 2 * length words.now ≤ length buffer.old }
+    ensures { Written buffer.old at (word_bytes words.now) buffer.new result }
 {
-    for i in 0..n {
-        buffer[at + i] = bit(marks[i]);
+    let mut end = at;
+    for word in words {
+        let [low, high] = word.to_le_bytes();
+        buffer[end] = low;
+        buffer[end + 1] = high;
+        end += 2;
     }
-    at + n
+    end
 }
 
-fn bit(b: bool) -> u8
-    ensures { result ≡ bit b }
+// What the rows hold at place j.
+fn put_column(rows: &[Row], j: usize, buffer: &mut [u8], at: usize) -> usize
+    requires { at + length rows.now ≤ length buffer.old }
+    ensures { Written buffer.old at (column j rows.now) buffer.new result }
 {
-    if b { 1 } else { 0 }
+    let mut end = at;
+    for row in rows {
+        buffer[end] = cell(row, j).byte();
+        end += 1;
+    }
+    end
 }
 
-// ---- entries as rows
+// The first k columns of the rows.
+fn put_columns(rows: &[Row], k: usize, buffer: &mut [u8], at: usize) -> usize
+    requires { at + k * length rows.now ≤ length buffer.old }
+    ensures { Written buffer.old at (by_columns k rows.now) buffer.new result }
+{
+    let mut end = at;
+    for j in 0..k {
+        end = put_column(rows, j, buffer, end);
+    }
+    end
+}
+
+// ---- tables as rows
+
+// A table of entries, each of which is a row of the file.
+trait Table {
+    type Entry: Copy;
+
+    const COLUMNS: usize;
+
+    ghost COLUMNS: { ℕ };
+
+    ghost row_of: { Self.Entry → List ℕ };
+
+    fn row(entry: Self::Entry) -> Row
+        ensures { take COLUMNS result ≡ row_of entry };
+}
+
+// The entries of a table, by way of an array of rows that has room for them.
+fn put_table<T: Table>(
+    entries: &[T::Entry],
+    rows: &mut [Row],
+    buffer: &mut [u8],
+    at: usize,
+) -> usize
+    requires rows { length entries.now ≤ length rows.old }
+    requires bytes { at + T.COLUMNS * length entries.now ≤ length buffer.old }
+    ensures { Written buffer.old at (by_columns T.COLUMNS (map T.row_of entries.now)) buffer.new result }
+{
+    for (i, entry) in entries.iter().enumerate() {
+        rows[i] = T::row(*entry);
+    }
+    put_columns(&rows[..entries.len()], T::COLUMNS, buffer, at)
+}
 
 // The element at a place of a list; 0 past its last.
 fn place(list: ElIds, j: usize) -> u16
@@ -131,202 +158,136 @@ fn place(list: ElIds, j: usize) -> u16
     list.ids[j].0
 }
 
-fn fact_row(fact: Fact) -> Row
-    ensures { take fact_columns result ≡ fact_row (fact_of fact) }
+// A list in its places, and then how many there are.
+fn places(list: ElIds) -> [u16; ElIds::MAX_LEN + 1]
+    ensures { result ≡ places (els_of list) }
 {
-    let list = fact.ct.parents;
     let count = list.size() as u16;
     [
-        fact.ct.typ.0,
         place(list, 0),
         place(list, 1),
         place(list, 2),
         place(list, 3),
         count,
-        0,
-        0,
-        0,
-        0,
-        0,
-        0,
     ]
 }
 
-fn imposition_row(fact: Fact) -> Row
-    ensures { take imposition_columns result ≡ imposition_row (fact_of fact) }
-{
-    let list = fact.ct.parents;
-    let count = list.size() as u16;
-    [
-        fact.el.0,
-        fact.ct.typ.0,
-        place(list, 0),
-        place(list, 1),
-        place(list, 2),
-        place(list, 3),
-        count,
-        0,
-        0,
-        0,
-        0,
-        0,
-    ]
+impl Table for Facts {
+    type Entry = Fact;
+
+    const COLUMNS: usize = File::FACT_COLUMNS;
+
+    ghost COLUMNS = { fact_columns };
+
+    ghost row_of = { λ f. fact_row (fact_of f) };
+
+    fn row(fact: Fact) -> Row {
+        let [a, b, c, d, count] = places(fact.ct.parents);
+        [fact.ct.typ.0, a, b, c, d, count, 0, 0, 0, 0, 0, 0]
+    }
 }
 
-fn func_app_row(app: FuncApp) -> Row
-    ensures { take func_app_columns result ≡ func_app_row (func_app_of app) }
-{
-    let parents = app.parents;
-    let args = app.args;
-    let parent_count = parents.size() as u16;
-    let arg_count = args.size() as u16;
-    [
-        app.func.0,
-        place(parents, 0),
-        place(parents, 1),
-        place(parents, 2),
-        place(parents, 3),
-        parent_count,
-        place(args, 0),
-        place(args, 1),
-        place(args, 2),
-        place(args, 3),
-        arg_count,
-        app.result.0,
-    ]
+impl Table for Impositions {
+    type Entry = Fact;
+
+    const COLUMNS: usize = File::IMPOSITION_COLUMNS;
+
+    ghost COLUMNS = { imposition_columns };
+
+    ghost row_of = { λ f. imposition_row (fact_of f) };
+
+    fn row(fact: Fact) -> Row {
+        let [a, b, c, d, count] = places(fact.ct.parents);
+        let el = fact.el.0;
+        [el, fact.ct.typ.0, a, b, c, d, count, 0, 0, 0, 0, 0]
+    }
 }
 
-fn pred_app_row(app: PredApp) -> Row
-    ensures { take pred_app_columns result ≡ pred_app_row (pred_app_of app) }
-{
-    let parents = app.parents;
-    let args = app.args;
-    let parent_count = parents.size() as u16;
-    let arg_count = args.size() as u16;
-    [
-        app.pred.0,
-        place(parents, 0),
-        place(parents, 1),
-        place(parents, 2),
-        place(parents, 3),
-        parent_count,
-        place(args, 0),
-        place(args, 1),
-        place(args, 2),
-        place(args, 3),
-        arg_count,
-        0,
-    ]
+impl Table for FuncApps {
+    type Entry = FuncApp;
+
+    const COLUMNS: usize = File::FUNC_APP_COLUMNS;
+
+    ghost COLUMNS = { func_app_columns };
+
+    ghost row_of = { λ x. func_app_row (func_app_of x) };
+
+    fn row(app: FuncApp) -> Row {
+        let [a, b, c, d, parents] = places(app.parents);
+        let [e, f, g, h, args] = places(app.args);
+        [
+            app.func.0,
+            a,
+            b,
+            c,
+            d,
+            parents,
+            e,
+            f,
+            g,
+            h,
+            args,
+            app.result.0,
+        ]
+    }
+}
+
+impl Table for PredApps {
+    type Entry = PredApp;
+
+    const COLUMNS: usize = File::PRED_APP_COLUMNS;
+
+    ghost COLUMNS = { pred_app_columns };
+
+    ghost row_of = { λ x. pred_app_row (pred_app_of x) };
+
+    fn row(app: PredApp) -> Row {
+        let [a, b, c, d, parents] = places(app.parents);
+        let [e, f, g, h, args] = places(app.args);
+        [app.pred.0, a, b, c, d, parents, e, f, g, h, args, 0]
+    }
+}
+
+impl Table for Pairs {
+    type Entry = Pair;
+
+    const COLUMNS: usize = File::PAIR_COLUMNS;
+
+    ghost COLUMNS = { pair_columns };
+
+    ghost row_of = { λ p. pair_row (pair_of p) };
+
+    fn row(pair: Pair) -> Row {
+        pair_row(pair.lhs.0, pair.rhs.0)
+    }
 }
 
 // A row of two numbers.
 fn pair_row(x: u16, y: u16) -> Row
-    ensures { (get_or result 0 0 ≡ x) × ((get_or result 1 0 ≡ y) × (length result ≡ 12)) }
+    ensures { take pair_columns result ≡ x ∷ y ∷ [] }
 {
     [x, y, 0, 0, 0, 0, 0, 0, 0, 0, 0, 0]
 }
 
-// ---- tables into a buffer
-
-fn put_facts(table: Facts, buffer: &mut [u8], at: usize) -> usize
-    requires { at + fact_columns * length (facts_of table) ≤ length buffer.old }
-    ensures { Written buffer.old at (by_columns fact_columns (map fact_row (facts_of table))) buffer.new result }
+// The slots that are given as rows: gives how many there are.
+fn fill_slots(rows: &mut [Row], slots: &[Slot]) -> usize
+    requires rows { length rows.old ≡ length slots.now }
+    requires keys { length slots.now ≤ max_vars }
+    ensures { Rows pair_columns (slot_rows slots.now) (length slots.now) rows.new result }
 {
-    let n = table.size();
-    let mut rows = [[0u16; WIDTH]; Structure::MAX_FACTS];
-    for i in 0..n {
-        rows[i] = fact_row(table.items[i]);
-    }
-    put_columns(&rows, n, File::FACT_COLUMNS, buffer, at)
-}
-
-fn put_func_apps(table: FuncApps, buffer: &mut [u8], at: usize) -> usize
-    requires { at + func_app_columns * length (func_apps_of table) ≤ length buffer.old }
-    ensures { Written buffer.old at (by_columns func_app_columns (map func_app_row (func_apps_of table))) buffer.new result }
-{
-    let n = table.size();
-    let mut rows = [[0u16; WIDTH]; Structure::MAX_FUNC_APPS];
-    for i in 0..n {
-        rows[i] = func_app_row(table.items[i]);
-    }
-    put_columns(&rows, n, File::FUNC_APP_COLUMNS, buffer, at)
-}
-
-fn put_pred_apps(table: PredApps, buffer: &mut [u8], at: usize) -> usize
-    requires { at + pred_app_columns * length (pred_apps_of table) ≤ length buffer.old }
-    ensures { Written buffer.old at (by_columns pred_app_columns (map pred_app_row (pred_apps_of table))) buffer.new result }
-{
-    let n = table.size();
-    let mut rows = [[0u16; WIDTH]; Structure::MAX_PRED_APPS];
-    for i in 0..n {
-        rows[i] = pred_app_row(table.items[i]);
-    }
-    put_columns(&rows, n, File::PRED_APP_COLUMNS, buffer, at)
-}
-
-fn put_impositions(table: Impositions, buffer: &mut [u8], at: usize) -> usize
-    requires { at + imposition_columns * length (impositions_of table) ≤ length buffer.old }
-    ensures { Written buffer.old at (by_columns imposition_columns (map imposition_row (impositions_of table))) buffer.new result }
-{
-    let n = table.size();
-    let mut rows = [[0u16; WIDTH]; Structure::MAX_IMPOSITIONS];
-    for i in 0..n {
-        rows[i] = imposition_row(table.items[i]);
-    }
-    put_columns(&rows, n, File::IMPOSITION_COLUMNS, buffer, at)
-}
-
-// The oldest first.
-fn put_pairs(table: Pairs, buffer: &mut [u8], at: usize) -> usize
-    requires { at + pair_columns * length (pairs_of table) ≤ length buffer.old }
-    ensures { Written buffer.old at (by_columns pair_columns (map pair_row (reverse (pairs_of table)))) buffer.new result }
-{
-    let n = table.size();
-    let mut rows = [[0u16; WIDTH]; Structure::MAX_PAIRS];
-    for i in 0..n {
-        let pair = table.items[i];
-        rows[i] = pair_row(pair.lhs.0, pair.rhs.0);
-    }
-    put_columns(&rows, n, File::PAIR_COLUMNS, buffer, at)
-}
-
-// The variables as rows: gives how many there are.
-fn fill_vars(rows: &mut [Row], table: VarEls) -> usize
-    requires { length rows.old ≡ max_vars }
-    ensures { Rows pair_columns (map var_row (vars_of table)) max_vars rows.new result }
-{
-    let mut n: usize = 0;
-    for key in 0..VarEls::MAX_LEN {
-        let slot = table.slots[key];
-        if !slot.given {
-            continue;
+    let mut n = 0;
+    for (key, slot) in slots.iter().enumerate() {
+        if slot.given {
+            rows[n] = pair_row(key as u16, slot.el.0);
+            n += 1;
         }
-        rows[n] = pair_row(key as u16, slot.el.0);
-        n += 1;
-    }
-    n
-}
-
-// The same of the ambients.
-fn fill_ambients(rows: &mut [Row], table: AmbientEls) -> usize
-    requires { length rows.old ≡ max_types }
-    ensures { Rows pair_columns (map ambient_row (ambients_of table)) max_types rows.new result }
-{
-    let mut n: usize = 0;
-    for typ in 0..Signature::MAX_TYPES {
-        let slot = table.slots[typ];
-        if !slot.given {
-            continue;
-        }
-        rows[n] = pair_row(typ as u16, slot.el.0);
-        n += 1;
     }
     n
 }
 
 // ---- the chains of facts
 
-// The next index of each fact.
+// The next index of each fact. The index tells two neighbours and the place that is written.
 fn nexts_of(table: Facts) -> [u16; Structure::MAX_FACTS]
     ensures { take (length (facts_of table)) result ≡ nexts (facts_of table) }
 {
@@ -347,11 +308,9 @@ fn nexts_of(table: Facts) -> [u16; Structure::MAX_FACTS]
 fn firsts_of(table: Facts) -> [u16; Structure::MAX_ELS]
     ensures { Firsts max_els (facts_of table) result }
 {
-    let n = table.size();
     let mut firsts = [0u16; Structure::MAX_ELS];
-    for i in 0..n {
-        let here = table.items[i];
-        let el = here.el.0 as usize;
+    for (i, fact) in table.items[..table.size()].iter().enumerate() {
+        let el = fact.el.0 as usize;
         if Structure::MAX_ELS <= el {
             continue;
         }
@@ -376,10 +335,11 @@ fn write_facts(structure: Structure, counts: [u16; File::COUNTS], file: &mut [u8
     let facts = structure.els;
     let m = facts.size();
     let nexts = nexts_of(facts);
-    let head = put_words(&counts, File::COUNTS, file, 0);
-    let linked = put_numbers(&links, n, file, head);
-    let stored = put_facts(facts, file, linked);
-    put_words(&nexts, m, file, stored)
+    let mut rows = [[0u16; WIDTH]; Structure::MAX_FACTS];
+    let head = put_words(&counts, file, 0);
+    let linked = put_bytes(&links[..n], file, head);
+    let stored = put_table::<Facts>(&facts.items[..m], &mut rows, file, linked);
+    put_words(&nexts[..m], file, stored)
 }
 
 // The applications and the impositions.
@@ -390,12 +350,18 @@ fn write_apps(structure: Structure, file: &mut [u8], at: usize) -> usize
     let funcs = structure.func_apps;
     let preds = structure.pred_apps;
     let impositions = structure.pending_type_impositions;
-    let applied = put_func_apps(funcs, file, at);
-    let said = put_pred_apps(preds, file, applied);
-    put_impositions(impositions, file, said)
+    let mut rows = [[0u16; WIDTH]; Structure::MAX_FUNC_APPS];
+    let applied = put_table::<FuncApps>(&funcs.items[..funcs.size()], &mut rows, file, at);
+    let said = put_table::<PredApps>(&preds.items[..preds.size()], &mut rows, file, applied);
+    put_table::<Impositions>(
+        &impositions.items[..impositions.size()],
+        &mut rows,
+        file,
+        said,
+    )
 }
 
-// The marks, the pairs, where the chains begin, and the flags.
+// The marks, the pairs (the oldest first), where the chains begin, and the flags.
 fn write_rest(structure: Structure, file: &mut [u8], at: usize) -> usize
     requires { (length file.old ≡ max_bytes) × (at + rest_bytes ≤ max_bytes) }
     ensures { Written file.old at (joined (rest_parts (structure_of structure))) file.new result }
@@ -406,12 +372,11 @@ fn write_rest(structure: Structure, file: &mut [u8], at: usize) -> usize
     let pairs = structure.pending_equalities;
     let facts = structure.els;
     let firsts = firsts_of(facts);
-    let marked = put_marks(marks, n, file, at);
-    let queued = put_pairs(pairs, file, marked);
-    let end = put_words(&firsts, n, file, queued);
-    file[end] = bit(structure.settled);
-    file[end + 1] = bit(structure.started);
-    end + 2
+    let mut rows = [[0u16; WIDTH]; Structure::MAX_PAIRS];
+    let marked = put_bytes(&marks[..n], file, at);
+    let queued = put_table::<Pairs>(&pairs.items[..pairs.size()], &mut rows, file, marked);
+    let end = put_words(&firsts[..n], file, queued);
+    put_bytes(&[structure.settled, structure.started], file, end)
 }
 
 // The file of a structure, at the front of an array that has room for the longest.
@@ -424,13 +389,13 @@ pub fn write(structure: Structure, file: &mut [u8]) -> usize
     let funcs = structure.func_apps;
     let preds = structure.pred_apps;
     let impositions = structure.pending_type_impositions;
-    let pairs = structure.pending_equalities;
+    let queue = structure.pending_equalities;
     let var_els = structure.var_els;
     let ambient_els = structure.ambient_model_els;
     let mut vars = [[0u16; WIDTH]; Structure::MAX_VARS];
     let mut ambients = [[0u16; WIDTH]; Signature::MAX_TYPES];
-    let var_count = fill_vars(&mut vars, var_els);
-    let ambient_count = fill_ambients(&mut ambients, ambient_els);
+    let var_count = fill_slots(&mut vars, &var_els.slots);
+    let ambient_count = fill_slots(&mut ambients, &ambient_els.slots);
     let counts = [
         u.size() as u16,
         facts.size() as u16,
@@ -439,26 +404,24 @@ pub fn write(structure: Structure, file: &mut [u8]) -> usize
         impositions.size() as u16,
         var_count as u16,
         ambient_count as u16,
-        pairs.size() as u16,
+        queue.size() as u16,
     ];
     let chained = write_facts(structure, counts, file);
     let applied = write_apps(structure, file, chained);
-    let bound = put_columns(&vars, var_count, File::PAIR_COLUMNS, file, applied);
-    let given = put_columns(&ambients, ambient_count, File::PAIR_COLUMNS, file, bound);
+    let bound = put_columns(&vars[..var_count], File::PAIR_COLUMNS, file, applied);
+    let given = put_columns(&ambients[..ambient_count], File::PAIR_COLUMNS, file, bound);
     write_rest(structure, file, given)
 }
 
-// The file of a structure at the front of a buffer, the rest of which is left as it was; a buffer that is too short is refused.
-pub fn store(structure: Structure, buffer: &mut [u8]) -> Stored
+// The file of a structure at the front of a buffer, the rest of which is left as it was, and how long it is; 9 where the buffer is too short.
+pub fn store(structure: Structure, buffer: &mut [u8]) -> Result<usize, u16>
     ensures { stored_of result buffer.new ≡ store_into (structure_of structure) buffer.old }
 {
     let mut file = [0u8; File::MAX_BYTES];
     let n = write(structure, &mut file);
     if buffer.len() < n {
-        return Stored::Refused(Refusal::NO_ROOM);
+        return Err(Refusal::NO_ROOM);
     }
-    for i in 0..n {
-        buffer[i] = file[i];
-    }
-    Stored::Bytes(n)
+    buffer[..n].copy_from_slice(&file[..n]);
+    Ok(n)
 }

@@ -10,6 +10,7 @@ use lib.ListN.{length}
 use lib.Dec.{ltb, leb}
 use borrow.Author.Tests.{le-ltb, lt-leb, le-leb, ltb-true, ltb-false}
 use Rattle.ids.specs.declared.ElIds.{ElIds}
+use Rattle.std.specs.List.{list_all}
 use Rattle.ids.specs.Limits.{max_list}
 use Rattle.ids.specs.Answers.{Cause, first_of}
 use Rattle.ids.specs.Ids.{el_of, els_of, too_long}
@@ -24,7 +25,7 @@ use Rattle.semantics.specs.Calls.{Call, impose_type, apply_func, apply_pred, bin
 use Rattle.semantics.proofs.Cases.{test}
 use Rattle.inserting.specs.View.{fact_within, app_within, pred_app_within}
 use Rattle.file.specs.File.{any, els_alone, entry_calls, is_given, refuses, entry_refused}
-use Rattle.validating.specs.View.{every, fact_allowed, func_app_allowed, pred_app_allowed, var_within, ambient_allowed, pair_within}
+use Rattle.validating.specs.View.{fact_allowed, func_app_allowed, pred_app_allowed, var_within, ambient_allowed, pair_within}
 
 -- a list that has as many places as a list has is not too long
 pub held_short : (l : ElIds) → length l.ids ≡ max_list → too_long (els_of l) ≡ false
@@ -134,15 +135,15 @@ either_fails false b c = refl
 
 -- some call of a list of entries, or of the rest, is refused
 module _ {A : Type 0} (refused : Call → Bool) (call : A → Call) (p : A → Bool) (by : (x : A) → refused (call x) ≡ not (p x)) where
-  some_refused : (l : List A) (rest : List Call) (r : Bool) → any refused rest ≡ not r → any refused (map call l ++ rest) ≡ not (every p l && r)
-  unfolding any every
+  some_refused : (l : List A) (rest : List Call) (r : Bool) → any refused rest ≡ not r → any refused (map call l ++ rest) ≡ not (list_all p l && r)
+  unfolding any
   some_refused [] rest r h = h
-  some_refused (x ∷ l) rest r h = (λ i. by x i || some_refused l rest r h i) ∙ either_fails (p x) (every p l) r
+  some_refused (x ∷ l) rest r h = (λ i. by x i || some_refused l rest r h i) ∙ either_fails (p x) (list_all p l) r
 
-  last_refused : (l : List A) → any refused (map call l) ≡ not (every p l)
-  unfolding any every
+  last_refused : (l : List A) → any refused (map call l) ≡ not (list_all p l)
+  unfolding any
   last_refused [] = refl
-  last_refused (x ∷ l) = (λ i. by x i || last_refused l i) ∙ fails_or (p x) (every p l)
+  last_refused (x ∷ l) = (λ i. by x i || last_refused l i) ∙ fails_or (p x) (list_all p l)
     where
       fails_or : (a b : Bool) → (not a || not b) ≡ not (a && b)
       fails_or true b = refl
@@ -151,25 +152,40 @@ module _ {A : Type 0} (refused : Call → Bool) (call : A → Call) (p : A → B
 -- what the code judges of the entries, by its counts of elements and predicates: of the last table, of the last two, and so on
 module _ (g : Sig) (s : Structure) (els preds : ℕ) where
   abbrev pub pairs_allowed : Bool
-  pairs_allowed = every (pair_within els) s.pairs
+  pairs_allowed = list_all (pair_within els) s.pairs
 
   abbrev pub from_ambients : Bool
-  from_ambients = every (ambient_allowed g els) s.ambients && pairs_allowed
+  from_ambients = list_all (ambient_allowed g els) s.ambients && pairs_allowed
 
   abbrev pub from_vars : Bool
-  from_vars = every (var_within els) s.vars && from_ambients
+  from_vars = list_all (var_within els) s.vars && from_ambients
 
   abbrev pub from_impositions : Bool
-  from_impositions = every (fact_allowed g.types els) s.impositions && from_vars
+  from_impositions = list_all (fact_allowed g.types els) s.impositions && from_vars
 
   abbrev pub from_pred_apps : Bool
-  from_pred_apps = every (pred_app_allowed els preds) s.pred_apps && from_impositions
+  from_pred_apps = list_all (pred_app_allowed els preds) s.pred_apps && from_impositions
 
   abbrev pub from_func_apps : Bool
-  from_func_apps = every (func_app_allowed g els) s.func_apps && from_pred_apps
+  from_func_apps = list_all (func_app_allowed g els) s.func_apps && from_pred_apps
 
   abbrev pub allowed : Bool
-  allowed = every (fact_allowed g.types els) s.facts && from_func_apps
+  allowed = list_all (fact_allowed g.types els) s.facts && from_func_apps
+
+-- the tests as the code joins them
+pub seven_tests : {a b c d e f g t u v w x y z : Bool} → t ≡ a → u ≡ b → v ≡ c → w ≡ d → x ≡ e → y ≡ f → z ≡ g
+    → ((((((t && u) && v) && w) && x) && y) && z) ≡ (a && (b && (c && (d && (e && (f && g))))))
+seven_tests {a} {b} {c} {d} {e} {f} {g} p q r s k l m =
+    (λ i. (((((p i && q i) && r i) && s i) && k i) && l i) && m i) ∙ go a b c d e f g
+  where
+    go : (a b c d e f g : Bool) → ((((((a && b) && c) && d) && e) && f) && g) ≡ (a && (b && (c && (d && (e && (f && g))))))
+    go true true true true true true g = refl
+    go true true true true true false g = refl
+    go true true true true false f g = refl
+    go true true true false e f g = refl
+    go true true false d e f g = refl
+    go true false c d e f g = refl
+    go false b c d e f g = refl
 
 module _ (g : Sig) (s : Structure) where
   refused_entry : entry_refused g s ≡ not (allowed g s (length s.links) (length g.preds))

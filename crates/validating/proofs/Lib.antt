@@ -1,5 +1,5 @@
 pub mod Searching
 pub mod BySlot
-pub mod Ordered
+pub mod Orders
 pub mod Entries
 pub mod Flagged

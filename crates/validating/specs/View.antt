@@ -1,5 +1,5 @@
 -- What is judged of a structure that a file says, as the code judges it.
-use Rattle.std.specs.Prelude.{ℕ, Bool, true, not, ◌&&◌, ◌||◌, List, [], ◌∷◌, length, eqb, ltb}
+use Rattle.std.specs.Prelude.{ℕ, Bool, not, ◌&&◌, ◌||◌, List, length, eqb, ltb}
 use Rattle.ids.specs.Ids.{too_long}
 use Rattle.unification.specs.Roots.{root_of}
 use Rattle.signature.specs.Model.{Sig, TypeM}
@@ -9,11 +9,6 @@ use Rattle.semantics.specs.Calls.{has_its_parents, is_reserved, is_misapplied}
 use Rattle.inserting.specs.View.{fact_within, app_within, pred_app_within}
 use Rattle.file.specs.Layout.{sum}
 use Rattle.file.specs.File.{counts, head_of, entry_refused, link_rises, fact_off_root, other_order}
-
-module _ {A : Type 0} where
-  unfoldable pub every : (A → Bool) → List A → Bool
-  every p [] = true
-  every p (x ∷ xs) = p x && every p xs
 
 -- the call of an entry would accept it, where there are so many elements
 

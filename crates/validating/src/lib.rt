@@ -1,108 +1,96 @@
 // Whether a structure that a file says may be loaded (02, M-104): its entries by the causes of their calls, links, roots and orders.
 #![tactic(auto)]
 
-ghost use Rattle.std.specs.Prelude.{◌≡◌, not};
-ghost use Rattle.ids.specs.Table.{Sized};
-ghost use Rattle.unification.specs.Roots.{links_of};
-ghost use Rattle.signature.specs.Model.{sig_of, view_types, max_types};
-ghost use Rattle.semantics.specs.Structure.{ambient, compare_fact, compare_func_app, compare_pred_app, max_vars};
-ghost use Rattle.facts.specs.View.{fact_of, facts_of, impositions_of};
-ghost use Rattle.apps.specs.View.{func_app_of, func_apps_of, pred_app_of, pred_apps_of};
-ghost use Rattle.bindings.specs.View.{vars_of, ambients_of};
-ghost use Rattle.equalities.specs.View.{pairs_of};
+ghost use Rattle.std.specs.Prelude.{◌≡◌, ℕ, ◌≤◌, Bool, not, map, length, count_by};
+ghost use Rattle.std.specs.List.{list_all};
+ghost use Rattle.ids.specs.declared.Ordering.{Ordering};
+ghost use Rattle.signature.specs.Model.{Sig, sig_of, max_types};
+ghost use Rattle.semantics.specs.Structure.{variable, ambient, compare_fact, compare_func_app, compare_pred_app, max_vars};
+ghost use Rattle.facts.specs.View.{fact_of};
+ghost use Rattle.apps.specs.View.{func_app_of, pred_app_of};
+ghost use Rattle.bindings.specs.declared.Slot.{Slot};
+ghost use Rattle.bindings.specs.View.{slots_from};
+ghost use Rattle.equalities.specs.View.{pair_of};
 ghost use Rattle.structure.specs.View.{structure_of};
 ghost use Rattle.file.specs.File.{entry_refused, link_rises, in_order, other_order};
-ghost use Rattle.validating.specs.View.{every, fact_allowed, func_app_allowed, pred_app_allowed, var_within, ambient_allowed, pair_within, on_root, is_flagged, is_storable};
+ghost use Rattle.validating.specs.View.{fact_allowed, func_app_allowed, pred_app_allowed, var_within, ambient_allowed, pair_within, on_root, is_flagged, is_storable};
 
-use apps::{FuncApp, FuncApps, PredApp, PredApps};
-use bindings::{AmbientEls, VarEls};
-use equalities::Pairs;
-use facts::{Fact, Facts, Impositions};
+use apps::{FuncApp, PredApp};
+use bindings::Slot;
+use equalities::Pair;
+use facts::Fact;
 use ids::{Ordering, TypeId};
-use signature::{Signature, Types};
+use signature::Signature;
 use structure::Structure;
-use unification::Unification;
+
+// Tests are joined by `&`, which has no branch, so that a proof has one path.
 
 // ---- entries, by the causes of their calls
 
-// Whether the call of a fact would accept it. A list that is handed over has no more entries than its places, so that its length needs no test here and below.
-fn fact_is_allowed(fact: Fact, els: u16, types: Types) -> bool
-    ensures { result ≡ fact_allowed (view_types types) els (fact_of fact) }
-{
-    let within = inserting::fact_is_within(fact, els, types.size());
-    ids::and(within, inserting::has_its_parents(types, fact))
+// An entry, and whether its call would accept it. A list that is handed over has no more entries than its places, so that its length needs no test here.
+trait Entry: Copy {
+    ghost allowed: { Sig → ℕ → Self → Bool };
+
+    fn is_allowed(self, els: u16, signature: &Signature) -> bool
+        ensures { result ≡ allowed (sig_of signature.now) els self };
 }
 
-fn facts_are_allowed(table: Facts, els: u16, types: Types) -> bool
-    ensures { result ≡ every (fact_allowed (view_types types) els) (facts_of table) }
+// Facts and impositions.
+impl Entry for Fact {
+    ghost allowed = { λ g els f. fact_allowed g.types els (fact_of f) };
+
+    fn is_allowed(self, els: u16, signature: &Signature) -> bool {
+        let types = signature.types;
+        let within = inserting::fact_is_within(self, els, types.size());
+        within & inserting::has_its_parents(types, self)
+    }
+}
+
+impl Entry for FuncApp {
+    ghost allowed = { λ g els x. func_app_allowed g els (func_app_of x) };
+
+    fn is_allowed(self, els: u16, signature: &Signature) -> bool {
+        let funcs = signature.funcs;
+        let reserved = inserting::is_reserved(*signature, self.func);
+        let misapplied = inserting::is_misapplied(signature.models, self);
+        let within = inserting::app_is_within(self, els, funcs.size());
+        within & (!reserved & !misapplied)
+    }
+}
+
+impl Entry for PredApp {
+    ghost allowed = { λ g els x. pred_app_allowed els (length g.preds) (pred_app_of x) };
+
+    fn is_allowed(self, els: u16, signature: &Signature) -> bool {
+        let preds = signature.preds;
+        inserting::pred_app_is_within(self, els, preds.size())
+    }
+}
+
+impl Entry for Pair {
+    ghost allowed = { λ g els p. pair_within els (pair_of p) };
+
+    fn is_allowed(self, els: u16, _signature: &Signature) -> bool {
+        (self.lhs.0 < els) & (self.rhs.0 < els)
+    }
+}
+
+fn are_allowed<T: Entry>(entries: &[T], els: u16, signature: &Signature) -> bool
+    ensures { result ≡ list_all (T.allowed (sig_of signature.now) els) entries.now }
 {
-    let n = table.size();
-    for i in 0..n {
-        if !fact_is_allowed(table.items[i], els, types) {
+    for entry in entries {
+        if !entry.is_allowed(els, signature) {
             return false;
         }
     }
     true
 }
 
-fn impositions_are_allowed(table: Impositions, els: u16, types: Types) -> bool
-    ensures { result ≡ every (fact_allowed (view_types types) els) (impositions_of table) }
+fn vars_are_within(slots: &[Slot], els: u16) -> bool
+    requires { length slots.now ≤ max_vars }
+    ensures { result ≡ list_all (var_within els) (slots_from variable 0 slots.now) }
 {
-    let n = table.size();
-    for i in 0..n {
-        if !fact_is_allowed(table.items[i], els, types) {
-            return false;
-        }
-    }
-    true
-}
-
-fn func_app_is_allowed(app: FuncApp, els: u16, signature: Signature) -> bool
-    ensures { result ≡ func_app_allowed (sig_of signature) els (func_app_of app) }
-{
-    let models = signature.models;
-    let funcs = signature.funcs;
-    let reserved = inserting::is_reserved(signature, app.func);
-    let misapplied = inserting::is_misapplied(models, app);
-    let within = inserting::app_is_within(app, els, funcs.size());
-    ids::and(within, ids::and(!reserved, !misapplied))
-}
-
-fn func_apps_are_allowed(table: FuncApps, els: u16, signature: Signature) -> bool
-    ensures { result ≡ every (func_app_allowed (sig_of signature) els) (func_apps_of table) }
-{
-    let n = table.size();
-    for i in 0..n {
-        if !func_app_is_allowed(table.items[i], els, signature) {
-            return false;
-        }
-    }
-    true
-}
-
-fn pred_app_is_allowed(app: PredApp, els: u16, preds: u16) -> bool
-    ensures { result ≡ pred_app_allowed els preds (pred_app_of app) }
-{
-    inserting::pred_app_is_within(app, els, preds)
-}
-
-fn pred_apps_are_within(table: PredApps, els: u16, preds: u16) -> bool
-    ensures { result ≡ every (pred_app_allowed els preds) (pred_apps_of table) }
-{
-    let n = table.size();
-    for i in 0..n {
-        if !pred_app_is_allowed(table.items[i], els, preds) {
-            return false;
-        }
-    }
-    true
-}
-
-fn vars_are_within(table: VarEls, els: u16) -> bool
-    ensures { result ≡ every (var_within els) (vars_of table) }
-{
-    for key in 0..VarEls::MAX_LEN {
-        let slot = table.slots[key];
+    for slot in slots {
         if !slot.given {
             continue;
         }
@@ -116,35 +104,19 @@ fn vars_are_within(table: VarEls, els: u16) -> bool
 fn ambient_is_allowed(typ: TypeId, el: u16, els: u16, signature: Signature) -> bool
     ensures { result ≡ ambient_allowed (sig_of signature) els (ambient typ.0 el) }
 {
-    let model = ids::and(el < els, signature.is_model(typ));
-    ids::and(signature.is_type(typ), model)
+    let model = (el < els) & signature.is_model(typ);
+    signature.is_type(typ) & model
 }
 
-fn ambients_are_allowed(table: AmbientEls, els: u16, signature: Signature) -> bool
-    ensures { result ≡ every (ambient_allowed (sig_of signature) els) (ambients_of table) }
+fn ambients_are_allowed(slots: &[Slot], els: u16, signature: Signature) -> bool
+    requires { length slots.now ≤ max_types }
+    ensures { result ≡ list_all (ambient_allowed (sig_of signature) els) (slots_from ambient 0 slots.now) }
 {
-    for typ in 0..Signature::MAX_TYPES {
-        let slot = table.slots[typ];
+    for (typ, slot) in slots.iter().enumerate() {
         if !slot.given {
             continue;
         }
         if !ambient_is_allowed(TypeId(typ as u16), slot.el.0, els, signature) {
-            return false;
-        }
-    }
-    true
-}
-
-fn pairs_are_within(table: Pairs, els: u16) -> bool
-    ensures { result ≡ every (pair_within els) (pairs_of table) }
-{
-    let n = table.size();
-    for i in 0..n {
-        let pair = table.items[i];
-        if els <= pair.lhs.0 {
-            return false;
-        }
-        if els <= pair.rhs.0 {
             return false;
         }
     }
@@ -157,9 +129,6 @@ fn entries_are_allowed(structure: Structure, signature: Signature) -> bool
 {
     let u = structure.unification;
     let els = u.size() as u16;
-    let type_table = signature.types;
-    let pred_table = signature.preds;
-    let preds = pred_table.size();
     let facts = structure.els;
     let func_apps = structure.func_apps;
     let pred_apps = structure.pred_apps;
@@ -167,55 +136,44 @@ fn entries_are_allowed(structure: Structure, signature: Signature) -> bool
     let vars = structure.var_els;
     let ambients = structure.ambient_model_els;
     let pairs = structure.pending_equalities;
-    if !facts_are_allowed(facts, els, type_table) {
-        return false;
-    }
-    if !func_apps_are_allowed(func_apps, els, signature) {
-        return false;
-    }
-    if !pred_apps_are_within(pred_apps, els, preds) {
-        return false;
-    }
-    if !impositions_are_allowed(impositions, els, type_table) {
-        return false;
-    }
-    if !vars_are_within(vars, els) {
-        return false;
-    }
-    if !ambients_are_allowed(ambients, els, signature) {
-        return false;
-    }
-    pairs_are_within(pairs, els)
+    are_allowed(&facts.items[..facts.size()], els, &signature)
+        & are_allowed(&func_apps.items[..func_apps.size()], els, &signature)
+        & are_allowed(&pred_apps.items[..pred_apps.size()], els, &signature)
+        & are_allowed(&impositions.items[..impositions.size()], els, &signature)
+        & vars_are_within(&vars.slots, els)
+        & ambients_are_allowed(&ambients.slots, els, signature)
+        & are_allowed(&pairs.items[..pairs.size()], els, &signature)
 }
 
 // ---- links and roots
 
 // Whether no element links to a higher one.
-fn links_fall(u: Unification) -> bool
-    ensures { result ≡ not (link_rises 0 (links_of u)) }
+fn links_fall(links: &[u16]) -> bool
+    ensures { result ≡ not (link_rises 0 links.now) }
 {
-    let n = u.size();
-    for e in 0..n {
-        if e < u.links[e] as usize {
+    for (e, link) in links.iter().enumerate() {
+        if e < *link as usize {
             return false;
         }
     }
     true
 }
 
-// Whether each fact stands at a root: one whose link does not fall.
-fn facts_are_on_roots(table: Facts, u: Unification) -> bool
-    ensures { result ≡ every (on_root (links_of u)) (facts_of table) }
+// Whether a fact stands at a root: one whose link does not fall.
+fn is_on_root(fact: Fact, links: &[u16]) -> bool
+    ensures { result ≡ on_root links.now (fact_of fact) }
 {
-    let m = table.size();
-    let n = u.size();
-    for i in 0..m {
-        let fact = table.items[i];
-        let at = fact.el.0 as usize;
-        if n <= at {
-            continue;
-        }
-        if u.links[at] < fact.el.0 {
+    match links.get(fact.el.0 as usize) {
+        Some(link) => fact.el.0 <= *link,
+        None => true,
+    }
+}
+
+fn facts_are_on_roots(facts: &[Fact], links: &[u16]) -> bool
+    ensures { result ≡ list_all (λ f. on_root links.now (fact_of f)) facts.now }
+{
+    for fact in facts {
+        if !is_on_root(*fact, links) {
             return false;
         }
     }
@@ -224,65 +182,52 @@ fn facts_are_on_roots(table: Facts, u: Unification) -> bool
 
 // ---- orders
 
-fn facts_are_in_order(table: Facts) -> bool
-    ensures { result ≡ in_order compare_fact (facts_of table) }
-{
-    let n = table.size();
-    for i in 1..n {
-        let before = table.items[i - 1];
-        let here = table.items[i];
-        match before.compare(here) {
-            Ordering::Less => {
-                continue;
-            }
-            Ordering::Equal => {
-                return false;
-            }
-            Ordering::Greater => {
-                return false;
-            }
-        }
-    }
-    true
+// An entry of a table that is in order.
+trait Ordered: Copy {
+    ghost order: { Self → Self → Ordering };
+
+    fn order(self, other: Self) -> Ordering
+        ensures { result ≡ order self other };
 }
 
-fn func_apps_are_in_order(table: FuncApps) -> bool
-    ensures { result ≡ in_order compare_func_app (func_apps_of table) }
-{
-    let n = table.size();
-    for i in 1..n {
-        let before = table.items[i - 1];
-        let here = table.items[i];
-        match before.compare(here) {
-            Ordering::Less => {
-                continue;
-            }
-            Ordering::Equal => {
-                return false;
-            }
-            Ordering::Greater => {
-                return false;
-            }
-        }
+impl Ordered for Fact {
+    ghost order = { λ x y. compare_fact (fact_of x) (fact_of y) };
+
+    fn order(self, other: Fact) -> Ordering {
+        self.compare(other)
     }
-    true
 }
 
-fn pred_apps_are_in_order(table: PredApps) -> bool
-    ensures { result ≡ in_order compare_pred_app (pred_apps_of table) }
+impl Ordered for FuncApp {
+    ghost order = { λ x y. compare_func_app (func_app_of x) (func_app_of y) };
+
+    fn order(self, other: FuncApp) -> Ordering {
+        self.compare(other)
+    }
+}
+
+impl Ordered for PredApp {
+    ghost order = { λ x y. compare_pred_app (pred_app_of x) (pred_app_of y) };
+
+    fn order(self, other: PredApp) -> Ordering {
+        self.compare(other)
+    }
+}
+
+// Whether each entry comes before the next.
+fn are_in_order<T: Ordered>(entries: &[T]) -> bool
+    ensures { result ≡ in_order T.order entries.now }
 {
-    let n = table.size();
-    for i in 1..n {
-        let before = table.items[i - 1];
-        let here = table.items[i];
-        match before.compare(here) {
+    let Some((first, rest)) = entries.split_first() else {
+        return true;
+    };
+    let mut before = *first;
+    for here in rest {
+        match before.order(*here) {
             Ordering::Less => {
-                continue;
+                before = *here;
             }
-            Ordering::Equal => {
-                return false;
-            }
-            Ordering::Greater => {
+            Ordering::Equal | Ordering::Greater => {
                 return false;
             }
         }
@@ -297,41 +242,18 @@ fn is_in_order(structure: Structure) -> bool
     let facts = structure.els;
     let func_apps = structure.func_apps;
     let pred_apps = structure.pred_apps;
-    if !facts_are_in_order(facts) {
-        return false;
-    }
-    if !func_apps_are_in_order(func_apps) {
-        return false;
-    }
-    pred_apps_are_in_order(pred_apps)
+    are_in_order(&facts.items[..facts.size()])
+        & are_in_order(&func_apps.items[..func_apps.size()])
+        & are_in_order(&pred_apps.items[..pred_apps.size()])
 }
 
 // ---- the flag for number 4
 
-fn count_vars(table: VarEls) -> usize
-    ensures { Sized (vars_of table) max_vars result }
+// How many slots are given.
+fn count_given(slots: &[Slot]) -> usize
+    ensures { result ≡ count_by (λ (s : Slot). s.given) slots.now }
 {
-    let mut n: usize = 0;
-    for key in 0..VarEls::MAX_LEN {
-        let slot = table.slots[key];
-        if slot.given {
-            n += 1;
-        }
-    }
-    n
-}
-
-fn count_ambients(table: AmbientEls) -> usize
-    ensures { Sized (ambients_of table) max_types result }
-{
-    let mut n: usize = 0;
-    for typ in 0..Signature::MAX_TYPES {
-        let slot = table.slots[typ];
-        if slot.given {
-            n += 1;
-        }
-    }
-    n
+    slots.iter().filter(|slot| slot.given).count()
 }
 
 // Whether the flag is set, or there is no entry and the structure is not settled.
@@ -350,9 +272,9 @@ fn is_flagged(structure: Structure) -> bool
     let ambients = structure.ambient_model_els;
     let pairs = structure.pending_equalities;
     let declared = u.size() + facts.size() + func_apps.size() + pred_apps.size();
-    let bound = count_vars(vars) + count_ambients(ambients);
+    let bound = count_given(&vars.slots) + count_given(&ambients.slots);
     let queued = impositions.size() + pairs.size();
-    ids::and(declared + bound + queued == 0, !structure.settled)
+    (declared + bound + queued == 0) & !structure.settled
 }
 
 // ---- all of it
@@ -361,18 +283,11 @@ pub fn is_storable(structure: Structure, signature: Signature) -> bool
     ensures { result ≡ is_storable (sig_of signature) (structure_of structure) }
 {
     let u = structure.unification;
+    let links = &u.links[..u.size()];
     let facts = structure.els;
-    if !entries_are_allowed(structure, signature) {
-        return false;
-    }
-    if !links_fall(u) {
-        return false;
-    }
-    if !facts_are_on_roots(facts, u) {
-        return false;
-    }
-    if !is_in_order(structure) {
-        return false;
-    }
-    is_flagged(structure)
+    entries_are_allowed(structure, signature)
+        & links_fall(links)
+        & facts_are_on_roots(&facts.items[..facts.size()], links)
+        & is_in_order(structure)
+        & is_flagged(structure)
 }

@@ -1,5 +1,3 @@
-use Prim.Native.Nat.{◌-◌}
-use lib.ListN.{drop}
 use Rattle.semantics.specs.Structure.{max_facts}
 use Rattle.facts.specs.View.{fact_of}
 use Rattle.file.specs.Rows.{fact_in, fact_columns}
@@ -7,7 +5,4 @@ use Rattle.decoding.proofs.Reading.{ReadWith}
 use Rattle.decoding.proofs.facts_in.Given as goal
 
 abbrev pub invariant-loop-i : goal.invariant-loop-i
-invariant-loop-i l = ReadWith fact_of fact_in fact_columns l.n max_facts l.owners (drop l.at l.bytes) l.table.items l.i
-
-abbrev pub decreases-loop-i : goal.decreases-loop-i
-decreases-loop-i l = l.n - l.i
+invariant-loop-i l = ReadWith fact_of fact_in fact_columns l.n max_facts l.owners l.columns l.table.items l.i

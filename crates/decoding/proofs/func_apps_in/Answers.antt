@@ -1,22 +1,17 @@
 -- `func_apps_in` meets its contract.
+use mathlib.Core.Path.{◌≡◌}
 use native.Mathlib.Omega.{arith}
-use Rattle.ids.proofs.Views.{long}
-use Rattle.file.specs.Rows.{func_app_in}
-use Rattle.decoding.proofs.Reading.{filled_none, read_next, read_all}
 use borrow.Author.Rules.{rules}
+use lib.ListN.{length, drop, length-take}
+use Rattle.ids.proofs.Views.{long}
+use Rattle.semantics.specs.Structure.{max_func_apps}
+use Rattle.apps.specs.declared.FuncApp.{FuncApp}
+use Rattle.apps.specs.View.{func_app_of, no_func_app}
+use Rattle.file.specs.Rows.{func_app_in}
+use Rattle.decoding.proofs.Reading.{table_said}
 use Rattle.decoding.proofs.func_apps_in.Goals as goal
 
-pub loop-i-init : goal.loop-i-init
-loop-i-init c = filled_none _ _ _ _ _ (search (rules, long))
-
-pub row_at-requires : goal.row_at-requires
-row_at-requires c =
-    let pre = c.requires in
-    (c.loop-i-test.true, (omega arith, (omega (arith, pre.0), pre.1)))
-
-pub loop-i-preserved : goal.loop-i-preserved
-loop-i-preserved c =
-    read_next _ func_app_in _ _ _ _ c.loop-i.invariant c.loop-i-test.true c.requires.0 c.func_app_of.ensures c.row_at.ensures
-
 pub returns : goal.returns
-returns c = read_all _ _ _ _ _ _ c.loop-i.invariant c.loop-i-test.false
+returns c =
+    let items : length c.new.result.items ≡ max_func_apps = search (rules, long) in
+    table_said func_app_of func_app_in no_func_app c.args.at c.args.bytes.now c.read_table.ensures (omega (arith, items, c.requires.0, length-take {A = FuncApp})) (drop c.args.n c.new.result.items)

@@ -4,14 +4,14 @@ use Rattle.pechunaq.specs.Session.{parked_by}
 use Rattle.pechunaq.proofs.Laws.{parks}
 use Rattle.pechunaq.proofs.pechunaq_park.Goals as goal
 
-pub returns-in-Bytes : goal.returns-in-Bytes
+pub returns-in-Ok : goal.returns-in-Ok
 unfolding parked_by
-returns-in-Bytes c =
+returns-in-Ok c =
     let s = c.store in
-    parks s.result s.new.buffer c.in-Bytes.is s.ensures refl
+    parks s.result s.new.buffer c.in-Ok.is s.ensures refl
 
-pub returns-in-Refused : goal.returns-in-Refused
+pub returns-in-Err : goal.returns-in-Err
 unfolding parked_by
-returns-in-Refused c =
+returns-in-Err c =
     let s = c.store in
-    parks s.result s.new.buffer c.in-Refused.is s.ensures refl
+    parks s.result s.new.buffer c.in-Err.is s.ensures refl

@@ -8,16 +8,16 @@ use Rattle.pechunaq.specs.View.{signature_in, session_of}
 use Rattle.pechunaq.proofs.Laws.{resumes}
 use Rattle.pechunaq.proofs.pechunaq_resume.Goals as goal
 
-pub returns-in-Done : goal.returns-in-Done
+pub returns-in-Ok : goal.returns-in-Ok
 unfolding resumed
-returns-in-Done c =
+returns-in-Ok c =
     let a = c.args in
-    resumes c.load-loading.result (load (signature_in a.session) a.file.now) (session_of a.session) c.in-Done.is
+    resumes c.load-loading.result (load (signature_in a.session) a.file.now) (session_of a.session) c.in-Ok.is
     (c.load-loading.ensures ∙ ap (λ (g : Sig). loading (load g a.file.now)) c.signature_of.ensures) refl
 
-pub returns-in-Refused : goal.returns-in-Refused
+pub returns-in-Err : goal.returns-in-Err
 unfolding resumed
-returns-in-Refused c =
+returns-in-Err c =
     let a = c.args in
-    resumes c.load-loading.result (load (signature_in a.session) a.file.now) (session_of a.session) c.in-Refused.is
+    resumes c.load-loading.result (load (signature_in a.session) a.file.now) (session_of a.session) c.in-Err.is
     (c.load-loading.ensures ∙ ap (λ (g : Sig). loading (load g a.file.now)) c.signature_of.ensures) refl

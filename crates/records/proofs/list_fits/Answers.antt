@@ -1,12 +1,9 @@
 -- `list_fits` meets its contract.
-use Rattle.records.proofs.Laws.{too_few, too_many, so_many}
+use mathlib.Core.Bool.{◌&&◌}
+use lib.Dec.{leb}
+use Rattle.records.specs.View.{list_within}
 use Rattle.records.proofs.list_fits.Goals as goal
 
-pub returns-then-n-least : goal.returns-then-n-least
-returns-then-n-least c = too_few _ _ _ _ c.if-n-least.true
-
-pub returns-then-most-n : goal.returns-then-most-n
-returns-then-most-n c = too_many _ _ _ _ c.if-n-least.false c.if-most-n.true
-
 pub returns : goal.returns
-returns c = so_many _ _ _ _ c.if-n-least.false c.if-most-n.false c.is_clear.ensures
+unfolding list_within
+returns c = λ i. (leb c.args.least c.args.n && leb c.args.n c.args.most) && c.is_clear.ensures i

@@ -17,4 +17,4 @@ returns-then-bytes-at-eq1 c =
 pub returns : goal.returns
 returns c =
     let here : c.args.at + 1 < length c.args.bytes.now = omega arith in
-    omega (arith, word_here c.args.bytes.now c.args.at here, c.wide-high.ensures.0, c.wide-low.ensures.0)
+    omega (arith, word_here c.args.bytes.now c.args.at here, c.from_le_bytes.ensures)

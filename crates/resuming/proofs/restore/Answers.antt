@@ -12,16 +12,16 @@ returns-then-file-gt-MAX_BYTES c =
     let a = c.args in
     restores_long a.file.now (progress_of a.progress) (omega (arith, c.if-file-gt-MAX_BYTES.true)) c.refuse.ensures
 
-pub returns-in-Done : goal.returns-in-Done
+pub returns-in-Ok : goal.returns-in-Ok
 unfolding loaded_piece
-returns-in-Done c =
+returns-in-Ok c =
     let a = c.args in
-    restores a.file.now (progress_of a.progress) (omega (arith, c.if-file-gt-MAX_BYTES.false)) c.load-loading.result c.load-loading.ensures c.in-Done.is
+    restores a.file.now (progress_of a.progress) (omega (arith, c.if-file-gt-MAX_BYTES.false)) c.load-loading.result c.load-loading.ensures c.in-Ok.is
     (both c.new.ensures refl)
 
-pub returns-in-Refused : goal.returns-in-Refused
+pub returns-in-Err : goal.returns-in-Err
 unfolding loaded_piece
-returns-in-Refused c =
+returns-in-Err c =
     let a = c.args in
-    restores a.file.now (progress_of a.progress) (omega (arith, c.if-file-gt-MAX_BYTES.false)) c.load-loading.result c.load-loading.ensures c.in-Refused.is
-    c.refuse-in-Refused.ensures
+    restores a.file.now (progress_of a.progress) (omega (arith, c.if-file-gt-MAX_BYTES.false)) c.load-loading.result c.load-loading.ensures c.in-Err.is
+    c.refuse-in-Err.ensures

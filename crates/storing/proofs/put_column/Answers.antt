@@ -1,52 +1,23 @@
 -- `put_column` meets its contract.
-use Prim.Native.Nat.{◌+◌, ◌<◌}
-use mathlib.Core.Path.{◌≡◌, refl, ap, ◌∙◌}
+use mathlib.Core.Path.{ap, ◌∙◌}
 use mathlib.Core.List.{List, []}
-use native.Mathlib.Omega.{arith}
-use lib.ListN.{length, get_or}
+use Prim.Native.Nat.{ℕ}
+use lib.ListN.{get_or}
 use Rattle.file.specs.Layout.{byte, column}
-use Rattle.storing.proofs.Writing.{written_nothing, written_as, written_next}
+use Rattle.storing.proofs.Writing.{written_nothing, written_room, written_next, written_all}
 use Rattle.storing.proofs.put_column.Goals as goal
-use Rattle.storing.proofs.put_column.Goals.{In-loop-i}
 
-pub loop-i-init : goal.loop-i-init
-unfolding column
-loop-i-init c =
-    let a = c.args in (omega arith, written_as (written_nothing a.buffer.now a.at) refl (omega arith))
+pub loop-row-init : goal.loop-row-init
+loop-row-init c = written_nothing _ _
 
--- the row i is there
-there : (c : In-loop-i) → c.loop-i.i < length c.args.rows.now
-there c = omega (arith, c.loop-i-test.true, c.requires.0)
+pub bounds-buffer-end : goal.bounds-buffer-end
+bounds-buffer-end c = written_room _ c.args.rows.now c.loop-row.invariant c.loop-row-test.true c.requires
 
--- and has room
-room : (c : In-loop-i) →
-    let a = c.args in
-    a.at + c.loop-i.i < length a.buffer.now
-room c = omega (arith, c.loop-i-test.true, c.requires.1)
-
-pub bounds-buffer-at : goal.bounds-buffer-at
-bounds-buffer-at c =
-    omega (arith, room (goal.at.bounds-buffer-at c).In-loop-i, c.loop-i.invariant.1.long)
-
-pub loop-i-preserved : goal.loop-i-preserved
-unfolding column
-loop-i-preserved c =
-    let l = c.loop-i in
-    let a = c.args in (
-      omega (arith, c.loop-i-test.true),
-      written_next (λ (r : List _). byte (get_or r a.j 0)) a.rows.now l.i [] l.invariant.1 (c.byte.ensures ∙ ap byte c.cell-number.ensures) (there (goal.at.loop-i-preserved c).In-loop-i)
-          (room (goal.at.loop-i-preserved c).In-loop-i),
-    )
-
-pub shape_of-buffer : goal.shape_of-buffer
-shape_of-buffer c = c.loop-i.invariant.1.long
+pub loop-row-preserved : goal.loop-row-preserved
+loop-row-preserved c =
+    written_next (λ (r : List ℕ). byte (get_or r c.args.j 0)) c.args.rows.now c.loop-row.invariant c.loop-row-test.true c.requires []
+    (c.byte.ensures ∙ ap byte c.cell.ensures)
 
 pub returns : goal.returns
-returns c =
-    let l = c.loop-i in
-    let a = c.args in
-    let all : l.i ≡ a.n = omega (arith, l.invariant.0, c.loop-i-test.false) in
-    rw all at l.invariant.1
-
-pub bounds-rows-i : goal.bounds-rows-i
-bounds-rows-i c = there (goal.at.bounds-rows-i c).In-loop-i
+unfolding column
+returns c = written_all _ c.args.rows.now c.loop-row.invariant c.loop-row-test.false

@@ -1,11 +1,9 @@
-use Prim.Native.Nat.{◌+◌, ◌-◌, ◌≤◌}
-use lib.ListN.{take}
-use Rattle.file.specs.Layout.{column}
+use mathlib.Core.List.{List, map}
+use Prim.Native.Nat.{ℕ}
+use lib.ListN.{take, get_or}
+use Rattle.file.specs.Layout.{byte}
 use Rattle.storing.specs.View.{Written}
 use Rattle.storing.proofs.put_column.Given as goal
 
-abbrev pub invariant-loop-i : goal.invariant-loop-i
-invariant-loop-i l = (l.i ≤ l.n) × Written l.initial.buffer l.at (column l.j (take l.i l.rows)) l.buffer (l.at + l.i)
-
-abbrev pub decreases-loop-i : goal.decreases-loop-i
-decreases-loop-i l = l.n - l.i
+abbrev pub invariant-loop-row : goal.invariant-loop-row
+invariant-loop-row l = Written l.initial.buffer l.at (map (λ (r : List ℕ). byte (get_or r l.j 0)) (take l.row-index l.rows)) l.buffer l.end

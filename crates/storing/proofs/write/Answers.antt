@@ -17,26 +17,30 @@ use Rattle.file.proofs.LayoutLaws.{columns_length}
 use Rattle.file.proofs.Storable.{limits_kept}
 use Rattle.storing.specs.View.{Held, fact_bytes, rest_bytes, max_bytes, fact_parts}
 use Rattle.storing.proofs.Writing.{written_as, written_then}
+use Rattle.storing.proofs.Bound.{var_rows, ambient_rows}
 use Rattle.storing.proofs.Parts.{rows_columns, rows_many, fact_parts_length, app_parts_length, store_parts}
 use Rattle.storing.proofs.write.Goals as goal
-use Rattle.storing.proofs.write.Goals.{After-fill_ambients-ambient_count, After-fill_vars-var_count, After-put_columns-bound, After-put_columns-given, After-size-6, After-write_apps-applied, After-write_facts-chained}
+use Rattle.storing.proofs.write.Goals.{After-fill_slots-ambient_count, After-fill_slots-var_count, After-put_columns-bound, After-put_columns-given, After-size-6, After-write_apps-applied, After-write_facts-chained}
 
 -- the bindings as rows
-module _ (c : After-fill_vars-var_count) where
-  var_columns : by_columns pair_columns (take c.fill_vars-var_count.result c.fill_vars-var_count.new.rows) ≡ by_columns pair_columns (map var_row (vars_of c.args.structure.var_els))
-  var_columns = rows_columns c.fill_vars-var_count.ensures
+module _ (c : After-fill_slots-var_count) where
+  var_columns : by_columns pair_columns (take c.fill_slots-var_count.result c.fill_slots-var_count.new.rows) ≡ by_columns pair_columns (map var_row (vars_of c.args.structure.var_els))
+  var_columns = rows_columns c.fill_slots-var_count.ensures ∙ ap (by_columns pair_columns) (var_rows c.args.structure.var_els.slots)
 
-  var_count_is : c.fill_vars-var_count.result ≡ length (vars_of c.args.structure.var_els)
-  var_count_is = sym (rows_many c.fill_vars-var_count.ensures) ∙ length-map (vars_of c.args.structure.var_els) var_row
+  var_count_is : c.fill_slots-var_count.result ≡ length (vars_of c.args.structure.var_els)
+  var_count_is =
+      let vars = vars_of c.args.structure.var_els in
+      sym (rows_many c.fill_slots-var_count.ensures) ∙ ap length (var_rows c.args.structure.var_els.slots) ∙ length-map vars var_row
 
-module _ (c : After-fill_ambients-ambient_count) where
-  ambient_columns : by_columns pair_columns (take c.fill_ambients-ambient_count.result c.fill_ambients-ambient_count.new.rows)
+module _ (c : After-fill_slots-ambient_count) where
+  ambient_columns : by_columns pair_columns (take c.fill_slots-ambient_count.result c.fill_slots-ambient_count.new.rows)
       ≡ by_columns pair_columns (map ambient_row (ambients_of c.args.structure.ambient_model_els))
-  ambient_columns = rows_columns c.fill_ambients-ambient_count.ensures
+  ambient_columns = rows_columns c.fill_slots-ambient_count.ensures ∙ ap (by_columns pair_columns) (ambient_rows c.args.structure.ambient_model_els.slots)
 
-  ambient_count_is : c.fill_ambients-ambient_count.result ≡ length (ambients_of c.args.structure.ambient_model_els)
+  ambient_count_is : c.fill_slots-ambient_count.result ≡ length (ambients_of c.args.structure.ambient_model_els)
   ambient_count_is =
-      sym (rows_many c.fill_ambients-ambient_count.ensures) ∙ length-map (ambients_of c.args.structure.ambient_model_els) ambient_row
+      let ambients = ambients_of c.args.structure.ambient_model_els in
+      sym (rows_many c.fill_slots-ambient_count.ensures) ∙ ap length (ambient_rows c.args.structure.ambient_model_els.slots) ∙ length-map ambients ambient_row
 
 -- the counts are those of the head
 module _ (c : After-size-6) where
@@ -47,8 +51,8 @@ module _ (c : After-size-6) where
       ∷ c.size-3.result
       ∷ c.size-4.result
       ∷ c.size-5.result
-      ∷ c.fill_vars-var_count.result
-      ∷ c.fill_ambients-ambient_count.result
+      ∷ c.fill_slots-var_count.result
+      ∷ c.fill_slots-ambient_count.result
       ∷ c.size-6.result
       ∷ []
 
@@ -60,8 +64,8 @@ module _ (c : After-size-6) where
       ∷ c.size-3.ensures.is i
       ∷ c.size-4.ensures.is i
       ∷ c.size-5.ensures.is i
-      ∷ var_count_is (goal.at.After-size-6 c).After-fill_vars-var_count i
-      ∷ ambient_count_is (goal.at.After-size-6 c).After-fill_ambients-ambient_count i
+      ∷ var_count_is (goal.at.After-size-6 c).After-fill_slots-var_count i
+      ∷ ambient_count_is (goal.at.After-size-6 c).After-fill_slots-ambient_count i
       ∷ c.size-6.ensures.is i
       ∷ []
 
@@ -78,8 +82,8 @@ held c =
         func_apps = omega (arith, c.size-3.ensures);
         pred_apps = omega (arith, c.size-4.ensures);
         impositions = omega (arith, c.size-5.ensures);
-        vars = omega (arith, var_count_is (goal.at.After-size-6 c).After-fill_vars-var_count, c.fill_vars-var_count.ensures.most);
-        ambients = omega (arith, ambient_count_is (goal.at.After-size-6 c).After-fill_ambients-ambient_count, c.fill_ambients-ambient_count.ensures.most);
+        vars = omega (arith, var_count_is (goal.at.After-size-6 c).After-fill_slots-var_count, c.fill_slots-var_count.ensures.most);
+        ambients = omega (arith, ambient_count_is (goal.at.After-size-6 c).After-fill_slots-ambient_count, c.fill_slots-ambient_count.ensures.most);
         pairs = omega (arith, c.size-6.ensures);
       });
       marks = length-take s.unification.len s.inferred_parent_els ∙ ap (min s.unification.len) (marks ∙ sym links)
@@ -115,9 +119,9 @@ vars_end c =
       arith,
       apps_end (goal.at.After-put_columns-bound c).After-write_apps-applied,
       c.put_columns-bound.ensures.end,
-      columns_length pair_columns (take c.fill_vars-var_count.result c.fill_vars-var_count.new.rows),
-      length-take c.fill_vars-var_count.result c.fill_vars-var_count.new.rows,
-      c.fill_vars-var_count.ensures.most,
+      columns_length pair_columns (take c.fill_slots-var_count.result c.fill_slots-var_count.new.rows),
+      length-take c.fill_slots-var_count.result c.fill_slots-var_count.new.rows,
+      c.fill_slots-var_count.ensures.most,
     )
 
 ambients_end : (c : After-put_columns-given) → c.put_columns-given.result + rest_bytes ≤ max_bytes
@@ -126,9 +130,9 @@ ambients_end c =
       arith,
       vars_end (goal.at.After-put_columns-given c).After-put_columns-bound,
       c.put_columns-given.ensures.end,
-      columns_length pair_columns (take c.fill_ambients-ambient_count.result c.fill_ambients-ambient_count.new.rows),
-      length-take c.fill_ambients-ambient_count.result c.fill_ambients-ambient_count.new.rows,
-      c.fill_ambients-ambient_count.ensures.most,
+      columns_length pair_columns (take c.fill_slots-ambient_count.result c.fill_slots-ambient_count.new.rows),
+      length-take c.fill_slots-ambient_count.result c.fill_slots-ambient_count.new.rows,
+      c.fill_slots-ambient_count.ensures.most,
     )
 
 -- and the array is as long as it was
@@ -146,13 +150,25 @@ write_apps-applied-requires c = (facts_long (goal.at.write_apps-applied-requires
 
 pub put_columns-bound-requires : goal.put_columns-bound-requires
 put_columns-bound-requires c =
-    let rows = c.fill_vars-var_count.ensures in
-    (omega (arith, rows.most, rows.long), omega (arith, rows.most, apps_end (goal.at.put_columns-bound-requires c).After-write_apps-applied, apps_long (goal.at.put_columns-bound-requires c).After-write_apps-applied))
+    let vars = c.fill_slots-var_count in
+    omega (
+      arith,
+      length-take vars.result vars.new.rows,
+      vars.ensures.most,
+      apps_end (goal.at.put_columns-bound-requires c).After-write_apps-applied,
+      apps_long (goal.at.put_columns-bound-requires c).After-write_apps-applied,
+    )
 
 pub put_columns-given-requires : goal.put_columns-given-requires
 put_columns-given-requires c =
-    let rows = c.fill_ambients-ambient_count.ensures in
-    (omega (arith, rows.most, rows.long), omega (arith, rows.most, vars_end (goal.at.put_columns-given-requires c).After-put_columns-bound, vars_long (goal.at.put_columns-given-requires c).After-put_columns-bound))
+    let ambients = c.fill_slots-ambient_count in
+    omega (
+      arith,
+      length-take ambients.result ambients.new.rows,
+      ambients.ensures.most,
+      vars_end (goal.at.put_columns-given-requires c).After-put_columns-bound,
+      vars_long (goal.at.put_columns-given-requires c).After-put_columns-bound,
+    )
 
 pub write_rest-requires : goal.write_rest-requires
 write_rest-requires c =
@@ -161,12 +177,12 @@ write_rest-requires c =
 pub returns : goal.returns
 returns c =
     let s = structure_of c.args.structure in
-    let v = c.fill_vars-var_count in (
+    let v = c.fill_slots-var_count in (
       written_as
           (written_then (written_as c.write_facts-chained.ensures (ap (λ (ns : List ℕ). joined (fact_parts ns s)) (head_is (goal.at.returns c).After-size-6)) refl)
           (written_then c.write_apps-applied.ensures
-          (written_then (written_as {bytes = by_columns pair_columns (take v.result v.new.rows)} c.put_columns-bound.ensures (var_columns (goal.at.returns c).After-fill_vars-var_count) refl)
-          (written_then (written_as c.put_columns-given.ensures (ambient_columns (goal.at.returns c).After-fill_ambients-ambient_count) refl) c.write_rest.ensures))))
+          (written_then (written_as {bytes = by_columns pair_columns (take v.result v.new.rows)} c.put_columns-bound.ensures (var_columns (goal.at.returns c).After-fill_slots-var_count) refl)
+          (written_then (written_as c.put_columns-given.ensures (ambient_columns (goal.at.returns c).After-fill_slots-ambient_count) refl) c.write_rest.ensures))))
           (store_parts s) refl,
       held (goal.at.returns c).After-size-6,
     )

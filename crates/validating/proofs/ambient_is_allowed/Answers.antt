@@ -1,5 +1,4 @@
 -- `ambient_is_allowed` meets its contract.
-use mathlib.Core.Path.{◌∙◌}
 use mathlib.Core.Bool.{◌&&◌}
 use lib.Dec.{ltb}
 use Rattle.validating.proofs.ambient_is_allowed.Goals as goal
@@ -7,5 +6,4 @@ use Rattle.validating.proofs.ambient_is_allowed.Goals as goal
 pub returns : goal.returns
 returns c =
     let a = c.args in
-    let model = c.and-model.ensures ∙ (λ i. ltb a.el a.els && c.is_model.ensures i) in
-    c.and.ensures ∙ (λ i. c.is_type.ensures i && model i)
+    λ i. c.is_type.ensures i && (ltb a.el a.els && c.is_model.ensures i)

@@ -1,33 +1,23 @@
 -- `facts_are_on_roots` meets its contract.
 use mathlib.Core.Path.{refl}
-use Rattle.unification.specs.Roots.{links_of}
-use Rattle.facts.specs.View.{fact_of}
-use Rattle.validating.specs.View.{on_root}
-use Rattle.validating.proofs.Searching.{failed, passed, ended, root_past, root_stands, root_moves}
+use Rattle.ids.proofs.Tests.{told}
+use Rattle.facts.specs.View.{no_fact}
+use Rattle.validating.proofs.Searching.{failed, passed, ended}
 use Rattle.validating.proofs.facts_are_on_roots.Goals as goal
 
-pub loop-i-init : goal.loop-i-init
-loop-i-init c = refl
+pub loop-fact-init : goal.loop-fact-init
+loop-fact-init c = refl
 
-pub loop-i-preserved-then-n-at : goal.loop-i-preserved-then-n-at
-loop-i-preserved-then-n-at c =
+pub returns-then-not-is_on_root : goal.returns-then-not-is_on_root
+returns-then-not-is_on_root c =
     let a = c.args in
-    let is = root_past a.u c.size-n.ensures _ c.if-n-at.true in
-    passed (on_root (links_of a.u)) fact_of a.table.len a.table.items c.size-m.ensures _ c.loop-i.invariant _ c.loop-i-test.true is
+    failed _ a.facts.now c.loop-fact.invariant no_fact c.loop-fact-test.true (told c.is_on_root.ensures c.if-not-is_on_root.true)
 
-pub returns-then-u-at : goal.returns-then-u-at
-returns-then-u-at c =
-    let a = c.args in
-    let is = root_moves a.u c.size-n.ensures _ c.if-n-at.false c.if-u-at.true in
-    failed (on_root (links_of a.u)) fact_of a.table.len a.table.items c.size-m.ensures _ c.loop-i.invariant _ c.loop-i-test.true is
-
-pub loop-i-preserved : goal.loop-i-preserved
-loop-i-preserved c =
-    let a = c.args in
-    let is = root_stands a.u c.size-n.ensures _ c.if-n-at.false c.if-u-at.false in
-    passed (on_root (links_of a.u)) fact_of a.table.len a.table.items c.size-m.ensures _ c.loop-i.invariant _ c.loop-i-test.true is
+pub loop-fact-preserved : goal.loop-fact-preserved
+loop-fact-preserved c =
+    passed _ c.args.facts.now c.loop-fact.invariant no_fact c.loop-fact-test.true (told c.is_on_root.ensures c.if-not-is_on_root.false)
 
 pub returns : goal.returns
 returns c =
     let a = c.args in
-    ended (on_root (links_of a.u)) fact_of a.table.len a.table.items c.size-m.ensures _ c.loop-i.invariant c.loop-i-test.false
+    ended _ a.facts.now c.loop-fact.invariant c.loop-fact-test.false

@@ -1,43 +1,34 @@
 -- `is_storable` meets its contract.
-use mathlib.Core.Path.{sym, ◌∙◌}
-use Rattle.ids.proofs.Answers.{and_left}
-use Rattle.ids.proofs.Tests.{told, and_then}
+use mathlib.Core.Path.{◌≡◌, ap, ◌∙◌}
+use mathlib.Core.Bool.{not}
+use mathlib.Core.List.{List}
+use Prim.Native.Nat.{ℕ}
+use native.Mathlib.Omega.{arith}
+use lib.ListN.{take, length-take}
+use Rattle.std.specs.List.{list_all}
+use Rattle.ids.proofs.Views.{take_same}
+use Rattle.unification.specs.Roots.{links_of}
 use Rattle.structure.specs.View.{structure_of}
-use Rattle.validating.specs.View.{is_storable}
-use Rattle.validating.proofs.Flagged.{on_roots}
+use Rattle.facts.specs.declared.Fact.{Fact}
+use Rattle.facts.specs.View.{fact_of}
+use Rattle.file.specs.File.{link_rises}
+use Rattle.validating.specs.View.{on_root, is_storable}
+use Rattle.validating.proofs.Searching.{all_taken}
+use Rattle.validating.proofs.Flagged.{on_roots, five_tests}
 use Rattle.validating.proofs.is_storable.Goals as goal
-
-pub returns-then-not-entries_are_allowed : goal.returns-then-not-entries_are_allowed
-unfolding is_storable
-returns-then-not-entries_are_allowed c = sym (and_left _ (told c.entries_are_allowed.ensures c.if-not-entries_are_allowed.true))
-
-pub returns-then-not-links_fall : goal.returns-then-not-links_fall
-unfolding is_storable
-returns-then-not-links_fall c =
-    sym (and_then (told c.entries_are_allowed.ensures c.if-not-entries_are_allowed.false) (and_left _ (told c.links_fall.ensures c.if-not-links_fall.true)))
-
-pub returns-then-not-facts_are_on_roots : goal.returns-then-not-facts_are_on_roots
-unfolding is_storable
-returns-then-not-facts_are_on_roots c =
-    let s = structure_of c.args.structure in
-    sym (and_then (told c.entries_are_allowed.ensures c.if-not-entries_are_allowed.false)
-    (and_then (told c.links_fall.ensures c.if-not-links_fall.false)
-    (and_left _ (told (c.facts_are_on_roots.ensures ∙ on_roots s) c.if-not-facts_are_on_roots.true))))
-
-pub returns-then-not-is_in_order : goal.returns-then-not-is_in_order
-unfolding is_storable
-returns-then-not-is_in_order c =
-    let s = structure_of c.args.structure in
-    sym (and_then (told c.entries_are_allowed.ensures c.if-not-entries_are_allowed.false)
-    (and_then (told c.links_fall.ensures c.if-not-links_fall.false)
-    (and_then (told (c.facts_are_on_roots.ensures ∙ on_roots s) c.if-not-facts_are_on_roots.false)
-    (and_left _ (told c.is_in_order.ensures c.if-not-is_in_order.true)))))
 
 pub returns : goal.returns
 unfolding is_storable
 returns c =
-    let s = structure_of c.args.structure in
-    sym (and_then (told c.entries_are_allowed.ensures c.if-not-entries_are_allowed.false)
-    (and_then (told c.links_fall.ensures c.if-not-links_fall.false)
-    (and_then (told (c.facts_are_on_roots.ensures ∙ on_roots s) c.if-not-facts_are_on_roots.false)
-    (and_then (told c.is_in_order.ensures c.if-not-is_in_order.false) (sym c.is_flagged.ensures)))))
+    let s = c.args.structure in
+    let u = s.unification in
+    let fs = s.els in
+    let n = c.size.result in
+    let links : take n u.links ≡ links_of u = take_same n u.len u.links (omega (arith, c.size.ensures.is, length-take u.len u.links)) in
+    let falls = c.links_fall.ensures ∙ ap (λ (ls : List ℕ). not (link_rises 0 ls)) links in
+    let roots =
+    c.facts_are_on_roots.ensures
+    ∙ ap (λ (ls : List ℕ). list_all (λ (f : Fact). on_root ls (fact_of f)) (take c.size-2.result fs.items)) links
+    ∙ all_taken fact_of fs.len fs.items c.size-2.ensures (on_root (links_of u))
+    ∙ on_roots (structure_of s) in
+    five_tests c.entries_are_allowed.ensures falls roots c.is_in_order.ensures c.is_flagged.ensures

@@ -5,7 +5,7 @@ use borrow.Author.Rules.{rules}
 use Rattle.records.proofs.Laws.{most_word, none_before, none_past, as_type, as_pred, as_el, as_last, as_mor, as_func}
 use Rattle.records.proofs.Laws.{as_model, as_mor_app, as_imposition, as_func_app, as_pred_app, as_equality, as_bound}
 use Rattle.records.proofs.Record.fits.Goals as goal
-use Rattle.records.proofs.Record.fits.Goals.{Start, in-7-1, in_default+else-kind-lt1+then-kind-lt13}
+use Rattle.records.proofs.Record.fits.Goals.{Start}
 
 -- A and B are words
 word_a : (c : Start) → c.args.self.a ≤ most_word
@@ -62,8 +62,9 @@ returns-in_default-2 c = none_past _ (omega arith)
 
 pub returns-in-7 : goal.returns-in-7
 returns-in-7 c =
-    elim c.in-7-1.branch [
-      | in-7-1 w ↦ as_equality _ (word_a (goal.at.returns-in-7 c).Start) (word_b (goal.at.returns-in-7 c).Start) w.in-7-1.keys10 c.is_within-in-7.ensures
-      | in_default+else-kind-lt1+then-kind-lt13 w ↦
-          as_bound _ (word_a (goal.at.returns-in-7 c).Start) (word_b (goal.at.returns-in-7 c).Start) (omega arith) (omega arith) c.is_within-in-7.ensures
-    ]
+    as_equality _ (word_a (goal.at.returns-in-7 c).Start) (word_b (goal.at.returns-in-7 c).Start) c.in-7.is c.is_within-in-7.ensures
+
+pub returns-in-11-to-12 : goal.returns-in-11-to-12
+returns-in-11-to-12 c =
+    as_bound _ (word_a (goal.at.returns-in-11-to-12 c).Start) (word_b (goal.at.returns-in-11-to-12 c).Start) (omega arith) (omega arith)
+    c.is_within-in-11-to-12.ensures

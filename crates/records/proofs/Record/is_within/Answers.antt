@@ -1,39 +1,17 @@
 -- `Record::is_within` meets its contract.
-use mathlib.Core.Path.{◌≡◌}
-use lib.ListN.{length}
+use mathlib.Core.Path.{◌≡◌, ◌∙◌}
+use mathlib.Core.Bool.{◌&&◌}
+use lib.Dec.{eqb, leb}
+use lib.ListN.{length, get_or}
 use borrow.Author.Rules.{rules}
-use Rattle.ids.proofs.Tests.{told}
-use Rattle.records.proofs.Laws.{stop_a, stop_b, stop_parents, stop_args, all_but_rest, pair_on, pair_off}
+use Rattle.records.specs.View.{within}
+use Rattle.records.proofs.Laws.{pair_tests, pair_clear}
 use Rattle.records.proofs.Record.is_within.Goals as goal
 
-pub returns-then-a-self : goal.returns-then-a-self
-returns-then-a-self c = stop_a _ _ _ _ _ _ c.if-a-self.true
-
-pub returns-then-b-self : goal.returns-then-b-self
-returns-then-b-self c = stop_b _ _ _ _ _ _ c.if-a-self.false c.if-b-self.true
-
-pub returns-then-not-list_fits : goal.returns-then-not-list_fits
-returns-then-not-list_fits c =
-    stop_parents _ _ _ _ _ _ c.if-a-self.false c.if-b-self.false (told c.list_fits.ensures c.if-not-list_fits.true)
-
-pub returns-then-not-list_fits-2 : goal.returns-then-not-list_fits-2
-returns-then-not-list_fits-2 c =
-    stop_args _ _ _ _ _ _ c.if-a-self.false c.if-b-self.false
-    (told c.list_fits.ensures c.if-not-list_fits.false)
-    (told c.list_fits-2.ensures c.if-not-list_fits-2.true)
-
-pub returns-then-self-ne0 : goal.returns-then-self-ne0
-returns-then-self-ne0 c =
-    let two : length c.args.self.rest ≡ 2 = search rules in
-    all_but_rest _ _ _ _ _ _ c.if-a-self.false c.if-b-self.false
-    (told c.list_fits.ensures c.if-not-list_fits.false)
-    (told c.list_fits-2.ensures c.if-not-list_fits-2.false)
-    (pair_off _ two c.if-self-ne0.true)
-
 pub returns : goal.returns
+unfolding within
 returns c =
-    let two : length c.args.self.rest ≡ 2 = search rules in
-    all_but_rest _ _ _ _ _ _ c.if-a-self.false c.if-b-self.false
-    (told c.list_fits.ensures c.if-not-list_fits.false)
-    (told c.list_fits-2.ensures c.if-not-list_fits-2.false)
-    (pair_on _ two c.if-self-ne0.false)
+    let r = c.args.self in
+    let two : length r.rest ≡ 2 = search rules in
+    let clear = pair_tests (eqb (get_or r.rest 0 0) 0) (eqb (get_or r.rest 1 0) 0) ∙ pair_clear r.rest two in
+    λ i. (leb r.a c.args.a && leb r.b c.args.b) && ((c.list_fits.ensures i && c.list_fits-2.ensures i) && clear i)
