@@ -253,7 +253,12 @@ pub extern "C" fn bench_nothing(bytes: &[u8], times: u64, out: &mut [u64; 5]) {
 }
 
 // How many bytes were stored, and a byte of the file; which one is known only when the program runs.
-fn keep_stored(stored: Result<usize, u16>, file: &[u8; File::MAX_BYTES], i: u64, out: &mut [u64; 5]) {
+fn keep_stored(
+    stored: Result<usize, u16>,
+    file: &[u8; File::MAX_BYTES],
+    i: u64,
+    out: &mut [u64; 5],
+) {
     if let Ok(n) = stored {
         out[0] = n as u64;
     }

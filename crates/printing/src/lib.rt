@@ -1,7 +1,7 @@
 // Writes bytes, a line, and what a sheet is still to print, a page at a time.
 #![tactic(auto)]
 
-ghost use Rattle.std.specs.Prelude.{OnOk, OnErr};
+ghost use Rattle.std.specs.Prelude.{◌<◌, take, length, OnOk, OnErr, IsErr};
 ghost use Rattle.std.specs.Io.KnownBytes.{Appends};
 ghost use Rattle.lines.specs.View.{line_of};
 ghost use Rattle.sheet.specs.Pieces.{rest_of};
@@ -30,6 +30,18 @@ pub fn write_all<W: Write>(to: &mut W, bytes: &[u8]) -> io::Result<()>
         rest = &rest[n..];
     }
     Ok(())
+}
+
+// Writes the first n of some bytes; fails where there are fewer, or a write failed.
+pub fn write_front<W: Write>(to: &mut W, text: &[u8], n: usize) -> io::Result<()>
+    ensures ok { OnOk result (Appends (W.contents to.old) (W.contents to.new) (take n text.now)) }
+    ensures err { OnErr result (AppendsFront (W.contents to.old) (W.contents to.new) (take n text.now)) }
+    ensures fewer { length text.now < n → IsErr result }
+{
+    if text.len() < n {
+        return Err(io::Error::from(ErrorKind::InvalidInput));
+    }
+    write_all(to, &text[..n])
 }
 
 // Writes a line; fails where a write failed.
