@@ -11,7 +11,7 @@ use Rattle.std.specs.Prelude.{Option, Some, None, IfSome, Result, Ok, Err, IsErr
 use Rattle.std.specs.Io.KnownBytes.{Keeps, Consumes}
 use Rattle.std.specs.declared.io.Error.{Error}
 use Rattle.std.proofs.Math.Seq.{take-append_seam, take-append-add}
-use Rattle.reading.specs.Reading.{Reads, fails}
+use Rattle.reading.specs.Reading.{Reads, fails, Kept}
 
 pub none_taken : (old : Option (List ℕ)) → Consumes old old []
 none_taken None = tt
@@ -55,9 +55,15 @@ front_put at n bytes got h k =
     (take-append-add (take at bytes) (got ++ post_of at (length bytes - at) bytes) n ∙ ap (λ (l : List ℕ). take at bytes ++ l) (take-append-le n got _ k))
 
 -- the reads come to what the last one does
-pub failed : (room at : ℕ) (r : Result (Option ℕ) Error) → IsErr r → Reads room at r
-failed room at (Ok x) h = absurd (true≢false (sym h))
-failed room at (Err e) h = fails
+pub failed : (room at : ℕ) (before after : List ℕ) (r : Result (Option ℕ) Error) → Kept at before after → IsErr r → Reads room at before after r
+failed room at before after (Ok x) k h = absurd (true≢false (sym h))
+failed room at before after (Err e) k h = fails k
+
+-- and those before it stay
+pub front_kept : (at : ℕ) (bytes got : List ℕ) → at ≤ length bytes → Kept at bytes (put_mid at (length bytes - at) bytes got)
+front_kept at bytes got h =
+    subst (λ (m : ℕ). take m (put_mid at (length bytes - at) bytes got) ≡ take at bytes) (omega (arith, length-take at bytes, h))
+    (take-append_seam (take at bytes) (got ++ post_of at (length bytes - at) bytes))
 
 pub put_length : (at : ℕ) (bytes got : List ℕ) → at ≤ length bytes → length got ≡ length bytes - at → length (put_mid at (length bytes - at) bytes got) ≡ length bytes
 put_length at bytes got h k =

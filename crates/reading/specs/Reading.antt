@@ -3,13 +3,22 @@ use Rattle.std.specs.Prelude.{ℕ, ◌+◌, ◌<◌, ◌≤◌, ◌≡◌, List,
 use Rattle.std.specs.Io.KnownBytes.{Consumes, IsAtEnd}
 use Rattle.std.specs.declared.io.Error.{Error}
 
+-- the most bytes of a path, with the 0 that ends it
+abbrev pub max_path : ℕ
+max_path = 4096
+
+-- the first `at` bytes stay
+abbrev pub Kept : ℕ → List ℕ → List ℕ → Type 0
+Kept at before after = take at after ≡ take at before
+
 -- reads one after the other, where so many bytes are there already and there is room for `room`: one fails, one gives no byte and is the
--- end of the input, one gives more than there is room for, or one gives some bytes and others come after it
-pub data Reads (room : ℕ) : ℕ → Result (Option ℕ) Error → Type 0 where
-  fails : {at : ℕ} {e : Error} → Reads room at (Err e)
-  ends : {at : ℕ} → Reads room at (Ok (Some at))
-  is_longer : {at n : ℕ} → 0 < n → room < at + n → Reads room at (Ok None)
-  gives : {at n : ℕ} {r : Result (Option ℕ) Error} → 0 < n → at + n ≤ room → Reads room (at + n) r → Reads room at r
+-- end of the input, one gives more than there is room for, or one gives some bytes and others come after it; each keeps what was read before it
+pub data Reads (room : ℕ) : ℕ → List ℕ → List ℕ → Result (Option ℕ) Error → Type 0 where
+  fails : {at : ℕ} {before after : List ℕ} {e : Error} → Kept at before after → Reads room at before after (Err e)
+  ends : {at : ℕ} {before after : List ℕ} → Kept at before after → Reads room at before after (Ok (Some at))
+  is_longer : {at n : ℕ} {before after : List ℕ} → 0 < n → room < at + n → Kept at before after → Reads room at before after (Ok None)
+  gives : {at n : ℕ} {before between after : List ℕ} {r : Result (Option ℕ) Error} → 0 < n → at + n ≤ room → Kept at before between
+      → Reads room (at + n) between after r → Reads room at before after r
 
 -- what the reads of an input give, where it is known what it has: `old` is what it had left before, `new` what it has after; the bytes are what
 -- the input had; it had more than there is room for; or what it gave up to the failure is at their front

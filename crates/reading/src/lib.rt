@@ -17,7 +17,7 @@ use std::{fs, io};
 // Reads an input to its end, into the front of the bytes: gives how many there are, or `None` where it has more than there is room for.
 // The library's `read_to_end` fills a `Vec`, and here is no heap.
 pub fn read_all<R: Read>(input: &mut R, bytes: &mut [u8]) -> io::Result<Option<usize>>
-    ensures reads { Reads (length bytes.old) 0 result }
+    ensures reads { Reads (length bytes.old) 0 bytes.old bytes.new result }
     ensures input { IsInput (R.remaining input.old) (R.remaining input.new) bytes.new result }
 {
     let mut at: usize = 0;

@@ -1,5 +1,6 @@
 // A path as a program is given it. It need not be text.
 ghost use Rattle.std.specs.Prelude.{◌≡◌, ◌≤◌, take};
+ghost use Rattle.reading.specs.Reading.{max_path};
 
 use std::env::{Env, FillError};
 
@@ -8,7 +9,7 @@ use std::env::{Env, FillError};
 pub struct Path {
     pub bytes: [u8; Path::MAX_LEN],
     pub len: usize,
-    ghost within: { len ≤ 4096 },
+    ghost within: { len ≤ max_path },
 }
 
 impl Path {

@@ -1,18 +1,19 @@
 -- `read_all` meets its contract.
 use Prim.Native.Nat.{◌-◌, ◌<◌, ◌≤◌}
-use mathlib.Core.Path.{◌≡◌, sym, subst, ◌∙◌}
+use mathlib.Core.Path.{◌≡◌, refl, sym, subst, ◌∙◌}
 use native.Mathlib.Omega.{arith}
 use lib.ListN.{length}
 use Rattle.std.specs.Io.KnownBytes.{Consumes}
 use Rattle.reading.specs.Reading.{ends, is_longer, gives}
-use Rattle.reading.proofs.Taken.{taken_then, front_put, put_length, failed}
+use Rattle.reading.proofs.Taken.{taken_then, front_put, front_kept, put_length, failed}
 use Rattle.reading.proofs.read_all.Goals as goal
 
 pub returns-in_err-n-clause-reads : goal.returns-in_err-n-clause-reads
-returns-in_err-n-clause-reads g c = c.loop-at.invariant.0 _ (failed _ _ _ c.from_residual.ensures.0)
+returns-in_err-n-clause-reads g c =
+    c.loop-at.invariant.0 _ _ (failed _ _ _ _ _ (front_kept c.loop-at.at c.loop-at.bytes c.read.new.buf (omega (arith, c.loop-at.invariant.1, c.loop-at.invariant.3))) c.from_residual.ensures.0)
 
 pub returns-then-n-eq0-clause-reads : goal.returns-then-n-eq0-clause-reads
-returns-then-n-eq0-clause-reads g c = c.loop-at.invariant.0 _ ends
+returns-then-n-eq0-clause-reads g c = c.loop-at.invariant.0 _ _ (ends (front_kept c.loop-at.at c.loop-at.bytes c.read.new.buf (omega (arith, c.loop-at.invariant.1, c.loop-at.invariant.3))))
 
 pub loop-at-preserved : goal.loop-at-preserved
 loop-at-preserved g c =
@@ -22,18 +23,18 @@ loop-at-preserved g c =
     let most = c.in_ok-n.ensures.bound in
     let within : l.at ≤ length l.bytes = omega (arith, l.invariant.1, l.invariant.3) in
     let whole : length c.read.new.buf ≡ length l.bytes - l.at = omega (arith, c.read.auto.buf, within) in (
-      λ r h. l.invariant.0 r (gives some (omega (arith, most, c.read.auto.buf, l.invariant.1, l.invariant.3)) h),
+      λ after r h. l.invariant.0 after r (gives some (omega (arith, most, c.read.auto.buf, l.invariant.1, l.invariant.3)) (front_kept l.at l.bytes c.read.new.buf within) h),
       put_length l.at l.bytes c.read.new.buf within whole ∙ l.invariant.1,
       subst (Consumes _ _) (sym (front_put l.at n l.bytes c.read.new.buf within most.0)) (taken_then _ _ _ _ _ l.invariant.2 c.in_ok-n.ensures.bytes.0),
       omega (arith, most, c.read.auto.buf, l.invariant.1, l.invariant.3),
     )
 
 pub returns-in_err-n-2-clause-reads : goal.returns-in_err-n-2-clause-reads
-returns-in_err-n-2-clause-reads g c = c.loop-at.invariant.0 _ (failed _ _ _ c.from_residual-in_err-n-2.ensures.0)
+returns-in_err-n-2-clause-reads g c = c.loop-at.invariant.0 _ _ (failed _ _ _ _ _ refl c.from_residual-in_err-n-2.ensures.0)
 
 pub returns-then-n-eq0-2-clause-reads : goal.returns-then-n-eq0-2-clause-reads
-returns-then-n-eq0-2-clause-reads g c = c.loop-at.invariant.0 _ ends
+returns-then-n-eq0-2-clause-reads g c = c.loop-at.invariant.0 _ _ (ends refl)
 
 pub returns-else-n-eq0-2-clause-reads : goal.returns-else-n-eq0-2-clause-reads
 returns-else-n-eq0-2-clause-reads g c =
-    c.loop-at.invariant.0 _ (is_longer {n = 1} (omega arith) (omega (arith, c.loop-at-test.false, c.loop-at.invariant.1)))
+    c.loop-at.invariant.0 _ _ (is_longer {n = 1} (omega arith) (omega (arith, c.loop-at-test.false, c.loop-at.invariant.1)) refl)
