@@ -2,17 +2,41 @@
 // Its passes are lent copies of the tables, so that a number that is met hands back the structure as it was.
 #![tactic(auto)]
 
-ghost use Rattle.std.specs.Prelude.{◌≡◌, [], ◌≤◌};
+ghost use Rattle.std.specs.Prelude.{◌≡◌, [], ◌≤◌, length, take};
 ghost use Rattle.signature.specs.Model.{sig_of};
+ghost use Rattle.semantics.specs.Structure.{max_facts};
 ghost use Rattle.semantics.specs.Calls as calls;
 ghost use Rattle.semantics.specs.Calls.{machine, merges_of, step};
 ghost use Rattle.structure.specs.View.{structure_of, answer_of, step_of};
 ghost use Rattle.rounds.specs.View.{one_close};
 
+use apps::{FuncApp, PredApp};
 use el_rows::El;
+use equalities::Pair;
+use facts::{Fact, Facts};
+use ids::{ElId, ElIds, FuncId, PredId};
 use merging::Tally;
 use signature::Signature;
 use structure::{Answer, Closed, Stepped, Structure};
+
+// The rows from an index on become one and the same.
+fn clear<T: Copy>(rows: &mut [T], n: usize, none: T)
+    ensures { take n rows.new ≡ take n rows.old }
+{
+    for i in n..rows.len() {
+        rows[i] = none;
+    }
+}
+
+// The facts from an index on become those of a table there.
+fn restore(facts: &mut [Fact], n: usize, given: Facts)
+    requires { length facts.old ≡ max_facts }
+    ensures { take n facts.new ≡ take n facts.old }
+{
+    for i in n..Facts::MAX_LEN {
+        facts[i] = given.items[i];
+    }
+}
 
 // Kind 13. The number first met refuses, and the structure before the close is handed back.
 pub fn close(structure: Structure, signature: Signature) -> Stepped
@@ -84,6 +108,15 @@ pub fn close(structure: Structure, signature: Signature) -> Stepped
     // `canonicalise_refs`: predicate applications, facts, and below variables and impositions.
     let pred_len = rewriting::canonical_pred_apps(els, &mut pred_apps.items, pred_count);
     let fact_len = rewriting::canonical_facts(els, &mut facts.items, counts.facts as usize);
+    // Past its count no table keeps what the passes left: the facts are those given there, the others as in a new table.
+    restore(&mut facts.items, fact_len, structure.els);
+    let no_els = ElIds::new();
+    let no_func_app = FuncApp::new(FuncId(0), no_els, no_els, ElId(0));
+    clear(&mut func_apps.items, counts.func_apps as usize, no_func_app);
+    let no_pred_app = PredApp::new(PredId(0), no_els, no_els);
+    clear(&mut pred_apps.items, pred_len, no_pred_app);
+    let no_pair = Pair::new(ElId(0), ElId(0));
+    clear(&mut pairs.items, counts.pairs as usize, no_pair);
     facts.len = fact_len as u16;
     func_apps.len = counts.func_apps;
     pred_apps.len = pred_len as u16;

@@ -22,13 +22,18 @@ use structure::{Answer, Looked, Machine};
 use unification::{Find, Finding};
 
 // The kinds of the calls that no record of a sheet makes: numbers of the file, as those of sheets. An enum of them would only add a second match.
-const ROOT_KIND: u16 = 101;
+#[derive(Clone, Copy)]
+pub struct Kind(pub u16);
 
-const ROOT_CONST_KIND: u16 = 102;
+impl Kind {
+    pub const ROOT: u16 = 101;
 
-const LOOKUP_TYPE_KIND: u16 = 103;
+    pub const ROOT_CONST: u16 = 102;
 
-const AMBIENT_PARENTS_KIND: u16 = 104;
+    pub const LOOKUP_TYPE: u16 = 103;
+
+    pub const AMBIENT_PARENTS: u16 = 104;
+}
 
 // What a call of a list answers; conflicts stand beside it, and none beside another answer.
 #[derive(Clone, Copy)]
@@ -168,14 +173,14 @@ fn carry_out(machine: Machine, given: Record) -> Responded
     ensures { responded_of result ≡ with_conflicts (carry_out (list_call_of (record_view given)) (machine_of machine)) }
 {
     match given.kind {
-        ROOT_KIND => find_root(machine, ElId(given.a)),
-        ROOT_CONST_KIND => find_root_const(machine, ElId(given.a)),
-        LOOKUP_TYPE_KIND => look_up_type(
+        Kind::ROOT => find_root(machine, ElId(given.a)),
+        Kind::ROOT_CONST => find_root_const(machine, ElId(given.a)),
+        Kind::LOOKUP_TYPE => look_up_type(
             machine,
             TypeId(given.a),
             els_in(given.parents, given.parent_count),
         ),
-        AMBIENT_PARENTS_KIND => look_up_ambients(machine, types_in(given.args, given.arg_count)),
+        Kind::AMBIENT_PARENTS => look_up_ambients(machine, types_in(given.args, given.arg_count)),
         _ => carry_out_as_sheet(machine, given),
     }
 }

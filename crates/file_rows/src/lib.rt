@@ -11,6 +11,7 @@ pub const WIDTH: usize = 12;
 pub type Row = [u16; WIDTH];
 
 // How many columns of bytes each table has, and the counts of the head.
+#[derive(Clone, Copy)]
 pub struct File;
 
 impl File {

@@ -25,6 +25,8 @@ impl From<Failure> for Unparked {
 }
 
 // Where a sheet of so many bytes begins: from the file that the argument names, or, where there is no argument, from the empty structure.
+// As the two below it stands in no other function, so that each gives back its part of the stack before the next begins.
+#[inline(never)]
 fn begin<S: Env + Files>(
     system: &S,
     bytes: &[u8; Record::MAX_BYTES],
@@ -47,6 +49,7 @@ fn begin<S: Env + Files>(
 }
 
 // The structure that a sheet leaves, from where it stands.
+#[inline(never)]
 fn last_structure(given: Piece, bytes: &[u8; Record::MAX_BYTES]) -> Result<Structure, Unparked> {
     let last = resuming::finish(given, bytes);
     if last.progress.stage.is_ended() {
@@ -56,13 +59,12 @@ fn last_structure(given: Piece, bytes: &[u8; Record::MAX_BYTES]) -> Result<Struc
 }
 
 // Writes the file in which a structure is parked.
+#[inline(never)]
 fn park<W: Write>(output: &mut W, structure: Structure) -> Result<(), Unparked> {
     let mut file = [0u8; File::MAX_BYTES];
     match storing::store(structure, &mut file) {
         Ok(n) => {
-            // No file is longer.
-            let n = n.min(File::MAX_BYTES);
-            printing::write_all(output, &file[..n]).map_err(Failure::Output)?;
+            printing::write_front(output, &file, n).map_err(Failure::Output)?;
             Ok(())
         }
         Err(number) => Err(Unparked::Refused(lines::refused_line(number, 0))),

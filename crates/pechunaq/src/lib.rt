@@ -149,23 +149,38 @@ impl From<TypeRow> for Type {
 impl From<Types> for TypeRows {
     ghost from_gives = { λ types rows. types_in rows ≡ view_types types };
 
+    // The rows that are in use. The others are as in a new table.
     fn from(types: Types) -> TypeRows {
-        TypeRows {
-            items: types.items.map(TypeRow::from),
-            len: types.size(),
+        let n = types.size();
+        let none = TypeRow {
+            kind: 0,
+            model: 0,
+            parents: TypeIds::new(),
+        };
+        let mut rows = TypeRows {
+            items: [none; Signature::MAX_TYPES],
+            len: 0,
+        };
+        for i in 0..n as usize {
+            rows.items[i] = TypeRow::from(types.items[i]);
         }
+        rows.len = n;
+        rows
     }
 }
 
 impl From<TypeRows> for Types {
     ghost from_gives = { λ rows types. view_types types ≡ types_in rows };
 
-    // A length over the limit counts as the limit.
+    // The rows that are in use: a length over the limit counts as the limit. The other types are as in a new table.
     fn from(rows: TypeRows) -> Types {
-        Types {
-            items: rows.items.map(Type::from),
-            len: rows.len.min(Signature::MAX_TYPES as u16),
+        let n = rows.len.min(Signature::MAX_TYPES as u16);
+        let mut types = Signature::new().types;
+        for i in 0..n as usize {
+            types.items[i] = Type::from(rows.items[i]);
         }
+        types.len = n;
+        types
     }
 }
 

@@ -1,17 +1,36 @@
 -- Laws of what reads take of an input whose bytes are known.
-use Prim.Native.Nat.{ℕ, ◌+◌, ◌-◌, ◌<◌, ◌≤◌}
+use Prim.Native.Nat.{ℕ, suc, ◌+◌, ◌-◌, ◌<◌, ◌≤◌}
 use mathlib.Core.Path.{◌≡◌, refl, sym, ap, subst, ◌∙◌}
-use mathlib.Core.Bool.{true≢false}
+use mathlib.Core.Bool.{Bool, true, false, true≢false}
 use mathlib.Core.List.{List, [], ◌++◌, append_assoc, append-nil}
 use native.Mathlib.Omega.{arith}
 use borrow.Rule.Slice.PartMut.{put_mid, post_of, same_len_mid}
 use lib.ListN.{length, take, drop, length-take, length-drop, length-append}
 use lib.Seq.{take-append-le}
+use lib.Dec.{eqb}
+use borrow.Author.Tests.{eqb-false}
 use Rattle.std.specs.Prelude.{Option, Some, None, IfSome, Result, Ok, Err, IsErr}
 use Rattle.std.specs.Io.KnownBytes.{Keeps, Consumes}
 use Rattle.std.specs.declared.io.Error.{Error}
 use Rattle.std.proofs.Math.Seq.{take-append_seam, take-append-add}
-use Rattle.reading.specs.Reading.{Reads, fails, Kept}
+use Rattle.reading.specs.Reading.{given, after_read, Reads, fails, Kept}
+
+-- how many bytes a read gave, by what its answer comes to; 0 of the end and of a failure
+several : Result (Option ℕ) Error → ℕ
+several (Ok None) = 0
+several (Ok (Some n)) = suc n
+several (Err e) = 0
+
+-- a read that comes to n bytes gave them
+pub gave : (got : Result ℕ Error) (n : ℕ) → after_read got ≡ Ok (Some n) → (got ≡ Ok n) × (0 < n)
+unfolding several
+gave (Err e) n h = let none : 0 ≡ suc n = ap several h in absurd (omega (arith, none))
+gave (Ok m) n h = go (eqb m 0) refl where
+  go : (b : Bool) → eqb m 0 ≡ b → (◌≡◌ {A = Result ℕ Error} (Ok m) (Ok n)) × (0 < n)
+  go true k = let none : 0 ≡ suc n = ap several (ap (λ (t : Bool). Ok (given t m)) (sym k) ∙ h) in absurd (omega (arith, none))
+  go false k =
+      let same : suc m ≡ suc n = ap several (ap (λ (t : Bool). Ok (given t m)) (sym k) ∙ h) in
+      let is : m ≡ n = omega (arith, same) in (ap Ok is, omega (arith, is, eqb-false m 0 k))
 
 pub none_taken : (old : Option (List ℕ)) → Consumes old old []
 none_taken None = tt

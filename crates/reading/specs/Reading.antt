@@ -1,5 +1,5 @@
 -- What the reads of an input come to.
-use Rattle.std.specs.Prelude.{ℕ, ◌+◌, ◌<◌, ◌≤◌, ◌≡◌, List, length, take, Option, Some, None, IfSome, Result, Ok, Err}
+use Rattle.std.specs.Prelude.{ℕ, ◌+◌, ◌<◌, ◌≤◌, ◌≡◌, List, length, take, Bool, true, false, eqb, Option, Some, None, IfSome, Result, Ok, Err}
 use Rattle.std.specs.Io.KnownBytes.{Consumes, IsAtEnd}
 use Rattle.std.specs.declared.io.Error.{Error}
 
@@ -10,6 +10,16 @@ max_path = 4096
 -- the first `at` bytes stay
 abbrev pub Kept : ℕ → List ℕ → List ℕ → Type 0
 Kept at before after = take at after ≡ take at before
+
+-- a read gave n bytes: none are the end of the input
+abbrev pub given : Bool → ℕ → Option ℕ
+given true n = None
+given false n = Some n
+
+-- what the answer to a read comes to: so many bytes, the end of the input, or a failure
+abbrev pub after_read : Result ℕ Error → Result (Option ℕ) Error
+after_read (Ok n) = Ok (given (eqb n 0) n)
+after_read (Err e) = Err e
 
 -- reads one after the other, where so many bytes are there already and there is room for `room`: one fails, one gives no byte and is the
 -- end of the input, one gives more than there is room for, or one gives some bytes and others come after it; each keeps what was read before it

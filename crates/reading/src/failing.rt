@@ -1,9 +1,8 @@
 // What of a program's input or output failed, and why, as a line.
 use crate::path::Path;
 use std::env::FillError;
-use std::fmt::{Display, Formatter};
+use std::io;
 use std::io::{Cursor, Write};
-use std::{fmt, io};
 
 #[derive(Clone, Copy)]
 pub enum Failure {
@@ -31,28 +30,20 @@ impl From<FillError> for Failure {
 // The most bytes of an error's text.
 const MAX_TEXT: usize = 256;
 
-// An error's text without the number of the system's error, which std puts after it.
-#[derive(Clone, Copy)]
-struct Words<'a>(&'a io::Error);
-
-impl Display for Words<'_> {
-    fn fmt<W: fmt::Write>(&self, f: &mut Formatter<W>) -> fmt::Result {
-        let mut text = Cursor::new([0u8; MAX_TEXT]);
-        let _ = write!(text, "{}", self.0);
-        let n = (text.position() as usize).min(MAX_TEXT);
-        let bytes = text.into_inner();
-        let Ok(all) = str::from_utf8(&bytes[..n]) else {
-            return Ok(());
-        };
-        match all.split_once(" (os error ") {
-            Some((words, _)) => f.write_str(words),
-            None => f.write_str(all),
-        }
+// The words of an error's text without the number of the system's error, which std puts after them.
+fn without_number(text: &[u8]) -> &[u8] {
+    let Ok(all) = str::from_utf8(text) else {
+        return text;
+    };
+    match all.split_once(" (os error ") {
+        Some((words, _)) => words.as_bytes(),
+        None => text,
     }
 }
 
 impl Failure {
-    // Writes a line: what failed, a colon and the error's text. A failure of that is not told.
+    // Writes a line: what failed, a colon and the error's text. A failure of that is not told, and each part is tried whatever became of
+    // the one before it.
     pub fn tell<W: Write>(&self, to: &mut W) {
         let (what, error) = match self {
             Failure::Input(error) => (b"standard input".as_slice(), error),
@@ -60,8 +51,13 @@ impl Failure {
             Failure::Argument(error) => (b"argument".as_slice(), error),
             Failure::File(path, error) => (path.as_bytes(), error),
         };
-        // A path need not be text, so it is no part of what is formatted.
+        let mut text = Cursor::new([0u8; MAX_TEXT]);
+        let _ = write!(text, "{error}");
+        let n = (text.position() as usize).min(MAX_TEXT);
+        let bytes = text.into_inner();
         let _ = to.write_all(what);
-        let _ = writeln!(to, ": {}", Words(error));
+        let _ = to.write_all(b": ");
+        let _ = to.write_all(without_number(&bytes[..n]));
+        let _ = to.write_all(b"\n");
     }
 }

@@ -4,8 +4,8 @@
 mod failing;
 mod path;
 
-ghost use Rattle.std.specs.Prelude.{◌≤◌, length, IfOk, IfSome, IfErr};
-ghost use Rattle.reading.specs.Reading.{Reads, IsInput};
+ghost use Rattle.std.specs.Prelude.{◌≡◌, ◌≤◌, length, IfOk, IfSome, IfErr};
+ghost use Rattle.reading.specs.Reading.{after_read, Reads, IsInput};
 ghost use Rattle.reading.specs.Failing.{IsOfFile};
 
 pub use failing::Failure;
@@ -13,6 +13,17 @@ pub use path::Path;
 use std::fs::Files;
 use std::io::{ErrorKind, Read};
 use std::{fs, io};
+
+// What the answer to a read comes to: it gave so many bytes, `None` where the input has ended, or it failed.
+fn came_to(got: io::Result<usize>) -> io::Result<Option<usize>>
+    ensures { result ≡ after_read got }
+{
+    match got {
+        Ok(0) => Ok(None),
+        Ok(n) => Ok(Some(n)),
+        Err(error) => Err(error),
+    }
+}
 
 // Reads an input to its end, into the front of the bytes: gives how many there are, or `None` where it has more than there is room for.
 // The library's `read_to_end` fills a `Vec`, and here is no heap.
@@ -22,16 +33,17 @@ pub fn read_all<R: Read>(input: &mut R, bytes: &mut [u8]) -> io::Result<Option<u
 {
     let mut at: usize = 0;
     while at < bytes.len() {
-        let n = input.read(&mut bytes[at..])?;
-        if n == 0 {
+        let Some(n) = came_to(input.read(&mut bytes[at..]))? else {
             return Ok(Some(at));
-        }
+        };
         at += n;
     }
     // One byte more shows that there are more.
     let mut more = [0u8; 1];
-    let n = input.read(&mut more)?;
-    if n == 0 { Ok(Some(at)) } else { Ok(None) }
+    match came_to(input.read(&mut more))? {
+        None => Ok(Some(at)),
+        Some(_) => Ok(None),
+    }
 }
 
 // Only a path that is text has a file.

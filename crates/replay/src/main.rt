@@ -88,6 +88,8 @@ fn read_sheet<R: Read>(input: &mut R, bytes: &mut [u8; Record::MAX_BYTES], lengt
 }
 
 // The lines of a sheet, and, where it is dumped, the structure after the last piece of each record that was carried out.
+// Neither this nor `run_list` stands in another function: one at a time has its part of the stack.
+#[inline(never)]
 fn run_sheet<W: Write>(
     out: &mut W,
     bytes: &[u8; Record::MAX_BYTES],
@@ -110,6 +112,7 @@ fn run_sheet<W: Write>(
 }
 
 // The records of a list, and then the bytes that are no whole record.
+#[inline(never)]
 fn run_list<R: Read, W: Write>(
     input: &mut R,
     out: &mut W,

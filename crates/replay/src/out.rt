@@ -6,7 +6,7 @@ use std::io;
 use std::io::Write;
 
 // The first `len` bytes of the text are to be written. What cannot be written, as to a device that is full, is not told, so that the
-// whole stream is read.
+// whole stream is read. It is written before a line for which there may be no room, so that a write ends where a line does.
 #[derive(Drop)]
 pub struct Out<W> {
     to: W,
@@ -29,7 +29,9 @@ impl<W: Write> Out<W> {
 
 impl<W: Write> Write for Out<W> {
     fn write(&mut self, bytes: &[u8]) -> io::Result<usize> {
-        if MAX_TEXT - self.len < bytes.len() {
+        let free = MAX_TEXT - self.len;
+        let full = free < Line::MAX_LEN && self.text[..self.len].ends_with(b"\n");
+        if full || free < bytes.len() {
             self.flush()?;
         }
         let n = bytes.len().min(MAX_TEXT - self.len);
@@ -45,6 +47,9 @@ impl<W: Write> Write for Out<W> {
     }
 }
 
+// A line that may be empty. `write_all` of no bytes writes nothing, and there is to be room before an empty line too.
 pub fn put_line<W: Write>(out: &mut W, line: &Line) -> io::Result<()> {
-    out.write_all(&line.bytes[..line.size()])
+    let bytes = line.as_slice();
+    let n = out.write(bytes)?;
+    out.write_all(&bytes[n..])
 }

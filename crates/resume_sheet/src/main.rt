@@ -17,6 +17,8 @@ use std::io;
 use std::io::{Read, Write};
 
 // A sheet of so many bytes, from a file: what it prints stands on the output, or a first part where a write failed.
+// It stands in no other function, so that a file that cannot be read needs none of its stack.
+#[inline(never)]
 fn print<W: Write>(
     output: &mut W,
     bytes: &[u8; Record::MAX_BYTES],

@@ -199,11 +199,12 @@ pub fn after_record(carried: Carried, index: u16, position: Position) -> Piece
 fn visit(progress: Progress, given: Record) -> Piece
     ensures { piece_of result ≡ visit_piece (record_view given) (progress_of progress) }
 {
+    let machine = progress.machine;
     let at = progress.position.visited();
     if at.is_broken(given.next) {
-        return refuse(progress.machine, Refusal::BAD_CHAIN, at.index);
+        return refuse(machine, Refusal::BAD_CHAIN, at.index);
     }
-    let carried = carrying::carry_out(progress.machine, given);
+    let carried = carrying::carry_out(machine, given);
     let next = Position {
         count: at.count,
         index: given.next,
@@ -216,20 +217,20 @@ fn visit(progress: Progress, given: Record) -> Piece
 fn list(progress: Progress) -> Piece
     ensures { piece_of result ≡ list_piece (drop progress.printed (conflicts_of progress.conflicts)) (progress_of progress) }
 {
-    let n = progress.conflicts.size();
+    let conflicts = progress.conflicts;
+    let n = conflicts.size();
     let at = progress.printed as usize;
     if n <= at {
-        return pass(
-            lines::conflicts_line(n as u16),
-            progress.machine,
-            progress.position,
-        );
+        let machine = progress.machine;
+        let line = lines::conflicts_line(n as u16);
+        return pass(line, machine, progress.position);
     }
-    let c = progress.conflicts.items[at];
+    let c = conflicts.items[at];
+    let line = lines::conflict_line(c.el, c.a, c.b);
     let mut after = progress;
     after.printed += 1;
     Piece {
-        line: lines::conflict_line(c.el, c.a, c.b),
+        line,
         progress: after,
     }
 }
@@ -245,24 +246,32 @@ fn end(progress: Progress) -> Piece
 }
 
 // The next piece, where the record of the progress' index is given.
+// Inlined, as `advance`: a piece that is handed on has a place of its own in each caller, set to zeros at every call.
+#[inline(always)]
 pub fn step(progress: Progress, given: Record) -> Piece
     ensures { piece_of result ≡ piece_at progress.stage (record_view given) (progress_of progress) }
 {
-    match progress.stage {
-        Stage::Refusing => refuse(progress.machine, Refusal::BAD_SHEET, 0),
+    let stage = progress.stage;
+    match stage {
+        Stage::Refusing => {
+            let machine = progress.machine;
+            refuse(machine, Refusal::BAD_SHEET, 0)
+        }
         Stage::Visiting => visit(progress, given),
         Stage::Listing => list(progress),
         Stage::Ending => end(progress),
-        Stage::Ended => Piece {
-            line: Line::new(),
-            progress,
-        },
+        Stage::Ended => {
+            let line = Line::new();
+            Piece { line, progress }
+        }
     }
 }
 
 // The next piece of the sheet in the first of the bytes.
+#[inline(always)]
 pub fn advance(progress: Progress, bytes: &[u8; Record::MAX_BYTES]) -> Piece
     ensures { piece_of result ≡ next_piece bytes.now (progress_of progress) }
 {
-    step(progress, records::record_at(bytes, progress.position.index))
+    let given = records::record_at(bytes, progress.position.index);
+    step(progress, given)
 }

@@ -2,7 +2,7 @@
 -- put together (Closing.antt).
 use mathlib.Core.Path.{◌≡◌, refl, sym, ap, ◌∙◌}
 use mathlib.Core.Bool.{◌||◌}
-use mathlib.Core.List.{map, reverse}
+use mathlib.Core.List.{List, map, reverse}
 use Prim.Native.Nat.{ℕ, ◌≤◌}
 use native.Mathlib.Omega.{arith}
 use lib.Dec.{ltb}
@@ -15,6 +15,7 @@ use Rattle.semantics.specs.Types.{any_marked, impose_all}
 use Rattle.semantics.specs.Calls.{Step, merges_of}
 use Rattle.facts.specs.View.{fact_of, impositions_of}
 use Rattle.apps.specs.View.{func_app_of, pred_app_of}
+use Rattle.equalities.specs.declared.Pair.{Pair}
 use Rattle.equalities.specs.View.{pair_of}
 use Rattle.merging.specs.View.{Lent, lent, core_of, tally, Passes}
 use Rattle.merging.proofs.Laws.{counts_as}
@@ -116,8 +117,9 @@ returns c =
     let same : length c.apply_pending_type_impositions-counts.new.els ≡ length c.fill_els-is_marked.new.els =
     c.apply_pending_type_impositions-counts.auto.els ∙ c.rounds-ran.auto.els in
     let all = written g l rs is c.links_of-unification.result c.marks_of-marked.result same (search (rules, c.links_of-unification.type_inv)) (search (rules, c.marks_of-marked.type_inv))
-    c.links_of-unification.ensures c.marks_of-marked.ensures c.canonical_facts-fact_len.ensures.is refl
-    c.canonical_pred_apps-pred_len.ensures.is c.canonical_vars-vars.ensures refl c.canonical_impositions-imposed.ensures in record {
+    c.links_of-unification.ensures c.marks_of-marked.ensures (ap (map fact_of) c.restore.ensures ∙ c.canonical_facts-fact_len.ensures.is)
+    (ap (map func_app_of) c.clear.ensures) (ap (map pred_app_of) c.clear-2.ensures ∙ c.canonical_pred_apps-pred_len.ensures.is)
+    c.canonical_vars-vars.ensures (ap (λ (xs : List Pair). reverse (map pair_of xs)) c.clear-3.ensures) c.canonical_impositions-imposed.ensures in record {
       result_value = c.accept.ensures g ∙ accepts g l rs is c.in_default.is (λ i. ltb 1 c.rounds-ran.result.rounds || c.grew-late.ensures i) all;
       answer_bound = answered (c.accept.ensures g) (merges_most g l rs is);
     }

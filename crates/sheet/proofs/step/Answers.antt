@@ -29,4 +29,4 @@ returns-in-Ending c =
 pub returns-in-Ended : goal.returns-in-Ended
 unfolding piece_at
 returns-in-Ended c =
-    let a = c.args in at_stage (record_view a.given) (progress_of a.progress) c.in-Ended.is (both c.new.ensures refl)
+    let a = c.args in at_stage (record_view a.given) (progress_of a.progress) c.in-Ended.is (both c.new-line.ensures refl)

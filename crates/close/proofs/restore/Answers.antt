@@ -1,0 +1,8 @@
+-- `restore` meets its contract: each fact that is written stands at n or after it.
+use mathlib.Core.Path.{◌∙◌}
+use Rattle.std.proofs.lemmas.List.{take-set-le}
+use native.Mathlib.Omega.{arith}
+use Rattle.close.proofs.restore.Goals as goal
+
+pub loop-i-preserved : goal.loop-i-preserved
+loop-i-preserved c = take-set-le _ _ _ _ (omega arith) ∙ c.loop-i.invariant
