@@ -21,19 +21,18 @@ pub struct Loading {
     pub structure: Structure,
 }
 
-// Each byte by itself: the slip to be refused is one at a byte that no entry uses.
+// Each byte by itself, up to the last: the slip to be refused is one at a byte that no entry uses.
 fn is_same(file: &[u8], bytes: &[u8]) -> bool
     ensures { result ≡ bytes_eq file.now bytes.now }
 {
     if file.len() != bytes.len() {
         return false;
     }
+    let mut alike = true;
     for (x, y) in file.iter().zip(bytes) {
-        if x != y {
-            return false;
-        }
+        alike &= x == y;
     }
-    true
+    alike
 }
 
 // The structure of a file under a signature, or 13 or 14. That each byte is one is said for the proof.

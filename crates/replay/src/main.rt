@@ -88,8 +88,6 @@ fn read_sheet<R: Read>(input: &mut R, bytes: &mut [u8; Record::MAX_BYTES], lengt
 }
 
 // The lines of a sheet, and, where it is dumped, the structure after the last piece of each record that was carried out.
-// Neither this nor `run_list` stands in another function: one at a time has its part of the stack.
-#[inline(never)]
 fn run_sheet<W: Write>(
     out: &mut W,
     bytes: &[u8; Record::MAX_BYTES],
@@ -112,7 +110,6 @@ fn run_sheet<W: Write>(
 }
 
 // The records of a list, and then the bytes that are no whole record.
-#[inline(never)]
 fn run_list<R: Read, W: Write>(
     input: &mut R,
     out: &mut W,
@@ -120,6 +117,11 @@ fn run_list<R: Read, W: Write>(
     length: usize,
     mode: Mode,
 ) -> io::Result<()> {
+    // A list with no record needs no machine and no file, which take longer to make than all else here.
+    if length < Record::BYTES {
+        skip(input, bytes, length);
+        return Ok(());
+    }
     let mut list = List::new();
     for _ in 0..length / Record::BYTES {
         if read_full(input, &mut bytes[..Record::BYTES]) != Record::BYTES {

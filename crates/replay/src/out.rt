@@ -47,7 +47,7 @@ impl<W: Write> Write for Out<W> {
     }
 }
 
-// A line that may be empty. `write_all` of no bytes writes nothing, and there is to be room before an empty line too.
+// A line that may be empty: `write_all` of no bytes does not call `write`, which makes room before an empty line too.
 pub fn put_line<W: Write>(out: &mut W, line: &Line) -> io::Result<()> {
     let bytes = line.as_slice();
     let n = out.write(bytes)?;

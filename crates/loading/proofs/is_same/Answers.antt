@@ -6,16 +6,18 @@ use mathlib.Core.Logic.{inl, inr}
 use mathlib.Core.List.{List, [], ◌∷◌}
 use native.Mathlib.Omega.{arith}
 use lib.ListN.{length}
-use borrow.Author.Tests.{eq-eqb, ne_eqb}
+use lib.Dec.{eqb}
 use Rattle.std.proofs.Common.{rules}
 use Rattle.std.specs.Str.{bytes_eq}
 use Rattle.loading.proofs.is_same.Goals as goal
 
-same_head : (x y : ℕ) (xs ys : List ℕ) → x ≡ y → bytes_eq (x ∷ xs) (y ∷ ys) ≡ bytes_eq xs ys
-same_head x y xs ys h = ap (λ (t : Bool). t && bytes_eq xs ys) (eq-eqb x y h)
+and_then : (a b d : Bool) → ((a && b) && d) ≡ (a && (b && d))
+and_then true b d = refl
+and_then false b d = refl
 
-other_head : (x y : ℕ) (xs ys : List ℕ) → (x ≡ y → ⊥) → bytes_eq (x ∷ xs) (y ∷ ys) ≡ false
-other_head x y xs ys h = ap (λ (t : Bool). t && bytes_eq xs ys) (ne_eqb x y h)
+and_all : (a : Bool) → a ≡ (a && true)
+and_all true = refl
+and_all false = refl
 
 none_left : (xs ys : List ℕ) → length xs ≡ length ys → length xs ≡ 0 → bytes_eq xs ys ≡ true
 none_left [] [] h e = refl
@@ -36,22 +38,14 @@ loop-x-preserved c =
     let l = c.loop-x in
     let steps = c.in-Some.ensures.steps in (
       omega (arith, l.invariant.0, ap length steps.0, ap length steps.1),
-      sym (same_head c.in-Some.x.now c.in-Some.y.now c.next.new.self.a.rest.now c.next.new.self.b.rest.now c.if-x-y.false)
-          ∙ sym (ap (λ (t : List ℕ). bytes_eq t l.x-iterator.b.rest.now) steps.0 ∙ ap (bytes_eq (c.in-Some.x.now ∷ c.next.new.self.a.rest.now)) steps.1)
+      and_then l.alike (eqb c.in-Some.x.now c.in-Some.y.now) (bytes_eq c.next.new.self.a.rest.now c.next.new.self.b.rest.now)
+          ∙ sym (ap (λ (t : List ℕ). l.alike && bytes_eq t l.x-iterator.b.rest.now) steps.0 ∙ ap (λ (t : List ℕ). l.alike && bytes_eq (c.in-Some.x.now ∷ c.next.new.self.a.rest.now) t) steps.1)
           ∙ l.invariant.1,
     )
-
-pub returns-then-x-y : goal.returns-then-x-y
-returns-then-x-y c =
-    let l = c.loop-x in
-    let steps = c.in-Some.ensures.steps in
-    sym (other_head c.in-Some.x.now c.in-Some.y.now c.next.new.self.a.rest.now c.next.new.self.b.rest.now c.if-x-y.true)
-    ∙ sym (ap (λ (t : List ℕ). bytes_eq t l.x-iterator.b.rest.now) steps.0 ∙ ap (bytes_eq (c.in-Some.x.now ∷ c.next.new.self.a.rest.now)) steps.1)
-    ∙ l.invariant.1
 
 pub returns : goal.returns
 returns c =
     let l = c.loop-x in
     let steps = c.in-None.ensures.steps in
     let none : length l.x-iterator.a.rest.now ≡ 0 = elim steps [ inl s ↦ s.1.0 | inr s ↦ l.invariant.0 ∙ s.1.0 ] in
-    sym (none_left l.x-iterator.a.rest.now l.x-iterator.b.rest.now l.invariant.0 none) ∙ l.invariant.1
+    and_all l.alike ∙ sym (ap (λ (t : Bool). l.alike && t) (none_left l.x-iterator.a.rest.now l.x-iterator.b.rest.now l.invariant.0 none)) ∙ l.invariant.1
